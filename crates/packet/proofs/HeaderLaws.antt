@@ -1,0 +1,62 @@
+-- A header gives back the three parts that it was built from, and its number is 0 exactly where they fit.
+-- Assumes nothing.
+use Prim.Native.Nat.{ℕ, _<_, _≤_}
+use mathlib.Core.Bool.{Bool, true, false}
+use mathlib.Core.Path.{_≡_, refl, sym, ap}
+use native.Mathlib.Omega.{arith}
+use Rattle.words.specs.Words.{pick}
+use Rattle.words.proofs.TestLaws.{and-no, and-skip, and-both, and-left, and-right, yes<, no<, is<}
+use Rattle.packet.specs.Header.{headerWord, kindOf, addressOf, routeOf, kinds, addresses, routes, partsFit, headerNumber, builtOf}
+use Rattle.packet.specs.declared.Built.{Built}
+use Rattle.packet.specs.declared.Built.the-variants.{Made, Refused}
+
+-- the parts of a header that fit their fields
+pub record Fits (kind address route : ℕ) : Type 0 where
+  pub kind-fits : kind < kinds
+  pub address-fits : address < addresses
+  pub route-fits : route < routes
+
+pub record GivenBack (kind address route : ℕ) : Type 0 where
+  pub kind-back : kindOf (headerWord kind address route) ≡ kind
+  pub address-back : addressOf (headerWord kind address route) ≡ address
+  pub route-back : routeOf (headerWord kind address route) ≡ route
+
+pub given-back : (kind address route : ℕ) → Fits kind address route → GivenBack kind address route
+given-back kind address route f =
+    record { kind-back = omega arith; address-back = omega arith; route-back = omega arith }
+
+-- a header that was built had parts that fit
+pub built-fits : (kind address route : ℕ) → headerNumber kind address route ≡ 0 → Fits kind address route
+unfolding headerNumber partsFit
+built-fits kind address route e = go (partsFit kind address route) refl e
+  where
+    go : (b : Bool) → partsFit kind address route ≡ b → _≡_ {A = ℕ} (pick b 0 15) 0 → Fits kind address route
+    go true h q =
+        let h₁ = and-right _ _ h in
+        record { kind-fits = is< _ _ (and-left _ _ h); address-fits = is< _ _ (and-left _ _ h₁); route-fits = is< _ _ (and-right _ _ h₁) }
+    go false h q = absurd (let z : ⊥ = omega arith in z)
+
+-- the answer where a part is too wide, and where none is
+module _ (kind address route : ℕ) where
+  abbrev Answer : Built → Type 0
+  Answer r = r ≡ builtOf (headerNumber kind address route) (headerWord kind address route)
+
+  answer : (b : Bool) → partsFit kind address route ≡ b → Answer (builtOf (pick b 0 15) (headerWord kind address route))
+  unfolding headerNumber
+  answer b e = ap (λ (t : Bool). builtOf (pick t 0 15) (headerWord kind address route)) (sym e)
+
+  pub kind-wide : kinds ≤ kind → Answer (Refused 15)
+  unfolding partsFit
+  kind-wide h = answer false (sym (and-no _ (no< h)))
+
+  pub address-wide : addresses ≤ address → Answer (Refused 15)
+  unfolding partsFit
+  address-wide h = answer false (sym (and-skip _ (and-no _ (no< h))))
+
+  pub route-wide : routes ≤ route → Answer (Refused 15)
+  unfolding partsFit
+  route-wide h = answer false (sym (and-skip _ (and-skip _ (sym (no< h)))))
+
+  pub all-fit : Fits kind address route → Answer (Made (record { 0 = headerWord kind address route }))
+  unfolding partsFit
+  all-fit f = answer true (and-both (yes< (f .kind-fits)) (and-both (yes< (f .address-fits)) (yes< (f .route-fits))))

@@ -1,0 +1,4 @@
+pub mod NeighbourLaws
+pub mod DistanceTable
+pub mod DistanceLaws
+pub mod RouteLaws

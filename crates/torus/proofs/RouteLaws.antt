@@ -1,0 +1,319 @@
+-- Following a route: one router's step, the answer that the code fills in as it goes, and what holds of the uses of a route that leads somewhere.
+-- Assumes nothing.
+use Prim.Native.Nat.{ℕ, zero, suc, _+_, _-_, _*_, _<_, _≤_}
+use mathlib.Core.Bool.{Bool, true, false}
+use mathlib.Core.List.{List, [], _∷_, map}
+use mathlib.Core.Path.{_≡_, refl, sym, ap, subst, _∙_}
+use native.Mathlib.Nat.{not-suc-le-zero, le-of-suc-le-suc, mod-lt, add-zero, zero-add}
+use native.Mathlib.Numerals.{sub-one}
+use native.Mathlib.Omega.{arith}
+use lib.ListN.{length, getD, set, replicate, length-set}
+use Rattle.words.specs.Tests.{_=?_}
+use Rattle.words.specs.Words.{pick, putAll}
+use Rattle.words.proofs.TestLaws.{yes=, no=}
+use Rattle.packet.specs.Header.{firstCode, laterCodes}
+use Rattle.torus.specs.Torus.{InGrid, neighbourOf, oppositeOf}
+use Rattle.torus.specs.Route.{Wire, source, side, memory, Use, Route, leads, nowhere, exitOf, ending, overSide, fromSource, follow, routeFrom, wireNumber, pathOf}
+use Rattle.torus.specs.declared.Exit.{Exit}
+use Rattle.torus.specs.declared.Exit.the-variants.{Memory, To}
+use Rattle.torus.specs.declared.Path.{Path}
+use Rattle.torus.proofs.NeighbourLaws.{neighbour-inside}
+
+-- the router that a packet goes on to is a node of the grid
+pub next-inside : (cols rows node entry code next : ℕ) → InGrid cols rows node → exitOf cols rows node entry code ≡ To next
+    → InGrid cols rows next
+unfolding exitOf
+next-inside cols rows node entry code next g h = go (entry =? code) h
+  where
+    go : (b : Bool) → pick b Memory (To (neighbourOf cols rows node code)) ≡ To next → InGrid cols rows next
+    go true q = absurd (let z : _≡_ {A = ℕ} 0 1 = cc in omega arith)
+    go false q =
+        let e : neighbourOf cols rows node code ≡ next = cc in
+        record {
+          cols-low = g .cols-low;
+          cols-high = g .cols-high;
+          rows-low = g .rows-low;
+          rows-high = g .rows-high;
+          inside = omega (arith, neighbour-inside g code);
+        }
+
+module _ (cols rows node entry delay route : ℕ) where
+  -- a router's output to the memory ends a route that has no bits left
+  pub follow-out : (left : ℕ) → 0 < left → exitOf cols rows node entry (firstCode route) ≡ Memory → laterCodes route ≡ 0
+      → follow left cols rows node entry delay route ≡ leads (record { wire = memory node; delay = delay } ∷ []) node 0
+  unfolding follow
+  follow-out zero h e z = absurd (not-suc-le-zero h)
+  follow-out (suc left) h e z = rw (e, follow) (simp (yes= z))
+
+  -- with bits left it leads nowhere
+  pub follow-lost : (left : ℕ) → 0 < left → exitOf cols rows node entry (firstCode route) ≡ Memory → (laterCodes route ≡ 0 → ⊥)
+      → follow left cols rows node entry delay route ≡ nowhere
+  unfolding follow
+  follow-lost zero h e z = absurd (not-suc-le-zero h)
+  follow-lost (suc left) h e z = rw (e, follow) (simp (no= z))
+
+  -- a side output goes on at the next router
+  pub follow-on : (next left : ℕ) → 0 < left → exitOf cols rows node entry (firstCode route) ≡ To next
+      → follow left cols rows node entry delay route
+      ≡ overSide (record { wire = side node (firstCode route); delay = delay })
+      (follow (left - 1) cols rows next (oppositeOf (firstCode route)) (delay + 3) (laterCodes route))
+  unfolding follow
+  follow-on next zero h e = absurd (not-suc-le-zero h)
+  follow-on next (suc left) h e = rw (sub-one, e, follow) refl
+
+  -- with no router left a route leads nowhere
+  pub follow-end : (left : ℕ) → left ≤ 0 → follow left cols rows node entry delay route ≡ nowhere
+  unfolding follow
+  follow-end zero h = refl
+  follow-end (suc left) h = absurd (not-suc-le-zero h)
+
+-- the numbers of the wires of some uses, and their delays
+abbrev pub wiresOf : List Use → List ℕ
+wiresOf uses = map (λ (u : Use). wireNumber (u .wire)) uses
+
+abbrev pub delaysOf : List Use → List ℕ
+delaysOf uses = map (λ (u : Use). u .delay) uses
+
+-- the answer where the two lists and the hops are known so far, and the rest of the route goes in from a place on
+abbrev pub written : List ℕ → List ℕ → ℕ → ℕ → Route → Path
+written wires delays at hops (leads uses node more) = record {
+  leads = true;
+  node = node;
+  hops = hops + more;
+  wires = putAll wires at (wiresOf uses);
+  delays = putAll delays at (delaysOf uses);
+}
+written wires delays at hops nowhere = pathOf nowhere
+
+-- before the first router only the source wire is written
+pub written-start : (node : ℕ) (r : Route)
+    → written (set (replicate 9 0) 0 (node * 6 + 4)) (replicate 9 0) 1 0 r ≡ pathOf (fromSource (record { wire = source node; delay = 0 }) r)
+unfolding putAll
+written-start node (leads uses end hops) = rw zero-add refl
+written-start node nowhere = refl
+
+-- a side output is written before what follows it
+pub written-on : (wires delays : List ℕ) (at hops : ℕ) (u : Use) (r : Route)
+    → written (set wires at (wireNumber (u .wire))) (set delays at (u .delay)) (at + 1) (hops + 1) r ≡ written wires delays at hops (overSide u r)
+unfolding putAll
+written-on wires delays at hops u (leads uses end more) =
+    let e : hops + 1 + more ≡ hops + (more + 1) = omega arith in
+    rw e
+written-on wires delays at hops u nowhere = refl
+
+-- the loop that fills the answer in: what is written so far, with what follows from here, is the answer
+pub record Going (answer : Path) (cols rows : ℕ) (wires delays : List ℕ) (node entry delay rest hops : ℕ) : Type 0 where
+  pub here : InGrid cols rows node
+  pub few : hops ≤ 8
+  pub late : delay ≡ 3 * (hops + 1)
+  pub wires-long : length wires ≡ 9
+  pub delays-long : length delays ≡ 9
+  pub rest-leads : written wires delays (hops + 1) hops (follow (8 - hops) cols rows node entry delay rest) ≡ answer
+
+-- so it is at the source
+pub going-start : (cols rows node route : ℕ) → InGrid cols rows node
+    → Going (pathOf (routeFrom cols rows node route)) cols rows (set (replicate 9 0) 0 (node * 6 + 4)) (replicate 9 0) node 4 3 route 0
+unfolding routeFrom
+going-start cols rows node route g = record {
+  here = g;
+  few = omega arith;
+  late = refl;
+  wires-long = refl;
+  delays-long = refl;
+  rest-leads = written-start node (follow 8 cols rows node 4 3 route);
+}
+
+module _ {answer : Path} {cols rows : ℕ} {wires delays : List ℕ} {node entry delay rest hops : ℕ}
+    (g : Going answer cols rows wires delays node entry delay rest hops) where
+  -- out to the memory at the route's end, the last wire is written
+  pub going-out : hops < 8 → {way : Exit} → way ≡ exitOf cols rows node entry (firstCode rest) → way ≡ Memory → laterCodes rest ≡ 0
+      → record {
+        leads = true;
+        node = node;
+        hops = hops;
+        wires = set wires (hops + 1) (node * 6 + 5);
+        delays = set delays (hops + 1) delay;
+      } ≡ answer
+  unfolding putAll
+  going-out h w e z =
+      rw add-zero at
+      (sym (ap (written wires delays (hops + 1) hops) (follow-out cols rows node entry delay rest (8 - hops) (omega arith) (sym w ∙ e) z))
+      ∙ g .rest-leads)
+
+  -- out to the memory with bits left, the route leads nowhere
+  pub going-lost : hops < 8 → {way : Exit} → way ≡ exitOf cols rows node entry (firstCode rest) → way ≡ Memory → (laterCodes rest ≡ 0 → ⊥)
+      → pathOf nowhere ≡ answer
+  going-lost h w e z =
+      sym (ap (written wires delays (hops + 1) hops) (follow-lost cols rows node entry delay rest (8 - hops) (omega arith) (sym w ∙ e) z))
+      ∙ g .rest-leads
+
+  -- on to the next router, one more wire is written
+  pub going-on : hops < 8 → {way : Exit} → way ≡ exitOf cols rows node entry (firstCode rest) → {next : ℕ} → way ≡ To next
+      → Going answer cols rows (set wires (hops + 1) (node * 6 + firstCode rest)) (set delays (hops + 1) delay) next
+      (oppositeOf (firstCode rest)) (delay + 3) (laterCodes rest) (hops + 1)
+  going-on h w {next} e = record {
+    here = next-inside cols rows node entry (firstCode rest) next (g .here) (sym w ∙ e);
+    few = omega arith;
+    late = omega (arith, g .late);
+    wires-long = length-set wires (hops + 1) (node * 6 + firstCode rest) ∙ g .wires-long;
+    delays-long = length-set delays (hops + 1) delay ∙ g .delays-long;
+    rest-leads =
+        let less : 8 - (hops + 1) ≡ 8 - hops - 1 = omega arith in
+        rw less
+        (written-on wires delays (hops + 1) hops (record { wire = side node (firstCode rest); delay = delay })
+        (follow (8 - hops - 1) cols rows next (oppositeOf (firstCode rest)) (delay + 3) (laterCodes rest))
+        ∙ sym (ap (written wires delays (hops + 1) hops) (follow-on cols rows node entry delay rest next (8 - hops) (omega arith) (sym w ∙ e)))
+        ∙ g .rest-leads);
+  }
+
+  -- after eight routers, the route leads nowhere
+  pub going-end : 8 ≤ hops → pathOf nowhere ≡ answer
+  going-end h =
+      sym (ap (written wires delays (hops + 1) hops) (follow-end cols rows node entry delay rest (8 - hops) (omega arith)))
+      ∙ g .rest-leads
+
+-- a wire that a route can use: a side is one of four
+abbrev pub Proper : Wire → Type 0
+Proper (source node) = Unit {0}
+Proper (side node s) = s < 4
+Proper (memory node) = Unit {0}
+
+-- a use of a proper wire with a number below n, no later than d
+pub record SmallUse (n d : ℕ) (u : Use) : Type 0 where
+  pub proper : Proper (u .wire)
+  pub numbered : wireNumber (u .wire) < n
+  pub soon : u .delay ≤ d
+
+-- each of the uses is such a use
+abbrev pub SmallUses : ℕ → ℕ → List Use → Type 0
+SmallUses n d [] = Unit {0}
+SmallUses n d (u ∷ uses) = (SmallUse n d u) × (SmallUses n d uses)
+
+-- so the wire at each place has a number below n
+pub wires-small : (n d : ℕ) (uses : List Use) → SmallUses n d uses → (i : ℕ) → i < length uses → getD (wiresOf uses) i 0 < n
+wires-small n d [] s i h = absurd (not-suc-le-zero h)
+wires-small n d (u ∷ uses) s zero h = s .0 .numbered
+wires-small n d (u ∷ uses) s (suc i) h = wires-small n d uses (s .1) i (le-of-suc-le-suc h)
+
+-- and the delay at each place is at most d
+pub delays-small : (n d : ℕ) (uses : List Use) → SmallUses n d uses → (i : ℕ) → i < length uses → getD (delaysOf uses) i 0 ≤ d
+delays-small n d [] s i h = absurd (not-suc-le-zero h)
+delays-small n d (u ∷ uses) s zero h = s .0 .soon
+delays-small n d (u ∷ uses) s (suc i) h = delays-small n d uses (s .1) i (le-of-suc-le-suc h)
+
+-- what holds where a route leads, followed over at most so many routers from an output with the given delay on
+record Led (cols rows left delay : ℕ) (uses : List Use) (node hops : ℕ) : Type 0 where
+  arrives : InGrid cols rows node
+  counted : length uses ≡ hops + 1
+  within : hops < left
+  small : (d : ℕ) → delay + 3 * hops ≤ d → SmallUses (cols * rows * 6) d uses
+
+-- and nothing where it leads nowhere
+abbrev Followed : ℕ → ℕ → ℕ → ℕ → Route → Type 0
+Followed cols rows left delay (leads uses node hops) = Led cols rows left delay uses node hops
+Followed cols rows left delay nowhere = Unit {0}
+
+module _ (cols rows : ℕ) where
+  followed-out : (left node delay : ℕ) → InGrid cols rows node → (b : Bool) → Followed cols rows (suc left) delay (ending b node delay)
+  followed-out left node delay g true = record {
+    arrives = g;
+    counted = refl;
+    within = omega arith;
+    small = λ d h. (record { proper = tt; numbered = omega (arith, g .inside); soon = omega arith }, tt);
+  }
+  followed-out left node delay g false = tt
+
+  followed-on : (left node delay code : ℕ) → InGrid cols rows node → code < 4 → (r : Route) → Followed cols rows left (delay + 3) r
+      → Followed cols rows (suc left) delay (overSide (record { wire = side node code; delay = delay }) r)
+  followed-on left node delay code g c (leads uses end hops) f = record {
+    arrives = f .arrives;
+    counted = omega (arith, f .counted);
+    within = omega (arith, f .within);
+    small = λ d h.
+        (record { proper = c; numbered = omega (arith, g .inside); soon = omega arith }, f .small d (omega arith));
+  }
+  followed-on left node delay code g c nowhere f = tt
+
+  -- the rest of a route behind the next router
+  abbrev onFrom : ℕ → ℕ → ℕ → ℕ → Route
+  onFrom left delay route next = follow left cols rows next (oppositeOf (firstCode route)) (delay + 3) (laterCodes route)
+
+  followed : (left node entry delay route : ℕ) → InGrid cols rows node
+      → Followed cols rows left delay (follow left cols rows node entry delay route)
+  unfolding follow
+  followed zero node entry delay route g = tt
+  followed (suc left) node entry delay route g =
+      go (exitOf cols rows node entry (firstCode route)) refl
+      (λ next i. followed left next (oppositeOf (firstCode route)) (delay + 3) (laterCodes route) i)
+    where
+      go : (x : Exit) → exitOf cols rows node entry (firstCode route) ≡ x
+          → ((next : ℕ) → InGrid cols rows next → Followed cols rows left (delay + 3) (onFrom left delay route next))
+          → Followed cols rows (suc left) delay
+          (elim x [
+            | Memory ↦ ending (laterCodes route =? 0) node delay
+            | To next ↦ overSide (record { wire = side node (firstCode route); delay = delay }) (onFrom left delay route next)
+          ])
+      go Memory e r = followed-out left node delay g (laterCodes route =? 0)
+      go (To next) e r =
+          followed-on left node delay (firstCode route) g (mod-lt route (omega arith)) (onFrom left delay route next)
+          (r next (next-inside cols rows node entry (firstCode route) next g e))
+
+-- what holds where a route leads from its source
+record LedFrom (cols rows : ℕ) (uses : List Use) (node hops : ℕ) : Type 0 where
+  arrives : InGrid cols rows node
+  counted : length uses ≡ hops + 2
+  within : hops ≤ 7
+  small : SmallUses (cols * rows * 6) (3 * (hops + 1)) uses
+
+abbrev FollowedFrom : ℕ → ℕ → Route → Type 0
+FollowedFrom cols rows (leads uses node hops) = LedFrom cols rows uses node hops
+FollowedFrom cols rows nowhere = Unit {0}
+
+followed-source : (cols rows node : ℕ) → InGrid cols rows node → (r : Route) → Followed cols rows 8 3 r
+    → FollowedFrom cols rows (fromSource (record { wire = source node; delay = 0 }) r)
+followed-source cols rows node g (leads uses end hops) f = record {
+  arrives = f .arrives;
+  counted = omega (arith, f .counted);
+  within = omega (arith, f .within);
+  small = (record { proper = tt; numbered = omega (arith, g .inside); soon = omega arith }, f .small (3 * (hops + 1)) (omega arith));
+}
+followed-source cols rows node g nowhere f = tt
+
+module _ (cols rows source-node route : ℕ) (g : InGrid cols rows source-node) (uses : List Use) (node hops : ℕ)
+    (e : routeFrom cols rows source-node route ≡ leads uses node hops) where
+  led-from : LedFrom cols rows uses node hops
+  unfolding routeFrom
+  led-from =
+      subst (λ (r : Route). FollowedFrom cols rows r) e
+      (followed-source cols rows source-node g (follow 8 cols rows source-node 4 3 route) (followed cols rows 8 source-node 4 3 route g))
+
+  -- each use of a route is of a wire of the grid, and no later than its last output
+  pub uses-small : SmallUses (cols * rows * 6) (3 * (hops + 1)) uses
+  uses-small = led-from .small
+
+  -- a route uses a source wire, a side output for each hop, and a memory output
+  pub uses-length : length uses ≡ hops + 2
+  uses-length = led-from .counted
+
+  -- a route of eight codes has at most seven hops
+  pub hops-high : hops ≤ 7
+  hops-high = led-from .within
+
+  -- a route leads to a node of the grid
+  pub end-inside : InGrid cols rows node
+  end-inside = led-from .arrives
+
+-- a wire's number tells the wire
+pub same-wire : (a b : Wire) → Proper a → Proper b → wireNumber a ≡ wireNumber b → a ≡ b
+same-wire (source n) (source m) p q e = let z : n ≡ m = omega arith in ap source z
+same-wire (source n) (side m t) p q e = absurd (let z : ⊥ = omega arith in z)
+same-wire (source n) (memory m) p q e = absurd (let z : ⊥ = omega arith in z)
+same-wire (side n s) (source m) p q e = absurd (let z : ⊥ = omega arith in z)
+same-wire (side n s) (side m t) p q e =
+    let z : n ≡ m = omega arith in
+    let y : s ≡ t = omega arith in
+    cc
+same-wire (side n s) (memory m) p q e = absurd (let z : ⊥ = omega arith in z)
+same-wire (memory n) (source m) p q e = absurd (let z : ⊥ = omega arith in z)
+same-wire (memory n) (side m t) p q e = absurd (let z : ⊥ = omega arith in z)
+same-wire (memory n) (memory m) p q e = let z : n ≡ m = omega arith in ap memory z

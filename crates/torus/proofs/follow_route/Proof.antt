@@ -1,0 +1,151 @@
+-- `torus::follow_route` meets its contract: what is written so far, with what the rest of the route leads to, is always the answer.
+-- The measure is how many routers are left. Assumes nothing.
+use mathlib.Core.Path.{_∙_}
+use Prim.Native.Nat.{_-_}
+use native.Mathlib.Omega.{arith}
+use borrow.Author.Needs.{needs}
+use Rattle.torus.specs.Route.{routeFrom, pathOf}
+use Rattle.torus.proofs.NeighbourLaws.{bounds}
+use Rattle.torus.proofs.RouteLaws.{Going, going-start, going-out, going-lost, going-on, going-end}
+use Rattle.torus.proofs.follow_route.Statement.{statement}
+use Rattle.torus.proofs.follow_route.Tie as tie
+
+abbrev Inv-loop : tie.InvT-loop
+Inv-loop cols rows source route wires₀ delays₀ node₀ entry₀ delay₀ rest₀ hops₀ wires delays node entry delay rest hops =
+    Going (pathOf (routeFrom cols rows source route)) cols rows wires delays node entry delay rest hops
+
+abbrev μ-loop : tie.MeasureT-loop
+μ-loop cols rows source route wires₀ delays₀ node₀ entry₀ delay₀ rest₀ hops₀ wires delays node entry delay rest hops =
+    8 - hops
+
+mul-wires : tie.Need-mul-wires Inv-loop μ-loop
+mul-wires c = let b = bounds (c .pre) in omega arith
+
+add-wires : tie.Need-add-wires Inv-loop μ-loop
+add-wires c = let b = bounds (c .pre) in omega arith
+
+array-write-wires : tie.Need-array-write-wires Inv-loop μ-loop
+array-write-wires c = search needs
+
+loop-holds : tie.Need-loop-holds Inv-loop μ-loop
+loop-holds c = going-start _ _ _ _ (c .pre)
+
+add-at : tie.Need-add-at Inv-loop μ-loop
+add-at c = omega arith
+
+cast-at : tie.Need-cast-at Inv-loop μ-loop
+cast-at c = omega arith
+
+mul-delays : tie.Need-mul-delays Inv-loop μ-loop
+mul-delays c = omega arith
+
+array-write-delays : tie.Need-array-write-delays Inv-loop μ-loop
+array-write-delays c = omega arith
+
+leave-requires : tie.Need-leave-requires Inv-loop μ-loop
+leave-requires c κs = c .before .loop .inv .here
+
+enum-told : tie.Need-enum-told Inv-loop μ-loop
+enum-told c = search needs
+
+nowhere-path-requires : tie.Need-nowhere-path-requires Inv-loop μ-loop
+nowhere-path-requires c κs = search needs
+
+returns : tie.Need-returns Inv-loop μ-loop
+returns c =
+    let left = c .before .before .before .before in
+    c .nowhere-path .ensures
+    ∙ going-lost (left .before .before .loop .inv) (left .before .loop-test .taken) (left .leave .ensures)
+    (c .before .before .enum-told .given .1) (λ e. omega arith)
+
+mul-wires-2 : tie.Need-mul-wires-2 Inv-loop μ-loop
+mul-wires-2 c = let b = bounds (c .before .before .before .before .before .loop .inv .here) in omega arith
+
+add-wires-2 : tie.Need-add-wires-2 Inv-loop μ-loop
+add-wires-2 c = let b = bounds (c .before .before .before .before .before .loop .inv .here) in omega arith
+
+mul-wires-3 : tie.Need-mul-wires-3 Inv-loop μ-loop
+mul-wires-3 c = omega arith
+
+array-write-wires-2 : tie.Need-array-write-wires-2 Inv-loop μ-loop
+array-write-wires-2 c = omega arith
+
+returns-2 : tie.Need-returns-2 Inv-loop μ-loop
+returns-2 c =
+    let left = c .before .before .before in
+    going-out (left .before .before .loop .inv) (left .before .loop-test .taken) (left .leave .ensures)
+    (c .before .enum-told .given .1) (omega arith)
+
+enum-known-way : tie.Need-enum-known-way Inv-loop μ-loop
+enum-known-way c = search needs
+
+mul-wires-4 : tie.Need-mul-wires-4 Inv-loop μ-loop
+mul-wires-4 c = let b = bounds (c .before .before .before .before .before .loop .inv .here) in omega arith
+
+add-wires-3 : tie.Need-add-wires-3 Inv-loop μ-loop
+add-wires-3 c = let b = bounds (c .before .before .before .before .before .loop .inv .here) in omega arith
+
+mul-wires-5 : tie.Need-mul-wires-5 Inv-loop μ-loop
+mul-wires-5 c = omega arith
+
+array-write-wires-3 : tie.Need-array-write-wires-3 Inv-loop μ-loop
+array-write-wires-3 c = omega arith
+
+add-entry : tie.Need-add-entry Inv-loop μ-loop
+add-entry c = omega arith
+
+add-delay : tie.Need-add-delay Inv-loop μ-loop
+add-delay c = omega arith
+
+add-hops : tie.Need-add-hops Inv-loop μ-loop
+add-hops c = omega arith
+
+loop-less : tie.Need-loop-less Inv-loop μ-loop
+loop-less c = omega arith
+
+loop-again : tie.Need-loop-again Inv-loop μ-loop
+loop-again c =
+    let left = c .before .before .before in
+    going-on (left .before .before .loop .inv) (left .before .loop-test .taken) (left .leave .ensures) (c .before .way .given .1)
+
+nowhere-path-requires-2 : tie.Need-nowhere-path-requires-2 Inv-loop μ-loop
+nowhere-path-requires-2 c κs = search needs
+
+returns-3 : tie.Need-returns-3 Inv-loop μ-loop
+returns-3 c = c .nowhere-path2 .ensures ∙ going-end (c .before .before .loop .inv) (c .before .loop-test .left)
+
+pub follow-route-spec : {M : Type 1} → statement M
+follow-route-spec =
+    tie.close
+    (tie.spec
+    Inv-loop
+    μ-loop
+    mul-wires
+    add-wires
+    array-write-wires
+    loop-holds
+    add-at
+    cast-at
+    mul-delays
+    array-write-delays
+    leave-requires
+    enum-told
+    nowhere-path-requires
+    returns
+    mul-wires-2
+    add-wires-2
+    mul-wires-3
+    array-write-wires-2
+    returns-2
+    enum-known-way
+    mul-wires-4
+    add-wires-3
+    mul-wires-5
+    array-write-wires-3
+    add-entry
+    add-delay
+    add-hops
+    loop-less
+    loop-again
+    nowhere-path-requires-2
+    returns-3)

@@ -1,0 +1,2 @@
+pub mod Torus
+pub mod Route

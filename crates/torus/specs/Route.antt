@@ -1,0 +1,98 @@
+-- Following a route (document 01, "The packet" and "The router"): one code a router, lowest first; three cycles a router.
+use Prim.Native.Nat.{ℕ, zero, suc, _+_, _*_}
+use mathlib.Core.Bool.{Bool, true, false}
+use mathlib.Core.List.{List, [], _∷_, map}
+use lib.ListN.{replicate}
+use Rattle.words.specs.Tests.{_=?_}
+use Rattle.words.specs.Words.{pick, putAll}
+use Rattle.packet.specs.Header.{firstCode, laterCodes}
+use Rattle.torus.specs.Torus.{neighbourOf, oppositeOf}
+use Rattle.torus.specs.declared.Exit.{Exit}
+use Rattle.torus.specs.declared.Exit.the-variants.{Memory, To}
+use Rattle.torus.specs.declared.Path.{Path}
+
+-- the entry side of a packet at its first router, where each code names a side to leave by
+abbrev pub noSide : ℕ
+noSide = 4
+
+-- the exit of a router: the code of the side that the packet came in by means this node's memory, any other a side to leave by
+unfoldable pub exitOf : ℕ → ℕ → ℕ → ℕ → ℕ → Exit
+exitOf cols rows node entry code = pick (entry =? code) Memory (To (neighbourOf cols rows node code))
+
+-- a wire: from a node's source into its router, a router's output by a side, a router's output to its node's memory
+pub data Wire : Type 0 where
+  source : ℕ → Wire
+  side : ℕ → ℕ → Wire
+  memory : ℕ → Wire
+
+-- a wire, and how many cycles after its source wire a word is on it
+pub record Use : Type 0 where
+  pub wire : Wire
+  pub delay : ℕ
+
+-- where a route leads: the wires that it uses with their delays, the node at its end and its hops (its side outputs); or nowhere
+pub data Route : Type 0 where
+  leads : List Use → ℕ → ℕ → Route
+  nowhere : Route
+
+-- a word on an input of a router is on its output so many cycles later
+abbrev pub routerCycles : ℕ
+routerCycles = 3
+
+-- out to a node's memory: the end of the route, unless bits are left above its last code
+abbrev pub ending : Bool → ℕ → ℕ → Route
+ending true node delay = leads (record { wire = memory node; delay = delay } ∷ []) node 0
+ending false node delay = nowhere
+
+-- a side output before what follows it: one hop more
+abbrev pub overSide : Use → Route → Route
+overSide first (leads uses node hops) = leads (first ∷ uses) node (hops + 1)
+overSide first nowhere = nowhere
+
+-- the source wire before what follows it
+abbrev pub fromSource : Use → Route → Route
+fromSource first (leads uses node hops) = leads (first ∷ uses) node hops
+fromSource first nowhere = nowhere
+
+-- follow a route over at most so many routers, from a node with an entry side, whose output has the given delay
+unfoldable pub follow : ℕ → ℕ → ℕ → ℕ → ℕ → ℕ → ℕ → Route
+follow zero cols rows node entry delay route = nowhere
+follow (suc left) cols rows node entry delay route =
+    elim (exitOf cols rows node entry (firstCode route)) [
+      | Memory ↦ ending (laterCodes route =? 0) node delay
+      | To next ↦ overSide (record { wire = side node (firstCode route); delay = delay })
+          (follow left cols rows next (oppositeOf (firstCode route)) (delay + routerCycles) (laterCodes route))
+    ]
+
+-- a route of 16 bits has eight codes
+abbrev pub codes : ℕ
+codes = 8
+
+-- where a route leads from a source node
+unfoldable pub routeFrom : ℕ → ℕ → ℕ → ℕ → Route
+routeFrom cols rows node route =
+    fromSource (record { wire = source node; delay = 0 }) (follow codes cols rows node noSide routerCycles route)
+
+-- a node has six wires: number them by its four sides, its source and its memory
+abbrev pub wiresPerNode : ℕ
+wiresPerNode = 6
+
+abbrev pub wireNumber : Wire → ℕ
+wireNumber (source node) = node * wiresPerNode + 4
+wireNumber (side node s) = node * wiresPerNode + s
+wireNumber (memory node) = node * wiresPerNode + 5
+
+-- the most wires that a route can use: the source and an output for each code
+abbrev pub mostUses : ℕ
+mostUses = 9
+
+-- the answer, from where a route leads: a route of h hops uses the first h + 2 places of its two lists, and the others are 0
+abbrev pub pathOf : Route → Path
+pathOf (leads uses node hops) = record {
+  leads = true;
+  node = node;
+  hops = hops;
+  wires = putAll (replicate mostUses 0) 0 (map (λ (u : Use). wireNumber (u .wire)) uses);
+  delays = putAll (replicate mostUses 0) 0 (map (λ (u : Use). u .delay) uses);
+}
+pathOf nowhere = record { leads = false; node = 0; hops = 0; wires = replicate mostUses 0; delays = replicate mostUses 0 }

@@ -1,0 +1,50 @@
+-- The grid (document 01, "The grid"): node = row × columns + column; sides 0 north, 1 east, 2 south, 3 west, all wrapping round.
+use Prim.Native.Nat.{ℕ, zero, suc, _+_, _-_, _*_, _/_, _%_, _≤_, _<_}
+use mathlib.Core.Bool.{Bool}
+use Rattle.words.specs.Tests.{any, _=?_}
+use Rattle.words.specs.Words.{leastFrom}
+
+-- a node of a grid of 2 to 4 columns and 2 to 4 rows
+pub record InGrid (cols rows node : ℕ) : Type 0 where
+  pub cols-low : 2 ≤ cols
+  pub cols-high : cols ≤ 4
+  pub rows-low : 2 ≤ rows
+  pub rows-high : rows ≤ 4
+  pub inside : node < cols * rows
+
+abbrev pub rowOf : ℕ → ℕ → ℕ
+rowOf cols node = node / cols
+
+abbrev pub columnOf : ℕ → ℕ → ℕ
+columnOf cols node = node % cols
+
+abbrev pub nodeAt : ℕ → ℕ → ℕ → ℕ
+nodeAt cols row column = row * cols + column
+
+-- the next and the previous place on a ring of n places
+abbrev pub onward : ℕ → ℕ → ℕ
+onward n place = (place + 1) % n
+
+abbrev pub backward : ℕ → ℕ → ℕ
+backward n place = (place + n - 1) % n
+
+-- the node one step away by a side: row − 1, column + 1, row + 1, column − 1
+unfoldable pub neighbourOf : ℕ → ℕ → ℕ → ℕ → ℕ
+neighbourOf cols rows node zero = nodeAt cols (backward rows (rowOf cols node)) (columnOf cols node)
+neighbourOf cols rows node (suc zero) = nodeAt cols (rowOf cols node) (onward cols (columnOf cols node))
+neighbourOf cols rows node (suc (suc zero)) = nodeAt cols (onward rows (rowOf cols node)) (columnOf cols node)
+neighbourOf cols rows node (suc (suc (suc side))) = nodeAt cols (rowOf cols node) (backward cols (columnOf cols node))
+
+-- the side opposite to a side: what leaves a router by the one comes into the next by the other
+abbrev pub oppositeOf : ℕ → ℕ
+oppositeOf side = (side + 2) % 4
+
+-- some walk of so many steps leads from a node to another
+unfoldable pub walks : ℕ → ℕ → ℕ → ℕ → ℕ → Bool
+walks cols rows zero from to = from =? to
+walks cols rows (suc steps) from to = any 4 (λ side. walks cols rows steps (neighbourOf cols rows from side) to)
+
+-- the distance of two nodes: the fewest steps of a walk between them. A walk with as many steps as there are nodes meets a node
+-- twice, so the fewest are among the numbers below that.
+unfoldable pub distanceOf : ℕ → ℕ → ℕ → ℕ → ℕ
+distanceOf cols rows from to = leastFrom (cols * rows) 0 (λ steps. walks cols rows steps from to)

@@ -1,0 +1,187 @@
+// The torus: neighbours, distances, and where a route leads (document 01, "The grid", "The packet", "The router").
+mod distances;
+
+ghost use mathlib.Core.Path.{_≡_};
+ghost use mathlib.Core.Bool.{true, false};
+ghost use Prim.Native.Nat.{ℕ, _+_, _*_, _<_, _≤_};
+ghost use Rattle.words.specs.Tests.{_=?_};
+ghost use Rattle.words.specs.Words.{pick};
+ghost use Rattle.torus.specs.Torus.{InGrid, neighbourOf, distanceOf};
+ghost use Rattle.torus.specs.Route.{exitOf, routeFrom, pathOf, nowhere};
+use distances::DISTANCES;
+
+pub const NO_SIDE: u32 = 4;
+
+pub const SOURCE: u32 = 4;
+
+pub const MEMORY: u32 = 5;
+
+pub const WIRES_PER_NODE: u32 = 6;
+
+pub const ROUTER_CYCLES: u32 = 3;
+
+pub const CODES: u32 = 8;
+
+// What a router does with a packet: out to its node's memory, or on to a neighbour.
+pub enum Exit {
+    Memory,
+    To(u32),
+}
+
+// Where a route leads: the node at its end, its hops, and the wires that it uses with their delays, in the first hops + 2
+// places of the two lists; or, where leads is false, nowhere. (An enum cannot hold lists.)
+pub struct Path {
+    pub leads: bool,
+    pub node: u32,
+    pub hops: u32,
+    pub wires: [u32; 9],
+    pub delays: [u32; 9],
+}
+
+// The node one row up. Whoever has checked a sheet's head and circuits meets the requires, here and below.
+fn north(cols: u32, rows: u32, node: u32) -> u32
+    requires { ⌜ InGrid cols rows node ⌝ }
+    ensures { λ r. ⌜ r ≡ neighbourOf cols rows node 0 ⌝ }
+{
+    if node < cols {
+        node + cols * rows - cols
+    } else {
+        node - cols
+    }
+}
+
+// The node one column on.
+fn east(cols: u32, rows: u32, node: u32) -> u32
+    requires { ⌜ InGrid cols rows node ⌝ }
+    ensures { λ r. ⌜ r ≡ neighbourOf cols rows node 1 ⌝ }
+{
+    if node % cols == cols - 1 {
+        node + 1 - cols
+    } else {
+        node + 1
+    }
+}
+
+// The node one row down.
+fn south(cols: u32, rows: u32, node: u32) -> u32
+    requires { ⌜ InGrid cols rows node ⌝ }
+    ensures { λ r. ⌜ r ≡ neighbourOf cols rows node 2 ⌝ }
+{
+    let below = node + cols;
+    if below < cols * rows {
+        below
+    } else {
+        below - cols * rows
+    }
+}
+
+// The node one column back.
+fn west(cols: u32, rows: u32, node: u32) -> u32
+    requires { ⌜ InGrid cols rows node ⌝ }
+    ensures { λ r. ⌜ r ≡ neighbourOf cols rows node 3 ⌝ }
+{
+    if node % cols == 0 {
+        node + cols - 1
+    } else {
+        node - 1
+    }
+}
+
+// Out to the memory where the packet came in by the side that its code names, else on to the neighbour by that side.
+fn exit_by(entry: u32, side: u32, next: u32) -> Exit
+    ensures { λ r. ⌜ r ≡ pick (entry =? side) Exit.Memory (Exit.To next) ⌝ }
+{
+    if entry == side {
+        Exit::Memory
+    } else {
+        Exit::To(next)
+    }
+}
+
+// The exit of a router at a node for a packet that came in by a side (NO_SIDE at its first router) and whose next code is given.
+pub fn leave(cols: u32, rows: u32, node: u32, entry: u32, code: u32) -> Exit
+    requires { ⌜ InGrid cols rows node ⌝ }
+    ensures { λ r. ⌜ r ≡ exitOf cols rows node entry code ⌝ }
+{
+    match code {
+        0 => exit_by(entry, 0, north(cols, rows, node)),
+        1 => exit_by(entry, 1, east(cols, rows, node)),
+        2 => exit_by(entry, 2, south(cols, rows, node)),
+        _ => exit_by(entry, code, west(cols, rows, node)),
+    }
+}
+
+// The answer for a route that leads nowhere.
+fn nowhere_path() -> Path
+    ensures { λ r. ⌜ r ≡ pathOf nowhere ⌝ }
+{
+    Path {
+        leads: false,
+        node: 0,
+        hops: 0,
+        wires: [0u32; 9],
+        delays: [0u32; 9],
+    }
+}
+
+// Where a route leads from a source node.
+pub fn follow_route(cols: u32, rows: u32, source: u32, route: u32) -> Path
+    requires { ⌜ InGrid cols rows source ⌝ }
+    ensures { λ r. ⌜ r ≡ pathOf (routeFrom cols rows source route) ⌝ }
+{
+    let mut wires = [0u32; 9];
+    let mut delays = [0u32; 9];
+    wires[0] = source * WIRES_PER_NODE + SOURCE;
+    let mut node = source;
+    let mut entry = NO_SIDE;
+    let mut delay = ROUTER_CYCLES;
+    let mut rest = route;
+    let mut hops: u32 = 0;
+    while hops < CODES {
+        let code = rest % 4;
+        rest = rest / 4;
+        let at = (hops + 1) as usize;
+        delays[at] = delay;
+        let way = leave(cols, rows, node, entry, code);
+        match way {
+            Exit::Memory => {
+                if rest != 0 {
+                    return nowhere_path();
+                }
+                wires[at] = node * WIRES_PER_NODE + MEMORY;
+                return Path {
+                    leads: true,
+                    node,
+                    hops,
+                    wires,
+                    delays,
+                };
+            }
+            Exit::To(next) => {
+                wires[at] = node * WIRES_PER_NODE + code;
+                node = next;
+            }
+        }
+        entry = (code + 2) % 4;
+        delay += ROUTER_CYCLES;
+        hops += 1;
+    }
+    nowhere_path()
+}
+
+// A byte as a word.
+fn wide(x: u8) -> u32
+    ensures { λ r. ⌜ r ≡ x ⌝ }
+{
+    x as u32
+}
+
+// The fewest steps between two nodes.
+pub fn distance(cols: u32, rows: u32, from: u32, to: u32) -> u32
+    requires { ⌜ (InGrid cols rows from) × (InGrid cols rows to) ⌝ }
+    ensures { λ r. ⌜ r ≡ distanceOf cols rows from to ⌝ }
+{
+    let grid = (cols - 2) * 3 + (rows - 2);
+    let at = (grid * 256 + from * 16 + to) as usize;
+    wide(DISTANCES[at])
+}

@@ -1,0 +1,4 @@
+pub mod TestLaws
+pub mod AllLaws
+pub mod WordLaws
+pub mod Below

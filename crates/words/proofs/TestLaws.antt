@@ -1,0 +1,109 @@
+-- What a test made of the shut operators gives, part by part; a test from its fact, and the fact from its test.
+-- Assumes nothing.
+use Prim.Native.Nat.{ℕ, _<_, _≤_}
+use mathlib.Core.Bool.{Bool, true, false, not}
+use borrow.Author.Tests.{le-leb, lt-leb, lt-ltb, le-ltb, eq-eqb, ne-eqb, leb-true, ltb-true, eqb-true}
+use Rattle.words.specs.Tests.{_and_, _or_, _≤?_, _<?_, _=?_, _≠?_}
+use mathlib.Core.Path.{_≡_, refl, _∙_, sym, ap}
+
+-- the first test fails
+pub and-no : {a : Bool} (b : Bool) → a ≡ false → false ≡ a and b
+unfolding _and_ _or_
+and-no b e = sym (ap (λ (t : Bool). t and b) e)
+
+-- the first test passes, and the rest decides
+pub and-on : {a b v : Bool} → a ≡ true → v ≡ b → v ≡ a and b
+unfolding _and_ _or_
+and-on {a} {b} {v} e r = r ∙ sym (ap (λ (t : Bool). t and b) e)
+
+-- both pass
+pub and-both : {a b : Bool} → a ≡ true → b ≡ true → a and b ≡ true
+unfolding _and_ _or_
+and-both {a} {b} e f = ap (λ (t : Bool). t and b) e ∙ f
+
+-- the first test holds
+pub or-yes : {a : Bool} (b : Bool) → a ≡ true → true ≡ a or b
+unfolding _and_ _or_
+or-yes b e = sym (ap (λ (t : Bool). t or b) e)
+
+-- the first test does not hold, and the rest decides
+pub or-on : {a b v : Bool} → a ≡ false → v ≡ b → v ≡ a or b
+unfolding _and_ _or_
+or-on {a} {b} {v} e r = r ∙ sym (ap (λ (t : Bool). t or b) e)
+
+pub and-left : (a b : Bool) → a and b ≡ true → a ≡ true
+unfolding _and_ _or_
+and-left true b e = refl
+and-left false b e = e
+
+pub and-right : (a b : Bool) → a and b ≡ true → b ≡ true
+unfolding _and_ _or_
+and-right true b e = e
+and-right false b e = false-any b e
+  where
+    false-any : (b : Bool) → false ≡ true → b ≡ true
+    false-any true e = refl
+    false-any false e = e
+
+pub and-no-right : (a b : Bool) → b ≡ false → a and b ≡ false
+unfolding _and_ _or_
+and-no-right true b e = e
+and-no-right false b e = refl
+
+-- a later test fails
+pub and-skip : (a : Bool) {b : Bool} → false ≡ b → false ≡ a and b
+unfolding _and_ _or_
+and-skip true r = r
+and-skip false r = refl
+
+-- a later test holds
+pub or-skip : (a : Bool) {b : Bool} → true ≡ b → true ≡ a or b
+unfolding _and_ _or_
+or-skip true r = refl
+or-skip false r = r
+
+-- each test, from the fact
+pub yes≤ : {a b : ℕ} → a ≤ b → (a ≤? b) ≡ true
+unfolding _≤?_
+yes≤ h = le-leb _ _ h
+
+pub no≤ : {a b : ℕ} → b < a → (a ≤? b) ≡ false
+unfolding _≤?_
+no≤ h = lt-leb _ _ h
+
+pub yes< : {a b : ℕ} → a < b → (a <? b) ≡ true
+unfolding _<?_
+yes< h = lt-ltb _ _ h
+
+pub no< : {a b : ℕ} → b ≤ a → (a <? b) ≡ false
+unfolding _<?_
+no< h = le-ltb _ _ h
+
+pub yes= : {a b : ℕ} → a ≡ b → (a =? b) ≡ true
+unfolding _=?_
+yes= h = eq-eqb _ _ h
+
+pub no= : {a b : ℕ} → (a ≡ b → ⊥) → (a =? b) ≡ false
+unfolding _=?_
+no= h = ne-eqb _ _ h
+
+pub yes≠ : {a b : ℕ} → (a ≡ b → ⊥) → (a ≠? b) ≡ true
+unfolding _≠?_
+yes≠ h = ap not (ne-eqb _ _ h)
+
+pub no≠ : {a b : ℕ} → a ≡ b → (a ≠? b) ≡ false
+unfolding _≠?_
+no≠ h = ap not (eq-eqb _ _ h)
+
+-- and the fact, from the test
+pub is≤ : (a b : ℕ) → (a ≤? b) ≡ true → a ≤ b
+unfolding _≤?_
+is≤ a b h = leb-true a b h
+
+pub is< : (a b : ℕ) → (a <? b) ≡ true → a < b
+unfolding _<?_
+is< a b h = ltb-true a b h
+
+pub is= : (a b : ℕ) → (a =? b) ≡ true → a ≡ b
+unfolding _=?_
+is= a b h = eqb-true a b h
