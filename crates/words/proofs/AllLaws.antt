@@ -7,8 +7,8 @@ use native.Mathlib.Omega.{arith}
 use native.Mathlib.Numerals.{add-one}
 use native.Mathlib.Decide.{ℕ-discrete}
 use native.Mathlib.Nat.{not-suc-le-zero}
-use Rattle.words.specs.Tests.{all, _and_}
-use Rattle.words.proofs.TestLaws.{and-no, and-both, and-left, and-right, and-no-right}
+use Rattle.words.specs.Tests.{all, any, _and_, _or_}
+use Rattle.words.proofs.TestLaws.{and-no, and-both, and-left, and-right, and-no-right, or-yes, or-skip}
 
 module _ (p : ℕ → Bool) where
   pub all-none : true ≡ all 0 p
@@ -48,3 +48,13 @@ pub all-same : (n : ℕ) (p q : ℕ → Bool) → ((k : ℕ) → k < n → p k �
 unfolding all
 all-same zero p q h = refl
 all-same (suc n) p q h = ap₂ _and_ (all-same n p q (λ k l. h k (omega arith))) (h n (omega arith))
+
+-- a test that holds of a number below n holds of some
+pub any-at : (n : ℕ) (p : ℕ → Bool) (k : ℕ) → k < n → p k ≡ true → any n p ≡ true
+unfolding any
+any-at zero p k l e = absurd (not-suc-le-zero l)
+any-at (suc n) p k l e = go (ℕ-discrete k n) (any-at n p k)
+  where
+    go : Dec (k ≡ n) → (k < n → p k ≡ true → any n p ≡ true) → any n p or p n ≡ true
+    go (yes q) r = sym (or-skip (any n p) (sym (ap p (sym q) ∙ e)))
+    go (no ne) r = sym (or-yes (p n) (r (omega (arith, ne)) e))

@@ -1,7 +1,7 @@
 -- The laws of the folds over words: one for 'one more', bounds, and what stands at a place.
 -- Assumes nothing.
 use mathlib.Core.Path.{_≡_, refl, sym, ap, _∙_}
-use mathlib.Core.Bool.{Bool, true, false}
+use mathlib.Core.Bool.{Bool, true, false, false≢true}
 use mathlib.Core.List.{List, [], _∷_, _++_}
 use Prim.Native.Nat.{ℕ, suc, zero, _+_, _≤_, _<_}
 use native.Mathlib.Numerals.{add-one}
@@ -10,7 +10,7 @@ use native.Mathlib.Omega.{arith}
 use native.Mathlib.Decide.{decLt}
 use lib.ListN.{length, getD, take, drop, set, length-append, length-set, List·getD-append}
 use lib.Seq.{getD-at, ext-getD, drop-cons, set-at, length-take-le, append-snoc, take-suc, getD-set-other, getD-set-same}
-use Rattle.words.specs.Words.{pick, tab, lastOf, countOf, putAll}
+use Rattle.words.specs.Words.{pick, tab, lastOf, countOf, putAll, leastFrom}
 
 pub lastOf-more : (test : ℕ → Bool) (n : ℕ) → lastOf (n + 1) test ≡ pick (test n) (n + 1) (lastOf n test)
 unfolding lastOf
@@ -95,3 +95,25 @@ putAll-at s (x ∷ xs) at h zero l =
 putAll-at s (x ∷ xs) at h (suc i) l =
     let e : at + suc i ≡ at + 1 + i = omega arith in
     rw e (putAll-at (set s at x) xs (at + 1) (omega (arith, length-set s at x)) i (omega arith))
+
+-- the least number is among those that were tried, or just past them
+pub leastFrom-most : (test : ℕ → Bool) (n k : ℕ) → leastFrom n k test ≤ k + n
+unfolding leastFrom
+leastFrom-most test zero k = omega arith
+leastFrom-most test (suc n) k = go (test k) refl (leastFrom-most test n (k + 1))
+  where
+    go : (b : Bool) → test k ≡ b → leastFrom n (k + 1) test ≤ k + 1 + n → leastFrom (suc n) k test ≤ k + suc n
+    go true e h = rw (e, leastFrom) (omega arith)
+    go false e h = rw (e, leastFrom) (omega arith)
+
+-- and no number that passes the test is less
+pub leastFrom-least : (test : ℕ → Bool) (n k m : ℕ) → k ≤ m → m < k + n → test m ≡ true → leastFrom n k test ≤ m
+unfolding leastFrom
+leastFrom-least test zero k m a b e = absurd (let z : ⊥ = omega arith in z)
+leastFrom-least test (suc n) k m a b e = go (test k) refl (leastFrom-least test n (k + 1) m)
+  where
+    go : (t : Bool) → test k ≡ t → (k + 1 ≤ m → m < k + 1 + n → test m ≡ true → leastFrom n (k + 1) test ≤ m) → leastFrom (suc n) k test ≤ m
+    go true q r = rw (q, leastFrom) a
+    go false q r =
+        let other : k ≡ m → ⊥ = λ p. false≢true (sym q ∙ ap test p ∙ e) in
+        rw (q, leastFrom) (r (omega (arith, other)) (omega arith) e)

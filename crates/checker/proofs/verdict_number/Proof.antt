@@ -1,0 +1,34 @@
+use mathlib.Core.Path.{sym, _∙_}
+use Rattle.checker.proofs.AnswerLaws.{frame-kept, circuits-kept, frame-decides, circuits-decide, entries-decide}
+use borrow.Author.Needs.{needs}
+use Rattle.checker.proofs.verdict_number.Statement.{statement}
+use Rattle.checker.proofs.verdict_number.Tie as tie
+
+frame-number-requires : tie.Need-frame-number-requires
+frame-number-requires c κs = search needs
+
+returns : tie.Need-returns
+returns c = frame-decides _ _ (c .before .frame-number .ensures) (c .if1 .taken)
+
+circuits-number-requires : tie.Need-circuits-number-requires
+circuits-number-requires c κs = frame-kept _ (sym (c .before .frame-number .ensures) ∙ c .if1 .left)
+
+returns-2 : tie.Need-returns-2
+returns-2 c = circuits-decide _ _ (c .before .before .before .frame-number .ensures) (c .before .before .if1 .left) _ (c .before .circuits-number .ensures) (c .if2 .taken)
+
+schedules-number-requires : tie.Need-schedules-number-requires
+schedules-number-requires c κs = (frame-kept _ (sym (c .before .before .before .frame-number .ensures) ∙ c .before .before .if1 .left), circuits-kept _ (sym (c .before .circuits-number .ensures) ∙ c .if2 .left))
+
+returns-3 : tie.Need-returns-3
+returns-3 c = entries-decide _ _ (c .before .before .before .before .frame-number .ensures) (c .before .before .before .if1 .left) _ (c .before .before .circuits-number .ensures) (c .before .if2 .left) _ (c .schedules-number .ensures)
+
+pub verdict-number-spec : {M : Type 1} → statement M
+verdict-number-spec =
+    tie.close
+    (tie.spec
+    frame-number-requires
+    returns
+    circuits-number-requires
+    returns-2
+    schedules-number-requires
+    returns-3)

@@ -1,0 +1,134 @@
+// The checker: the verdict upon a sheet, and one schedule's entries handed back.
+ghost use mathlib.Core.Path.{_≡_};
+ghost use mathlib.Core.Bool.{true};
+ghost use Prim.Native.Nat.{ℕ, _<_};
+ghost use Rattle.sheet.specs.Sheet.{schedules};
+ghost use Rattle.sheet.specs.Rules.{frameRules, circuitRules, entryRules, firstBroken, rule4, verdict as numberOf};
+ghost use Rattle.sheet.specs.Passed.{Framed};
+ghost use Rattle.checker.specs.Answers.{outcomeOf, entriesNumber, entriesPart};
+
+// A sheet passes, or is refused with the first number of document 01 that applies.
+pub enum Outcome {
+    Passes,
+    Refused(u32),
+}
+
+// The first of the numbers 1 to 3 that applies, or 0.
+fn frame_number(s: &[u32]) -> u32
+    ensures { λ r. ⌜ r ≡ firstBroken frameRules (now (s .entry)) ⌝ }
+{
+    if sheet::keeps_rule1(s) {
+        if sheet::keeps_rule2(s) {
+            if sheet::keeps_rule3(s) {
+                return 0;
+            }
+            return 3;
+        }
+        return 2;
+    }
+    1
+}
+
+// The first of the numbers 4 to 6 that applies, or 0; verdict_number has tested those before.
+fn circuits_number(s: &[u32]) -> u32
+    requires { ⌜ Framed (now s) ⌝ }
+    ensures { λ r. ⌜ r ≡ firstBroken circuitRules (now (s .entry)) ⌝ }
+{
+    if sheet::keeps_rule4(s) {
+        if sheet::keeps_rule5(s) {
+            if sheet::keeps_rule6(s) {
+                return 0;
+            }
+            return 6;
+        }
+        return 5;
+    }
+    4
+}
+
+// The first of the numbers 7 to 11 that applies, or 0; verdict_number has tested those before.
+fn schedules_number(s: &[u32]) -> u32
+    requires { ⌜ (Framed (now s)) × (rule4 (now s) ≡ true) ⌝ }
+    ensures { λ r. ⌜ r ≡ firstBroken entryRules (now (s .entry)) ⌝ }
+{
+    if sheet::keeps_rule7(s) {
+        if sheet::keeps_rule8(s) {
+            if routes::keeps_rule9(s) {
+                if routes::keeps_rule10(s) {
+                    if clash::keeps_rule11(s) {
+                        return 0;
+                    }
+                    return 11;
+                }
+                return 10;
+            }
+            return 9;
+        }
+        return 8;
+    }
+    7
+}
+
+// The number of the verdict upon a sheet: 0, or the first number that applies.
+pub fn verdict_number(s: &[u32]) -> u32
+    ensures { λ r. ⌜ r ≡ numberOf (now (s .entry)) ⌝ }
+{
+    let frame = frame_number(s);
+    if frame != 0 {
+        return frame;
+    }
+    let circuits = circuits_number(s);
+    if circuits != 0 {
+        return circuits;
+    }
+    schedules_number(s)
+}
+
+// The outcome of a number.
+fn outcome_of(number: u32) -> Outcome
+    ensures { λ r. ⌜ r ≡ outcomeOf number ⌝ }
+{
+    if number == 0 {
+        return Outcome::Passes;
+    }
+    Outcome::Refused(number)
+}
+
+// The verdict upon a sheet.
+pub fn verdict(s: &[u32]) -> Outcome
+    ensures { λ r. ⌜ r ≡ outcomeOf (numberOf (now (s .entry))) ⌝ }
+{
+    outcome_of(verdict_number(s))
+}
+
+// The number of handing back the entries of schedule j: 1 to 11, then 15 where the schedule does not exist, or 0.
+fn part_number(s: &[u32], j: u32) -> u32
+    ensures { λ r. ⌜ r ≡ entriesNumber (now (s .entry)) j ⌝ }
+{
+    let number = verdict_number(s);
+    if number != 0 {
+        return number;
+    }
+    if j < words::get(s, 4) {
+        return 0;
+    }
+    15
+}
+
+// Whether the entries of schedule j can be handed back, or which number applies: the call beside entries.
+pub fn entries_number(s: &[u32], j: u32) -> Outcome
+    ensures { λ r. ⌜ r ≡ outcomeOf (entriesNumber (now (s .entry)) j) ⌝ }
+{
+    outcome_of(part_number(s, j))
+}
+
+// The entries of schedule j as that part of the sheet; empty where a number applies.
+pub fn entries(s: &[u32], j: u32) -> &[u32]
+    ensures { λ r. ⌜ now r ≡ entriesPart (now (s .entry)) j ⌝ }
+{
+    let number = part_number(s, j);
+    if number != 0 {
+        return &s[0..0];
+    }
+    sheet::entries_of(s, j)
+}

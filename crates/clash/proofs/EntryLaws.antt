@@ -1,0 +1,259 @@
+-- An entry that has passed the rules 9 and 10: its wires lie in the table, its places are those of its route, and two entries meet
+-- exactly where their places share one.
+-- Assumes nothing.
+use Prim.Native.Nat.{ℕ, zero, suc, _+_, _-_, _*_, _<_, _≤_}
+use mathlib.Core.Bool.{Bool, true, false, not, false≢true}
+use mathlib.Core.List.{List, map}
+use mathlib.Core.Path.{_≡_, refl, sym, _∙_, ap, ap₂, subst}
+use native.Mathlib.Omega.{arith}
+use native.Mathlib.Nat.{zero-add}
+use lib.ListN.{length, replicate, length-map, length-replicate}
+use Rattle.words.specs.Tests.{all}
+use Rattle.words.specs.Words.{word, putAll}
+use Rattle.words.proofs.AllLaws.{all-none, all-more, all-done, all-fails, all-at, all-same}
+use Rattle.words.proofs.TestLaws.{is≤}
+use Rattle.words.proofs.WordLaws.{putAll-at}
+use Rattle.torus.specs.Torus.{InGrid, distanceOf}
+use Rattle.torus.specs.Route.{Use, Route, leads, nowhere, routeFrom, pathOf, wiresPerNode}
+use Rattle.torus.specs.declared.Path.{Path}
+use Rattle.torus.proofs.RouteLaws.{SmallUses, wiresOf, delaysOf, uses-small, uses-length, hops-high, wires-small, delays-small}
+use Rattle.sheet.specs.declared.entries.Entry.{Entry}
+use Rattle.sheet.specs.declared.circuits.Circuit.{Circuit}
+use Rattle.sheet.specs.Sheet.{columns, rows, nodes, schedules, circuitAt, period, entriesOf, entryCount, entryAt}
+use Rattle.sheet.specs.Wires.{WireCycle, occupied, meet}
+use Rattle.sheet.specs.Rules.{entryRoute, entryLeads, entryEnds, entryOccupied, reaches, hopsOf, usesOf, eachEntry, rule9, rule10, rule11At}
+use Rattle.sheet.specs.Passed.{Ranged, Routed}
+use Rattle.sheet.proofs.PassedLaws.{entry-small, period-range}
+use Rattle.occupancy.specs.Occupancy.{anyTaken, Takes}
+use Rattle.clash.specs.Table.{placeOf, entryPlaces, places, Held, Free, Placed, Placeable, Roomy}
+use Rattle.clash.proofs.ShareLaws.{share, Holds, holds-none, holds-more, free-where}
+use Rattle.clash.proofs.WireLaws.{Fitting, meet-places, packet-places, fitting-packet, row-ends}
+
+module _ (long : ℕ) (s : List ℕ) (e : Entry) (stride : ℕ) (p : Placeable long s e stride) where
+  -- the route leads somewhere
+  record Leading : Type 0 where
+    uses : List Use
+    node : ℕ
+    hops : ℕ
+    route : entryRoute s e ≡ leads uses node hops
+
+  leading : Leading
+  unfolding entryLeads
+  leading = go (entryRoute s e) refl (p .leads-there)
+    where
+      go : (r : Route) → entryRoute s e ≡ r
+          → reaches r (circuitAt s (e .circuit) .receive .node)
+          (distanceOf (columns s) (rows s) (circuitAt s (e .circuit) .read .node) (circuitAt s (e .circuit) .receive .node)) ≡ true → Leading
+      go (leads uses node hops) q h = record { uses = uses; node = node; hops = hops; route = q }
+      go nowhere q h = absurd (false≢true h)
+
+  module _ (l : Leading) where
+    small : SmallUses (nodes s * 6) (3 * (l .hops + 1)) (l .uses)
+    unfolding entryRoute
+    small = uses-small _ _ _ _ (p .source-inside) _ _ _ (l .route)
+
+    counted : length (l .uses) ≡ l .hops + 2
+    unfolding entryRoute
+    counted = uses-length _ _ _ _ (p .source-inside) _ _ _ (l .route)
+
+    few : l .hops ≤ 7
+    unfolding entryRoute
+    few = hops-high _ _ _ _ (p .source-inside) _ _ _ (l .route)
+
+    ends : e .offset + 3 * (l .hops + 1) + e .size ≤ stride
+    ends = omega (arith, p .in-time, ap hopsOf (l .route))
+
+    occupied-is : occupied (l .uses) (e .size) (e .offset) ≡ entryOccupied s e
+    unfolding entryOccupied
+    occupied-is = ap (λ (r : Route). occupied (usesOf r) (e .size) (e .offset)) (sym (l .route))
+
+    fitting : Fitting stride (entryOccupied s e)
+    fitting =
+        subst (Fitting stride) occupied-is
+        (fitting-packet stride (nodes s * 6) (3 * (l .hops + 1)) (l .uses) (e .size) (e .offset) small ends)
+
+    -- the answer of following the entry's route
+    module _ (path : Path) (q : path ≡ pathOf (entryRoute s e)) where
+      path-is : path ≡ pathOf (leads (l .uses) (l .node) (l .hops))
+      path-is = q ∙ ap pathOf (l .route)
+
+      hops-is : path .hops ≡ l .hops
+      hops-is = ap (λ (x : Path). x .hops) path-is
+
+      row : (xs : List ℕ) → length xs ≡ length (l .uses) → (k : ℕ) → k < length (l .uses)
+          → word (putAll (replicate 9 0) 0 xs) (0 + k) ≡ word xs k
+      row xs h k b =
+          putAll-at (replicate 9 0) xs 0 (omega (arith, length-replicate {A = ℕ} 9 0, counted, few)) k (omega arith)
+
+      wire-at : (k : ℕ) → k < length (l .uses) → word (path .wires) (0 + k) ≡ word (wiresOf (l .uses)) k
+      wire-at k b =
+          ap (λ (x : Path). word (x .wires) (0 + k)) path-is ∙ row (wiresOf (l .uses)) (length-map (l .uses) _) k b
+
+      delay-at : (k : ℕ) → k < length (l .uses) → word (path .delays) (0 + k) ≡ word (delaysOf (l .uses)) k
+      delay-at k b =
+          ap (λ (x : Path). word (x .delays) (0 + k)) path-is ∙ row (delaysOf (l .uses)) (length-map (l .uses) _) k b
+
+      held-of : Held long (path .wires) (path .delays) (path .hops + 2) stride (e .offset) (e .size)
+      held-of = record {
+        few = omega (arith, hops-is, few);
+        stride-small = p .stride-small;
+        cycle-small = omega (arith, ends, p .stride-small);
+        size-low = p .size-low;
+        size-high = p .size-high;
+        fits = λ i h.
+            let b : i < length (l .uses) = omega (arith, counted, hops-is) in
+            let w : word (path .wires) i ≡ word (wiresOf (l .uses)) i = ap (word (path .wires)) (sym (zero-add i)) ∙ wire-at i b in
+            let d : word (path .delays) i ≡ word (delaysOf (l .uses)) i = ap (word (path .delays)) (sym (zero-add i)) ∙ delay-at i b in
+            let soon = delays-small (nodes s * 6) (3 * (l .hops + 1)) (l .uses) small i b in
+            let end = row-ends stride (nodes s * 6) (word (path .wires) i) (e .offset + word (path .delays) i + e .size)
+            (omega (arith, w, wires-small (nodes s * 6) (3 * (l .hops + 1)) (l .uses) small i b)) (omega (arith, d, soon, ends)) in
+            omega (arith, end, p .room);
+      }
+
+      places-of : places (path .wires) (path .delays) stride (e .offset) (e .size) 0 (path .hops + 2) ≡ entryPlaces stride s e
+      unfolding entryPlaces
+      places-of =
+          let n : path .hops + 2 ≡ length (l .uses) = omega (arith, counted, hops-is) in
+          ap (places (path .wires) (path .delays) stride (e .offset) (e .size) 0) n
+          ∙ packet-places stride (path .wires) (path .delays) (e .size) (e .offset) (l .uses) 0 wire-at delay-at
+          ∙ ap (map (placeOf stride)) occupied-is
+
+  pub entry-fitting : Fitting stride (entryOccupied s e)
+  entry-fitting = fitting leading
+
+  -- what is read of the entry's circuit and of the head, and the route followed
+  module _ (circuit : Circuit) (c : circuit ≡ circuitAt s (e .circuit)) (cols count : ℕ) (x : cols ≡ columns s) (y : count ≡ rows s) where
+    pub source-read : InGrid cols count (circuit .read .node)
+    source-read =
+        subst (λ (n : ℕ). InGrid n count (circuit .read .node)) (sym x)
+        (subst (λ (n : ℕ). InGrid (columns s) n (circuit .read .node)) (sym y)
+        (subst (λ (k : Circuit). InGrid (columns s) (rows s) (k .read .node)) (sym c) (p .source-inside)))
+
+    module _ (path : Path) (q : path ≡ pathOf (routeFrom cols count (circuit .read .node) (e .route))) where
+      followed : path ≡ pathOf (entryRoute s e)
+      unfolding entryRoute
+      followed =
+          q
+          ∙ ap₂ (λ (a b : ℕ). pathOf (routeFrom a b (circuit .read .node) (e .route))) x y
+          ∙ ap (λ (k : Circuit). pathOf (routeFrom (columns s) (rows s) (k .read .node) (e .route))) c
+
+      pub entry-held : Held long (path .wires) (path .delays) (path .hops + 2) stride (e .offset) (e .size)
+      entry-held = held-of leading path followed
+
+      pub entry-places : places (path .wires) (path .delays) stride (e .offset) (e .size) 0 (path .hops + 2) ≡ entryPlaces stride s e
+      entry-places = places-of leading path followed
+
+      pub entry-hops : path .hops ≤ 7
+      entry-hops = omega (arith, hops-is leading path followed, few leading)
+
+-- each entry of a schedule that passed the rules is such an entry
+pub placeable : (long : ℕ) (s : List ℕ) → Routed s → (j : ℕ) → j < schedules s → (i : ℕ) → i < entryCount (entriesOf s j)
+    → Roomy long s (period s j + 6) → Placeable long s (entryAt (entriesOf s j) i) (period s j + 6)
+unfolding rule9 rule10 eachEntry entryEnds
+placeable long s r j h i l m =
+    let small = entry-small s (r .ranged) j h i l in
+    let leading = all-at _ (entryCount (entriesOf s j)) (all-at _ (schedules s) (r .routes-lead) j h) i l in
+    let ending = is≤ _ _ (all-at _ (entryCount (entriesOf s j)) (all-at _ (schedules s) (r .packets-end) j h) i l) in
+    record {
+      source-inside = small .source-inside;
+      leads-there = leading;
+      in-time = omega (arith, ending, small .size-low);
+      size-low = omega (arith, small .size-low);
+      size-high = small .size-high;
+      stride-small = omega (arith, period-range s (r .ranged) j h .1);
+      room = m;
+    }
+
+-- the answer of placing an entry
+pub hit-answer : (t xs ys : List ℕ) {w : Bool} → w ≡ anyTaken t xs → w ≡ true → xs ≡ ys → Placed t t ys false
+hit-answer t xs ys m y e =
+    record { free = ap not (sym y ∙ m ∙ ap (anyTaken t) e); now-taken = λ q. absurd (false≢true q); kept = λ q. refl }
+
+pub take-answer : (t u xs ys : List ℕ) {w : Bool} → w ≡ anyTaken t xs → w ≡ false → Takes t u xs → xs ≡ ys → Placed t u ys true
+take-answer t u xs ys m y r e =
+    record {
+      free = ap not (sym y ∙ m ∙ ap (anyTaken t) e);
+      now-taken = λ q. subst (Takes t u) e r;
+      kept = λ q. absurd (false≢true (sym q));
+    }
+
+-- with the entries before it in the table, an entry is placed exactly where it meets none of them
+module _ (s : List ℕ) (j stride : ℕ) (entries : List ℕ) (long : ℕ) where
+  abbrev placesAt : ℕ → List ℕ
+  placesAt i = entryPlaces stride s (entryAt entries i)
+
+  abbrev meetAt : ℕ → ℕ → Bool
+  meetAt i k = meet (entryOccupied s (entryAt entries i)) (entryOccupied s (entryAt entries k))
+
+  -- just the first i entries of schedule j are in the table, and no two of them meet
+  pub record Placing (i : ℕ) (table : List ℕ) : Type 0 where
+    pub entries-are : entries ≡ entriesOf s j
+    pub each : (k : ℕ) → k < entryCount entries → Placeable long s (entryAt entries k) stride
+    pub long-is : length table ≡ long
+    pub holds : Holds placesAt i table
+    pub apart : all i (λ k. all k (λ m. not (meetAt k m))) ≡ true
+
+  pub placing-start : (table : List ℕ) → length table ≡ long → Routed s → j < schedules s → Roomy (length table) s (period s j + 6) → Free table
+      → entries ≡ entriesOf s j → stride ≡ period s j + 6 → Placing 0 table
+  placing-start table n r h m f p q =
+      record {
+        entries-are = p;
+        each = λ k l.
+            subst (λ (x : ℕ). Placeable long s (entryAt entries k) x) (sym q)
+            (subst (λ (x : List ℕ). Placeable long s (entryAt x k) (period s j + 6)) (sym p)
+            (placeable long s r j h k (subst (λ (x : List ℕ). k < entryCount x) p l) (subst (λ (x : ℕ). Roomy x s (period s j + 6)) n m)));
+        long-is = n;
+        holds = holds-none placesAt table f;
+        apart = sym (all-none _);
+      }
+
+  -- the test of a schedule, from the entries that were read
+  rule-is : entries ≡ entriesOf s j → all (entryCount entries) (λ k. all k (λ n. not (meetAt k n))) ≡ rule11At s j
+  unfolding rule11At
+  rule-is p =
+      ap (λ (x : List ℕ). all (entryCount x) (λ k. all k (λ n. not (meet (entryOccupied s (entryAt x k)) (entryOccupied s (entryAt x n)))))) p
+
+  module _ (i : ℕ) (table : List ℕ) (g : Placing i table) where
+    pub placing-length : length table ≡ long
+    placing-length = g .long-is
+
+    module _ (h : i < entryCount entries) (e : Entry) (q : e ≡ entryAt entries i) where
+      pub placing-next : Placeable (length table) s e stride
+      placing-next =
+          subst (λ (n : ℕ). Placeable n s e stride) (sym (g .long-is))
+          (subst (λ (x : Entry). Placeable long s x stride) (sym q) (g .each i h))
+
+      module _ (after : List ℕ) {r : Bool} (m : Placed table after (entryPlaces stride s e) r) where
+        share-is : (k : ℕ) → k < i → not (share (placesAt i) (placesAt k)) ≡ not (meetAt i k)
+        unfolding entryPlaces
+        share-is k l =
+            ap not (sym (meet-places stride _ _ (entry-fitting _ _ _ _ (g .each i h)) (entry-fitting _ _ _ _ (g .each k (omega arith)))))
+
+        answer-is : r ≡ all i (λ k. not (meetAt i k))
+        answer-is =
+            m .free
+            ∙ ap (λ (x : Entry). not (anyTaken table (entryPlaces stride s x))) q
+            ∙ free-where placesAt i table (g .holds) (placesAt i)
+            ∙ all-same i _ _ share-is
+
+        pub placing-more : r ≡ true → Placing (i + 1) after
+        placing-more y =
+            let t : Takes table after (placesAt i) = subst (λ (x : Entry). Takes table after (entryPlaces stride s x)) q (m .now-taken y) in
+            record {
+              entries-are = g .entries-are;
+              each = g .each;
+              long-is = t .same-length ∙ g .long-is;
+              holds = holds-more placesAt i table after (g .holds) t;
+              apart = all-more _ i (g .apart) (sym answer-is ∙ y);
+            }
+
+        pub placing-fails : r ≡ false → false ≡ rule11At s j
+        placing-fails y =
+            all-fails (λ k. all k (λ n. not (meetAt k n))) (entryCount entries) i h (sym answer-is ∙ y) ∙ rule-is (g .entries-are)
+
+        pub failed-length : r ≡ false → length after ≡ long
+        failed-length y = ap length (m .kept y) ∙ g .long-is
+
+    pub placing-done : i ≤ entryCount entries → entryCount entries ≤ i → true ≡ rule11At s j
+    placing-done a b =
+        all-done (λ k. all k (λ n. not (meetAt k n))) (entryCount entries) i (g .apart) a b ∙ rule-is (g .entries-are)

@@ -1,0 +1,5 @@
+pub mod RunLaws
+pub mod ShareLaws
+pub mod WireLaws
+pub mod EntryLaws
+pub mod RoomLaws

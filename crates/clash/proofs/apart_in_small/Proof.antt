@@ -1,0 +1,17 @@
+use Rattle.clash.proofs.RoomLaws.{ready-zeros}
+use borrow.Author.Needs.{needs}
+use Rattle.clash.proofs.apart_in_small.Statement.{statement}
+use Rattle.clash.proofs.apart_in_small.Tie as tie
+
+slice-aggregate-entries-apart : tie.Need-slice-aggregate-entries-apart
+slice-aggregate-entries-apart c = search needs
+
+entries-apart-requires : tie.Need-entries-apart-requires
+entries-apart-requires c κs = ready-zeros 33 _ _ (c .before .before .pre .0) (c .before .before .pre .1) (c .before .before .pre .2)
+
+returns : tie.Need-returns
+returns c = search needs
+
+pub apart-in-small-spec : {M : Type 1} → statement M
+apart-in-small-spec =
+    tie.close (tie.spec slice-aggregate-entries-apart entries-apart-requires returns)

@@ -1,0 +1,63 @@
+use native.Mathlib.Omega.{arith}
+use Rattle.clash.proofs.RoomLaws.{nodes-high, places-high, roomy}
+use Rattle.sheet.proofs.PassedLaws.{period-range}
+use borrow.Author.Needs.{needs}
+use Rattle.clash.proofs.schedule_apart.Statement.{statement}
+use Rattle.clash.proofs.schedule_apart.Tie as tie
+
+schedule-period-requires : tie.Need-schedule-period-requires
+schedule-period-requires c κs = (c .before .pre .0 .ranged .framed, c .before .pre .1)
+
+add-cycles : tie.Need-add-cycles
+add-cycles c = omega (arith, c .schedule-period .ensures, period-range _ (c .before .before .pre .0 .ranged) _ (c .before .before .pre .1) .1)
+
+get-requires : tie.Need-get-requires
+get-requires c κs = search needs
+
+get-requires-2 : tie.Need-get-requires-2
+get-requires-2 c κs = search needs
+
+mul-places : tie.Need-mul-places
+mul-places c = omega (arith, nodes-high _ (c .before .before .before .before .pre .0) _ (c .before .before .before .before .pre .1) _ _ _ (c .before .get .ensures) (c .get2 .ensures) (c .before .before .schedule-period .ensures))
+
+mul-places-2 : tie.Need-mul-places-2
+mul-places-2 c = omega (arith, nodes-high _ (c .before .before .before .before .pre .0) _ (c .before .before .before .before .pre .1) _ _ _ (c .before .get .ensures) (c .get2 .ensures) (c .before .before .schedule-period .ensures))
+
+mul-places-3 : tie.Need-mul-places-3
+mul-places-3 c = omega (arith, places-high _ (c .before .before .before .before .pre .0) _ (c .before .before .before .before .pre .1) _ _ _ (c .before .get .ensures) (c .get2 .ensures) (c .before .before .schedule-period .ensures))
+
+apart-in-small-requires : tie.Need-apart-in-small-requires
+apart-in-small-requires c κs = (c .before .before .before .before .before .pre .0, c .before .before .before .before .before .pre .1, roomy _ (c .before .before .before .before .before .pre .0) _ (c .before .before .before .before .before .pre .1) _ _ _ (c .before .before .get .ensures) (c .before .get2 .ensures) (c .before .before .before .schedule-period .ensures) 33 (omega arith))
+
+returns : tie.Need-returns
+returns c = search needs
+
+apart-in-middle-requires : tie.Need-apart-in-middle-requires
+apart-in-middle-requires c κs = (c .before .before .before .before .before .before .pre .0, c .before .before .before .before .before .before .pre .1, roomy _ (c .before .before .before .before .before .before .pre .0) _ (c .before .before .before .before .before .before .pre .1) _ _ _ (c .before .before .before .get .ensures) (c .before .before .get2 .ensures) (c .before .before .before .before .schedule-period .ensures) 513 (omega arith))
+
+returns-2 : tie.Need-returns-2
+returns-2 c = search needs
+
+apart-in-large-requires : tie.Need-apart-in-large-requires
+apart-in-large-requires c κs = (c .before .before .before .before .before .before .pre .0, c .before .before .before .before .before .before .pre .1, roomy _ (c .before .before .before .before .before .before .pre .0) _ (c .before .before .before .before .before .before .pre .1) _ _ _ (c .before .before .before .get .ensures) (c .before .before .get2 .ensures) (c .before .before .before .before .schedule-period .ensures) 3091 (omega (arith, places-high _ (c .before .before .before .before .before .before .pre .0) _ (c .before .before .before .before .before .before .pre .1) _ _ _ (c .before .before .before .get .ensures) (c .before .before .get2 .ensures) (c .before .before .before .before .schedule-period .ensures))))
+
+returns-3 : tie.Need-returns-3
+returns-3 c = search needs
+
+pub schedule-apart-spec : {M : Type 1} → statement M
+schedule-apart-spec =
+    tie.close
+    (tie.spec
+    schedule-period-requires
+    add-cycles
+    get-requires
+    get-requires-2
+    mul-places
+    mul-places-2
+    mul-places-3
+    apart-in-small-requires
+    returns
+    apart-in-middle-requires
+    returns-2
+    apart-in-large-requires
+    returns-3)

@@ -1,0 +1,165 @@
+// Number 11: no two entries of one schedule occupy one wire in one cycle. A table has a place for each wire in each cycle, so
+// the test is linear in the wires' use.
+ghost use mathlib.Core.Path.{_≡_};
+ghost use mathlib.Core.Bool.{true};
+ghost use Prim.Native.Nat.{ℕ, _+_, _*_, _<_, _≤_};
+ghost use lib.ListN.{length};
+ghost use Rattle.sheet.specs.Sheet.{schedules, period};
+ghost use Rattle.sheet.specs.Rules.{rule11At, rule11};
+ghost use Rattle.sheet.specs.Passed.{Routed};
+ghost use Rattle.occupancy.specs.Occupancy.{anyTaken, Takes};
+ghost use Rattle.clash.specs.Table.{places, entryPlaces, Held, Free, Placed, Placeable, Roomy};
+use sheet::Circuit;
+use sheet::Entry;
+
+// The first place of a wire that a packet occupies, in a table with so many cycles a wire.
+fn place_of(wire: u32, delay: u32, stride: usize, cycle: usize) -> usize
+    requires { ⌜ (stride ≤ 65536) × (cycle ≤ 65536) ⌝ }
+    ensures { λ r. ⌜ r ≡ wire * stride + (cycle + delay) ⌝ }
+{
+    (wire as usize) * stride + (cycle + (delay as usize))
+}
+
+// One of a packet's places is taken.
+fn packet_taken(
+    table: &[u32],
+    wires: [u32; 9],
+    delays: [u32; 9],
+    count: usize,
+    stride: usize,
+    cycle: usize,
+    size: u32,
+) -> bool
+    requires { ⌜ Held (length (now table)) wires delays count stride cycle size ⌝ }
+    ensures { λ r. ⌜ r ≡ anyTaken (now (table .entry)) (places wires delays stride cycle size 0 count) ⌝ }
+{
+    let mut i = 0;
+    while i < count {
+        let place = place_of(wires[i], delays[i], stride, cycle);
+        if occupancy::run_taken(table, place, size) {
+            return true;
+        }
+        i += 1;
+    }
+    false
+}
+
+// Takes a packet's places.
+fn take_packet(
+    table: &mut [u32],
+    wires: [u32; 9],
+    delays: [u32; 9],
+    count: usize,
+    stride: usize,
+    cycle: usize,
+    size: u32,
+)
+    requires { ⌜ Held (length (now table)) wires delays count stride cycle size ⌝ }
+    ensures { λ _. ⌜ Takes (now (table .entry)) (now (table .exit)) (places wires delays stride cycle size 0 count) ⌝ }
+{
+    let mut i = 0;
+    while i < count {
+        let place = place_of(wires[i], delays[i], stride, cycle);
+        occupancy::take_run(table, place, size);
+        i += 1;
+    }
+}
+
+// Takes the places that an entry occupies, unless one of them is taken: whether it did.
+fn place_entry(table: &mut [u32], s: &[u32], e: Entry, stride: usize) -> bool
+    requires { ⌜ Placeable (length (now table)) (now s) e stride ⌝ }
+    ensures { λ r. ⌜ Placed (now (table .entry)) (now (table .exit)) (entryPlaces stride (now (s .entry)) e) r ⌝ }
+{
+    let circuit = Circuit::at(s, e.circuit);
+    let read = circuit.read;
+    let path = torus::follow_route(words::get(s, 0), words::get(s, 1), read.node, e.route);
+    let count = (path.hops + 2) as usize;
+    let wires = path.wires;
+    let delays = path.delays;
+    let cycle = e.offset as usize;
+    let size = e.size;
+    if packet_taken(table, wires, delays, count, stride, cycle, size) {
+        return false;
+    }
+    take_packet(table, wires, delays, count, stride, cycle, size);
+    true
+}
+
+// Number 11 at schedule j, in a free table.
+fn entries_apart(table: &mut [u32], s: &[u32], j: u32) -> bool
+    requires { ⌜ (Routed (now s)) × (j < schedules (now s)) × (Roomy (length (now table)) (now s) (period (now s) j + 6)) × (Free (now table)) ⌝ }
+    ensures { λ r. ⌜ r ≡ rule11At (now (s .entry)) j ⌝ }
+{
+    let stride = (sheet::schedule_period(s, j) as usize) + 6;
+    let entries = sheet::entries_of(s, j);
+    let count = entries.len() / 4;
+    let mut i = 0;
+    while i < count {
+        if place_entry(table, s, Entry::at(entries, i), stride) {
+            i += 1;
+        } else {
+            return false;
+        }
+    }
+    true
+}
+
+// Number 11 at schedule j, in a table of 1,024 places, which a small sheet needs no more than.
+fn apart_in_small(s: &[u32], j: u32) -> bool
+    requires { ⌜ (Routed (now s)) × (j < schedules (now s)) × (Roomy 33 (now s) (period (now s) j + 6)) ⌝ }
+    ensures { λ r. ⌜ r ≡ rule11At (now (s .entry)) j ⌝ }
+{
+    let mut table = [0u32; 33];
+    entries_apart(&mut table, s, j)
+}
+
+// Number 11 at schedule j, in a table of 16,384 places.
+fn apart_in_middle(s: &[u32], j: u32) -> bool
+    requires { ⌜ (Routed (now s)) × (j < schedules (now s)) × (Roomy 513 (now s) (period (now s) j + 6)) ⌝ }
+    ensures { λ r. ⌜ r ≡ rule11At (now (s .entry)) j ⌝ }
+{
+    let mut table = [0u32; 513];
+    entries_apart(&mut table, s, j)
+}
+
+// Number 11 at schedule j, in a table for the largest sheets: 96 wires in 1,030 cycles.
+fn apart_in_large(s: &[u32], j: u32) -> bool
+    requires { ⌜ (Routed (now s)) × (j < schedules (now s)) × (Roomy 3091 (now s) (period (now s) j + 6)) ⌝ }
+    ensures { λ r. ⌜ r ≡ rule11At (now (s .entry)) j ⌝ }
+{
+    let mut table = [0u32; 3091];
+    entries_apart(&mut table, s, j)
+}
+
+// Number 11 at schedule j.
+fn schedule_apart(s: &[u32], j: u32) -> bool
+    requires { ⌜ (Routed (now s)) × (j < schedules (now s)) ⌝ }
+    ensures { λ r. ⌜ r ≡ rule11At (now (s .entry)) j ⌝ }
+{
+    let cycles = sheet::schedule_period(s, j) + 6;
+    let places = words::get(s, 0) * words::get(s, 1) * torus::WIRES_PER_NODE * cycles;
+    if places <= 1024 {
+        return apart_in_small(s, j);
+    }
+    if places <= 16384 {
+        return apart_in_middle(s, j);
+    }
+    apart_in_large(s, j)
+}
+
+// Number 11: no two entries of one schedule occupy one wire in one cycle. The checker calls it last, and so meets the requires.
+pub fn keeps_rule11(s: &[u32]) -> bool
+    requires { ⌜ Routed (now s) ⌝ }
+    ensures { λ r. ⌜ r ≡ rule11 (now (s .entry)) ⌝ }
+{
+    let count = words::get(s, 4);
+    let mut j: u32 = 0;
+    while j < count {
+        if schedule_apart(s, j) {
+            j += 1;
+        } else {
+            return false;
+        }
+    }
+    true
+}

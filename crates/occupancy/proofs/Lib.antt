@@ -1,0 +1,3 @@
+pub mod BitLaws
+pub mod WindowLaws
+pub mod TakeLaws

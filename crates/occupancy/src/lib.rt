@@ -1,0 +1,43 @@
+// A table of places that are taken or free: one bit a place, thirty-two places a word. Places in a row are tested and taken
+// in the two words that can hold them, together.
+ghost use mathlib.Core.Path.{_≡_};
+ghost use Prim.Native.Nat.{ℕ, _+_, _*_, _/_, _%_, _<_, _≤_};
+ghost use lib.ListN.{length};
+ghost use Rattle.occupancy.specs.Occupancy.{run, anyTaken, window as windowOf, slotMask, takeRun};
+
+// The sixty-four places from word q on.
+fn window(table: &[u32], q: usize) -> u64
+    requires { ⌜ q + 1 < length (now table) ⌝ }
+    ensures { λ r. ⌜ r ≡ windowOf (now (table .entry)) q ⌝ }
+{
+    (table[q] as u64) + (table[q + 1] as u64) * 4294967296
+}
+
+// Ones at so many places from a bit on.
+fn slot_mask(bit: u32, size: u32) -> u64
+    requires { ⌜ (bit < 32) × (size ≤ 16) ⌝ }
+    ensures { λ r. ⌜ r ≡ slotMask bit size ⌝ }
+{
+    ((1u64 << size) - 1) << bit
+}
+
+// One of so many places from one on is taken. Whoever has placed a packet within the table meets the requires, here and below.
+pub fn run_taken(table: &[u32], place: usize, size: u32) -> bool
+    requires { ⌜ (1 ≤ size) × (size ≤ 16) × (place + size + 32 ≤ 32 * length (now table)) ⌝ }
+    ensures { λ r. ⌜ r ≡ anyTaken (now (table .entry)) (run size place) ⌝ }
+{
+    let bit = (place % 32) as u32;
+    (window(table, place / 32) & slot_mask(bit, size)) != 0
+}
+
+// Takes so many places from one on.
+pub fn take_run(table: &mut [u32], place: usize, size: u32)
+    requires { ⌜ (1 ≤ size) × (size ≤ 16) × (place + size + 32 ≤ 32 * length (now table)) ⌝ }
+    ensures { λ _. ⌜ now (table .exit) ≡ takeRun (now (table .entry)) place size ⌝ }
+{
+    let q = place / 32;
+    let bit = (place % 32) as u32;
+    let both = window(table, q) | slot_mask(bit, size);
+    table[q] = (both % 4294967296) as u32;
+    table[q + 1] = (both / 4294967296) as u32;
+}

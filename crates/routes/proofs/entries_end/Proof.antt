@@ -1,0 +1,65 @@
+use Rattle.routes.proofs.RouteRules.{each-ending}
+use native.Mathlib.Omega.{arith}
+use Prim.Native.Nat.{_-_, _≤_}
+use mathlib.Core.Bool.{true}
+use mathlib.Core.Path.{_≡_, sym, _∙_}
+use Rattle.words.specs.Tests.{all}
+use Rattle.words.proofs.AllLaws.{all-none, all-more, all-done, all-fails}
+use Rattle.sheet.specs.Sheet.{entryAt}
+use Rattle.sheet.specs.Rules.{entryEnds}
+use Rattle.routes.proofs.RouteRules.{timed, led}
+use Rattle.routes.proofs.entries_end.Statement.{statement}
+use Rattle.routes.proofs.entries_end.Tie as tie
+
+abbrev Inv-loop : tie.InvT-loop
+Inv-loop s j period entries count i₀ i = (i ≤ count) × (all i (λ k. entryEnds s period (entryAt entries k)) ≡ true)
+
+abbrev μ-loop : tie.MeasureT-loop
+μ-loop s j period entries count i₀ i = count - i
+
+schedule-period-requires : tie.Need-schedule-period-requires Inv-loop μ-loop
+schedule-period-requires c κs = (c .before .pre .0 .ranged .framed, c .before .pre .1)
+
+entries-of-requires : tie.Need-entries-of-requires Inv-loop μ-loop
+entries-of-requires c κs = (c .before .before .pre .0 .ranged .framed, c .before .before .pre .1)
+
+loop-holds : tie.Need-loop-holds Inv-loop μ-loop
+loop-holds c = (omega arith, sym (all-none _))
+
+at-requires : tie.Need-at-requires Inv-loop μ-loop
+at-requires c κs = omega arith
+
+entry-ends-requires : tie.Need-entry-ends-requires Inv-loop μ-loop
+entry-ends-requires c κs = (timed _ (c .before .before .before .before .before .before .pre .0 .ranged) _ (c .before .before .before .before .before .before .pre .1) _ (c .before .before .before .entries-of .ensures) (c .before .before .loop .i) (omega arith) _ (c .at .ensures) _ (c .before .before .before .before .schedule-period .ensures), led _ (c .before .before .before .before .before .before .pre .0 .ranged) _ (c .before .before .before .before .before .before .pre .1) _ (c .before .before .before .entries-of .ensures) (c .before .before .loop .i) (omega arith) _ (c .at .ensures) (c .before .before .before .before .before .before .pre .0 .routes-lead))
+
+add-i : tie.Need-add-i Inv-loop μ-loop
+add-i c = omega arith
+
+loop-less : tie.Need-loop-less Inv-loop μ-loop
+loop-less c = omega arith
+
+loop-again : tie.Need-loop-again Inv-loop μ-loop
+loop-again c = (omega arith, all-more _ _ (c .before .before .before .before .loop .inv .1) (cc))
+
+returns : tie.Need-returns Inv-loop μ-loop
+returns c = all-fails _ _ (c .before .before .before .before .loop .i) (omega arith) (cc) ∙ each-ending _ _ _ _ (c .before .before .before .before .before .entries-of .ensures) (c .before .before .before .before .before .before .schedule-period .ensures)
+
+returns-2 : tie.Need-returns-2 Inv-loop μ-loop
+returns-2 c = all-done _ _ _ (c .before .loop .inv .1) (omega arith) (omega arith) ∙ each-ending _ _ _ _ (c .before .before .entries-of .ensures) (c .before .before .before .schedule-period .ensures)
+
+pub entries-end-spec : {M : Type 1} → statement M
+entries-end-spec =
+    tie.close
+    (tie.spec
+    Inv-loop
+    μ-loop
+    schedule-period-requires
+    entries-of-requires
+    loop-holds
+    at-requires
+    entry-ends-requires
+    add-i
+    loop-less
+    loop-again
+    returns
+    returns-2)

@@ -1,0 +1,57 @@
+use native.Mathlib.Omega.{arith}
+use Prim.Native.Nat.{_-_, _≤_}
+use mathlib.Core.Bool.{true}
+use mathlib.Core.Path.{_≡_, sym}
+use borrow.Author.Needs.{needs}
+use Rattle.words.specs.Tests.{all}
+use Rattle.words.proofs.AllLaws.{all-none, all-more, all-done, all-fails}
+use Rattle.sheet.specs.Rules.{eachEntry, entryLeads, rule9}
+use Rattle.routes.proofs.keeps_rule9.Statement.{statement}
+use Rattle.routes.proofs.keeps_rule9.Tie as tie
+
+abbrev Inv-loop : tie.InvT-loop
+Inv-loop s count j₀ j = (j ≤ count) × (all j (λ k. eachEntry s k (entryLeads s)) ≡ true)
+
+abbrev μ-loop : tie.MeasureT-loop
+μ-loop s count j₀ j = count - j
+
+get-requires : tie.Need-get-requires Inv-loop μ-loop
+get-requires c κs = search needs
+
+loop-holds : tie.Need-loop-holds Inv-loop μ-loop
+loop-holds c = (omega arith, sym (all-none _))
+
+entries-lead-requires : tie.Need-entries-lead-requires Inv-loop μ-loop
+entries-lead-requires c κs = (c .before .before .before .before .pre, omega (arith, c .before .before .get .ensures))
+
+add-j : tie.Need-add-j Inv-loop μ-loop
+add-j c = omega arith
+
+loop-less : tie.Need-loop-less Inv-loop μ-loop
+loop-less c = omega arith
+
+loop-again : tie.Need-loop-again Inv-loop μ-loop
+loop-again c = (omega arith, all-more _ _ (c .before .before .before .loop .inv .1) (cc))
+
+returns : tie.Need-returns Inv-loop μ-loop
+unfolding rule9
+returns c = all-fails _ _ (c .before .before .before .loop .j) (omega (arith, c .before .before .before .before .get .ensures)) (cc)
+
+returns-2 : tie.Need-returns-2 Inv-loop μ-loop
+unfolding rule9
+returns-2 c = all-done _ _ _ (c .before .loop .inv .1) (omega (arith, c .before .before .get .ensures)) (omega (arith, c .before .before .get .ensures))
+
+pub keeps-rule9-spec : {M : Type 1} → statement M
+keeps-rule9-spec =
+    tie.close
+    (tie.spec
+    Inv-loop
+    μ-loop
+    get-requires
+    loop-holds
+    entries-lead-requires
+    add-j
+    loop-less
+    loop-again
+    returns
+    returns-2)

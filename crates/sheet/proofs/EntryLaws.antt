@@ -1,0 +1,49 @@
+-- The tests of the rules 7 and 8 at one entry or one schedule, from the facts in numbers and the parts that were read.
+-- Assumes nothing.
+use Prim.Native.Nat.{ℕ, _+_, _-_, _<_}
+use mathlib.Core.Bool.{Bool, true, false}
+use mathlib.Core.List.{List}
+use mathlib.Core.Path.{_≡_, refl, sym, _∙_, ap}
+use Rattle.words.specs.Tests.{all, between, _≤?_}
+use Rattle.words.proofs.TestLaws.{and-no, and-on, yes<}
+use Rattle.sheet.specs.declared.entries.Entry.{Entry}
+use Rattle.sheet.specs.Sheet.{circuits, period, entriesOf, entryCount, entryAt}
+use Rattle.sheet.specs.Rules.{eachEntry, entryFits, rule7At, entryPrecedes, rule8At}
+
+-- all but the route is in its range, and the route decides
+pub entry-rest : (count P : ℕ) (e : Entry) → e .offset < P → between 2 16 (e .size) ≡ true → e .circuit < count
+    → (e .route ≤? 65535) ≡ entryFits count P e
+unfolding entryFits
+entry-rest count P e a b c = and-on (yes< a) (and-on b (and-on (yes< c) refl))
+
+-- rule 7 at one schedule, in terms of the period and the entries that were read
+module _ (s : List ℕ) (j P : ℕ) (p : P ≡ period s j) where
+  range-is : {w : Bool} → w ≡ between 9 1024 P → {v : Bool} → w ≡ v → between 9 1024 (period s j) ≡ v
+  range-is e f = ap (between 9 1024) (sym p) ∙ sym e ∙ f
+
+  -- the period is out of its range
+  pub schedule-no : {w : Bool} → w ≡ between 9 1024 P → w ≡ false → false ≡ rule7At s j
+  unfolding rule7At
+  schedule-no e f = and-no _ (range-is e f)
+
+  -- the period is in its range, and the entries decide
+  pub schedule-rest : (entries : List ℕ) (count : ℕ) {w v : Bool} → w ≡ between 9 1024 P → w ≡ true
+      → entries ≡ entriesOf s j → count ≡ circuits s
+      → v ≡ all (entryCount entries) (λ i. entryFits count P (entryAt entries i)) → v ≡ rule7At s j
+  unfolding rule7At eachEntry
+  schedule-rest entries count e f q r g =
+      and-on (range-is e f) (g ∙ parts)
+    where
+      parts : all (entryCount entries) (λ i. entryFits count P (entryAt entries i))
+          ≡ all (entryCount (entriesOf s j)) (λ i. entryFits (circuits s) (period s j) (entryAt (entriesOf s j) i))
+      parts =
+          ap (λ (l : List ℕ). all (entryCount l) (λ i. entryFits count P (entryAt l i))) q
+          ∙ ap (λ (n : ℕ). all (entryCount (entriesOf s j)) (λ i. entryFits n P (entryAt (entriesOf s j) i))) r
+          ∙ ap (λ (n : ℕ). all (entryCount (entriesOf s j)) (λ i. entryFits (circuits s) n (entryAt (entriesOf s j) i))) p
+
+-- rule 8 at one schedule, in terms of the entries that were read
+pub schedule-ascends : (s : List ℕ) (j : ℕ) (entries : List ℕ) {v : Bool} → entries ≡ entriesOf s j
+    → v ≡ all (entryCount entries - 1) (λ i. entryPrecedes (entryAt entries i) (entryAt entries (i + 1))) → rule8At s j ≡ v
+unfolding rule8At
+schedule-ascends s j entries q e =
+    sym (e ∙ ap (λ (l : List ℕ). all (entryCount l - 1) (λ i. entryPrecedes (entryAt l i) (entryAt l (i + 1)))) q)

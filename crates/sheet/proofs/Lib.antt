@@ -1,0 +1,6 @@
+pub mod FrameLaws
+pub mod CircuitLaws
+pub mod EntryLaws
+pub mod PassedLaws
+pub mod VerdictLaws
+pub mod Examples

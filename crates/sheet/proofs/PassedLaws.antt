@@ -1,0 +1,123 @@
+-- What the rules that a sheet keeps settle, in numbers.
+-- Assumes nothing.
+use Prim.Native.Nat.{ℕ, _*_, _<_, _≤_}
+use mathlib.Core.Bool.{true}
+use mathlib.Core.List.{List}
+use mathlib.Core.Path.{_≡_, sym, subst}
+use native.Mathlib.Omega.{arith}
+use lib.ListN.{length, length-take, length-drop}
+use Rattle.words.specs.Tests.{between}
+use Rattle.words.proofs.TestLaws.{and-left, and-right, is≤, is<}
+use Rattle.words.proofs.AllLaws.{all-at}
+use Rattle.torus.specs.Torus.{InGrid}
+use Rattle.sheet.specs.Sheet.{columns, rows, memoryWords, circuits, schedules, nodes, circuitAt}
+use Rattle.sheet.specs.Sheet.{statedEntries, schedulePlace, period, entriesOf, entryCount, entryAt}
+use Rattle.sheet.specs.Rules.{rule1, rule2, rule3, regionFits, circuitFits, rule4, eachEntry, entryFits, rule7At, rule7}
+use Rattle.sheet.specs.Passed.{Headed, Framed, Placed, Ranged, CircuitSmall, EntrySmall}
+use Rattle.sheet.proofs.FrameLaws.{rule3-placed}
+
+-- rules 1 and 2: the head's numbers are in their ranges
+pub headed : (s : List ℕ) → rule1 s ≡ true → rule2 s ≡ true → Headed s
+unfolding rule1 rule2 between
+headed s h r =
+    let r₁ = and-right _ _ r in
+    let r₂ = and-right _ _ r₁ in
+    let r₃ = and-right _ _ r₂ in
+    let r₄ = and-right _ _ r₃ in
+    record {
+      five = is≤ _ _ h;
+      columns-low = is≤ _ _ (and-left _ _ (and-left _ _ r));
+      columns-high = is≤ _ _ (and-right _ _ (and-left _ _ r));
+      rows-low = is≤ _ _ (and-left _ _ (and-left _ _ r₁));
+      rows-high = is≤ _ _ (and-right _ _ (and-left _ _ r₁));
+      memory-low = is≤ _ _ (and-left _ _ (and-left _ _ r₂));
+      memory-high = is≤ _ _ (and-right _ _ (and-left _ _ r₂));
+      circuits-high = is≤ _ _ (and-right _ _ (and-left _ _ r₃));
+      schedules-low = is≤ _ _ (and-left _ _ r₄);
+      schedules-high = is≤ _ _ (and-right _ _ r₄);
+    }
+
+-- rule 3: the circuits lie within the sheet, since the first schedule begins behind them
+pub framed : (s : List ℕ) → Headed s → rule3 s ≡ true → Framed s
+unfolding schedulePlace
+framed s h r =
+    let p = rule3-placed s r 0 (h .schedules-low) in
+    record { headed = h; circuits-end = omega arith; divided = r }
+
+-- rule 3: each schedule lies within the sheet
+pub placed : (s : List ℕ) → Framed s → (j : ℕ) → j < schedules s → Placed s (schedulePlace s j)
+placed s f = rule3-placed s (f .divided)
+
+-- the same of the place that was worked out
+pub placed-at : (s : List ℕ) → Framed s → (j at : ℕ) → at ≡ schedulePlace s j → j < schedules s → Placed s at
+placed-at s f j at e h = subst (Placed s) (sym e) (placed s f j h)
+
+-- a schedule's entries have four words for each stated entry
+pub entries-length : (s : List ℕ) → Framed s → (j : ℕ) → j < schedules s
+    → length (entriesOf s j) ≡ 4 * statedEntries s (schedulePlace s j)
+unfolding entriesOf
+entries-length s f j h =
+    let p = placed s f j h in
+    simp (length-take, length-drop) (omega arith)
+
+-- a schedule has few entries
+pub entries-few : (s : List ℕ) → Framed s → (j : ℕ) → j < schedules s → entryCount (entriesOf s j) ≤ 256
+entries-few s f j h =
+    let p = placed s f j h in
+    omega (arith, entries-length s f j h)
+
+-- rule 4 at one circuit: its nodes are in the grid, and its regions end within the memory
+pub circuit-small : (s : List ℕ) → rule4 s ≡ true → (k : ℕ) → k < circuits s
+    → CircuitSmall (nodes s) (memoryWords s) (circuitAt s k)
+unfolding rule4 circuitFits regionFits
+circuit-small s r k h =
+    let h₀ = all-at _ (circuits s) r k h in
+    let h₁ = and-right _ _ h₀ in
+    let h₂ = and-right _ _ h₁ in
+    let h₃ = and-right _ _ h₂ in
+    record {
+      source-inside = is< _ _ (and-left _ _ h₀);
+      destination-inside = is< _ _ (and-left _ _ h₁);
+      read-ends = is≤ _ _ (and-right _ _ (and-left _ _ h₃));
+      receive-ends = is≤ _ _ (and-right _ _ (and-right _ _ h₃));
+    }
+
+-- rule 7 at one schedule: its period is in its range
+pub period-range : (s : List ℕ) → Ranged s → (j : ℕ) → j < schedules s → (9 ≤ period s j) × (period s j ≤ 1024)
+unfolding rule7 rule7At between
+period-range s g j h =
+    let r = and-left _ _ (all-at _ (schedules s) (g .entries-fit) j h) in
+    (is≤ _ _ (and-left _ _ r), is≤ _ _ (and-right _ _ r))
+
+-- a node of the grid, as the torus wants it
+pub in-grid : (s : List ℕ) → Headed s → (node : ℕ) → node < nodes s → InGrid (columns s) (rows s) node
+in-grid s h node l =
+    record {
+      cols-low = h .columns-low;
+      cols-high = h .columns-high;
+      rows-low = h .rows-low;
+      rows-high = h .rows-high;
+      inside = l;
+    }
+
+-- rules 4 and 7 at one entry: its numbers are in their ranges, and its circuit joins nodes of the grid
+pub entry-small : (s : List ℕ) → Ranged s → (j : ℕ) → j < schedules s → (i : ℕ) → i < entryCount (entriesOf s j)
+    → EntrySmall s j (entryAt (entriesOf s j) i)
+unfolding rule7 rule7At eachEntry entryFits between
+entry-small s g j h i l =
+    let e = entryAt (entriesOf s j) i in
+    let r = and-right _ _ (all-at _ (schedules s) (g .entries-fit) j h) in
+    let f = all-at _ (entryCount (entriesOf s j)) r i l in
+    let f₁ = and-right _ _ f in
+    let f₂ = and-right _ _ f₁ in
+    let inside = is< _ _ (and-left _ _ f₂) in
+    let c = circuit-small s (g .circuits-fit) (e .circuit) inside in
+    record {
+      offset-low = is< _ _ (and-left _ _ f);
+      size-low = is≤ _ _ (and-left _ _ (and-left _ _ f₁));
+      size-high = is≤ _ _ (and-right _ _ (and-left _ _ f₁));
+      circuit-inside = inside;
+      route-high = is≤ _ _ (and-right _ _ f₂);
+      source-inside = in-grid s (g .framed .headed) _ (c .source-inside);
+      destination-inside = in-grid s (g .framed .headed) _ (c .destination-inside);
+    }

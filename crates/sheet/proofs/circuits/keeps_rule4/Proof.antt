@@ -1,0 +1,94 @@
+-- `sheet::circuits::keeps_rule4` meets its contract. Number 4: in the loop every circuit before `k` fits.
+-- Assumes nothing.
+use Prim.Native.Nat.{_≤_, _*_, _-_}
+use mathlib.Core.Bool.{true}
+use mathlib.Core.Path.{_≡_, sym, ap₂}
+use native.Mathlib.Omega.{arith}
+use Rattle.words.specs.Tests.{all}
+use Rattle.words.proofs.AllLaws.{all-none, all-more, all-done, all-fails}
+use Rattle.sheet.specs.Sheet.{circuits, nodes as nodesOf, memoryWords, circuitAt}
+use Rattle.sheet.specs.Rules.{circuitFits, rule4}
+use Rattle.sheet.proofs.CircuitLaws.{nodes-few}
+use Rattle.sheet.proofs.circuits.keeps_rule4.Statement.{statement}
+use Rattle.sheet.proofs.circuits.keeps_rule4.Tie as tie
+
+abbrev Inv-loop : tie.InvT-loop
+Inv-loop s nodes memory count k₀ k =
+    (count ≡ circuits s)
+    × (nodes ≡ nodesOf s)
+    × (memory ≡ memoryWords s)
+    × (k ≤ count)
+    × (all k (λ j. circuitFits (nodesOf s) (memoryWords s) (circuitAt s j)) ≡ true)
+
+abbrev μ-loop : tie.MeasureT-loop
+μ-loop s nodes memory count k₀ k = count - k
+
+get-requires : tie.Need-get-requires Inv-loop μ-loop
+get-requires c κs = tt
+
+get-requires-2 : tie.Need-get-requires-2 Inv-loop μ-loop
+get-requires-2 c κs = tt
+
+mul-nodes : tie.Need-mul-nodes Inv-loop μ-loop
+mul-nodes c =
+    omega (arith, nodes-few _ (c .before .before .before .pre .headed) _ _ (c .before .get .ensures) (c .get2 .ensures))
+
+get-requires-3 : tie.Need-get-requires-3 Inv-loop μ-loop
+get-requires-3 c κs = tt
+
+get-requires-4 : tie.Need-get-requires-4 Inv-loop μ-loop
+get-requires-4 c κs = tt
+
+loop-holds : tie.Need-loop-holds Inv-loop μ-loop
+loop-holds c = (
+  c .get4 .ensures,
+  ap₂ _*_ (c .before .before .before .get .ensures) (c .before .before .get2 .ensures),
+  c .before .get3 .ensures,
+  omega arith,
+  sym (all-none _),
+)
+
+at-requires : tie.Need-at-requires Inv-loop μ-loop
+at-requires c κs = tt
+
+fits-requires : tie.Need-fits-requires Inv-loop μ-loop
+fits-requires c κs = tt
+
+add-k : tie.Need-add-k Inv-loop μ-loop
+add-k c = omega arith
+
+loop-less : tie.Need-loop-less Inv-loop μ-loop
+loop-less c = omega arith
+
+loop-again : tie.Need-loop-again Inv-loop μ-loop
+loop-again c =
+    let l = c .before .before .before .before .loop in
+    (l .inv .0, l .inv .1, l .inv .2, omega arith, all-more _ _ (l .inv .4) (cc))
+
+returns : tie.Need-returns Inv-loop μ-loop
+unfolding rule4
+returns c = all-fails _ _ (c .before .before .before .before .loop .k) (omega arith) (cc)
+
+returns-2 : tie.Need-returns-2 Inv-loop μ-loop
+unfolding rule4
+returns-2 c = all-done _ _ _ (c .before .loop .inv .4) (omega arith) (omega arith)
+
+pub keeps-rule4-spec : {M : Type 1} → statement M
+keeps-rule4-spec =
+    tie.close
+    (tie.spec
+    Inv-loop
+    μ-loop
+    get-requires
+    get-requires-2
+    mul-nodes
+    get-requires-3
+    get-requires-4
+    loop-holds
+    at-requires
+    fits-requires
+    add-k
+    loop-less
+    loop-again
+    returns
+    returns-2)

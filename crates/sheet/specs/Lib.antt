@@ -1,0 +1,5 @@
+pub mod Sheet
+pub mod Frame
+pub mod Wires
+pub mod Rules
+pub mod Passed

@@ -1,0 +1,180 @@
+-- The rules 1 to 11 of document 01, "Refusals, in checking order": each as a test that a sheet keeps the rule, and the verdict, the
+-- number of the first rule that it does not keep. All sums are of natural numbers: nothing wraps.
+use Prim.Native.Nat.{ℕ, _+_, _-_, _*_}
+use mathlib.Core.List.{List, [], _∷_, _++_}
+use mathlib.Core.Bool.{Bool, true, false, not}
+use lib.ListN.{length}
+use Rattle.words.specs.Tests.{all, between, _and_, _or_, _≤?_, _<?_, _=?_, _≠?_}
+use Rattle.torus.specs.Torus.{distanceOf}
+use Rattle.torus.specs.Route.{Use, Route, leads, nowhere, routeFrom, routerCycles}
+use Rattle.sheet.specs.declared.circuits.Region.{Region}
+use Rattle.sheet.specs.declared.circuits.Circuit.{Circuit}
+use Rattle.sheet.specs.declared.entries.Entry.{Entry}
+use Rattle.sheet.specs.Sheet.{columns, rows, memoryWords, circuits, schedules, nodes, circuitAt, statedEntries, schedulePlace, period, entriesOf, entryCount, entryAt}
+use Rattle.sheet.specs.Wires.{WireCycle, occupied, meet}
+
+-- Number 1: the sheet has its five head words.
+unfoldable pub rule1 : List ℕ → Bool
+rule1 s = 5 ≤? length s
+
+-- Number 2: each head number is in its range.
+unfoldable pub rule2 : List ℕ → Bool
+rule2 s =
+    between 2 4 (columns s)
+    and between 2 4 (rows s)
+    and between 1 16384 (memoryWords s)
+    and between 0 64 (circuits s)
+    and between 1 8 (schedules s)
+
+-- Number 3: each schedule begins within the sheet and states at most 256 entries, and the last one ends where the sheet ends.
+unfoldable pub scheduleFits : List ℕ → ℕ → Bool
+scheduleFits s j = schedulePlace s j + 2 ≤? length s and statedEntries s (schedulePlace s j) ≤? 256
+
+unfoldable pub rule3 : List ℕ → Bool
+rule3 s = all (schedules s) (scheduleFits s) and schedulePlace s (schedules s) =? length s
+
+-- a region has a word, and ends within the memory
+unfoldable pub regionFits : ℕ → Region → Bool
+regionFits memory r = 1 ≤? r .size and r .offset + r .size ≤? memory
+
+-- Number 4: each circuit joins two different nodes of the grid, and its two regions fit.
+unfoldable pub circuitFits : ℕ → ℕ → Circuit → Bool
+circuitFits count memory c =
+    c .read .node <? count
+    and c .receive .node <? count
+    and c .read .node ≠? c .receive .node
+    and regionFits memory (c .read)
+    and regionFits memory (c .receive)
+
+unfoldable pub rule4 : List ℕ → Bool
+rule4 s = all (circuits s) (λ k. circuitFits (nodes s) (memoryWords s) (circuitAt s k))
+
+-- (a, b) comes before (c, d): by the first, and by the second where the first are equal
+unfoldable pub precedes : ℕ → ℕ → ℕ → ℕ → Bool
+precedes a b c d = a <? c or a =? c and b <? d
+
+-- Number 5: each circuit comes before the next one, by destination and receive offset.
+unfoldable pub circuitPrecedes : Circuit → Circuit → Bool
+circuitPrecedes a b = precedes (a .receive .node) (a .receive .offset) (b .receive .node) (b .receive .offset)
+
+unfoldable pub rule5 : List ℕ → Bool
+rule5 s = all (circuits s - 1) (λ k. circuitPrecedes (circuitAt s k) (circuitAt s (k + 1)))
+
+-- two regions share no word: they are at different nodes, or one ends before the other begins
+unfoldable pub apart : Region → Region → Bool
+apart a b = a .node ≠? b .node or a .offset + a .size ≤? b .offset or b .offset + b .size ≤? a .offset
+
+-- Number 6: each circuit's receive region is apart from every other circuit's receive region and from every read region.
+unfoldable pub receiveApart : List ℕ → ℕ → ℕ → Bool
+receiveApart s j k =
+    (j =? k or apart (circuitAt s j .receive) (circuitAt s k .receive)) and apart (circuitAt s j .receive) (circuitAt s k .read)
+
+unfoldable pub rule6 : List ℕ → Bool
+rule6 s = all (circuits s) (λ j. all (circuits s) (receiveApart s j))
+
+-- a test of each entry of schedule j
+unfoldable pub eachEntry : List ℕ → ℕ → (Entry → Bool) → Bool
+eachEntry s j test = all (entryCount (entriesOf s j)) (λ i. test (entryAt (entriesOf s j) i))
+
+-- Number 7: each period is in its range, each offset is below its period, and each length, circuit and route is in its range.
+unfoldable pub entryFits : ℕ → ℕ → Entry → Bool
+entryFits count P e = e .offset <? P and between 2 16 (e .size) and e .circuit <? count and e .route ≤? 65535
+
+unfoldable pub rule7At : List ℕ → ℕ → Bool
+rule7At s j = between 9 1024 (period s j) and eachEntry s j (entryFits (circuits s) (period s j))
+
+unfoldable pub rule7 : List ℕ → Bool
+rule7 s = all (schedules s) (rule7At s)
+
+-- Number 8: each entry comes before the next one of its schedule, by offset and circuit.
+unfoldable pub entryPrecedes : Entry → Entry → Bool
+entryPrecedes a b = precedes (a .offset) (a .circuit) (b .offset) (b .circuit)
+
+unfoldable pub rule8At : List ℕ → ℕ → Bool
+rule8At s j =
+    all (entryCount (entriesOf s j) - 1) (λ i. entryPrecedes (entryAt (entriesOf s j) i) (entryAt (entriesOf s j) (i + 1)))
+
+unfoldable pub rule8 : List ℕ → Bool
+rule8 s = all (schedules s) (rule8At s)
+
+-- where an entry's route leads from its circuit's source
+unfoldable pub entryRoute : List ℕ → Entry → Route
+entryRoute s e = routeFrom (columns s) (rows s) (circuitAt s (e .circuit) .read .node) (e .route)
+
+-- a route leads to a node in at most so many hops
+abbrev pub reaches : Route → ℕ → ℕ → Bool
+reaches (leads uses node hops) to most = node =? to and hops ≤? most
+reaches nowhere to most = false
+
+-- Number 9: each route leads to its circuit's destination with no bits left, in no more hops than the distance.
+unfoldable pub entryLeads : List ℕ → Entry → Bool
+entryLeads s e =
+    reaches (entryRoute s e) (circuitAt s (e .circuit) .receive .node)
+    (distanceOf (columns s) (rows s) (circuitAt s (e .circuit) .read .node) (circuitAt s (e .circuit) .receive .node))
+
+unfoldable pub rule9 : List ℕ → Bool
+rule9 s = all (schedules s) (λ j. eachEntry s j (entryLeads s))
+
+-- the hops of a route: document 01's word for its side outputs
+abbrev pub hopsOf : Route → ℕ
+hopsOf (leads uses node hops) = hops
+hopsOf nowhere = 0
+
+-- Number 10: offset + length − 1 + 3 × hops is at most the period + 2.
+unfoldable pub entryEnds : List ℕ → ℕ → Entry → Bool
+entryEnds s P e = e .offset + e .size - 1 + routerCycles * hopsOf (entryRoute s e) ≤? P + 2
+
+unfoldable pub rule10 : List ℕ → Bool
+rule10 s = all (schedules s) (λ j. eachEntry s j (entryEnds s (period s j)))
+
+abbrev pub usesOf : Route → List Use
+usesOf (leads uses node hops) = uses
+usesOf nowhere = []
+
+-- the wires that an entry occupies, each in which cycles, whether its slot is filled or not
+unfoldable pub entryOccupied : List ℕ → Entry → List WireCycle
+entryOccupied s e = occupied (usesOf (entryRoute s e)) (e .size) (e .offset)
+
+-- Number 11: no two entries of one schedule occupy one wire in one cycle.
+unfoldable pub rule11At : List ℕ → ℕ → Bool
+rule11At s j =
+    all (entryCount (entriesOf s j))
+    (λ i. all i (λ k. not (meet (entryOccupied s (entryAt (entriesOf s j) i)) (entryOccupied s (entryAt (entriesOf s j) k)))))
+
+unfoldable pub rule11 : List ℕ → Bool
+rule11 s = all (schedules s) (rule11At s)
+
+-- a rule: the number of its refusal, and the test that a sheet keeps it
+pub record Rule : Type 0 where
+  pub number : ℕ
+  pub keeps : List ℕ → Bool
+
+-- the rules in checking order: those of the frame, of the circuits, and of the entries
+abbrev pub frameRules : List Rule
+frameRules =
+    record { number = 1; keeps = rule1 } ∷ record { number = 2; keeps = rule2 } ∷ record { number = 3; keeps = rule3 } ∷ []
+
+abbrev pub circuitRules : List Rule
+circuitRules =
+    record { number = 4; keeps = rule4 } ∷ record { number = 5; keeps = rule5 } ∷ record { number = 6; keeps = rule6 } ∷ []
+
+abbrev pub entryRules : List Rule
+entryRules =
+    record { number = 7; keeps = rule7 }
+    ∷ record { number = 8; keeps = rule8 }
+    ∷ record { number = 9; keeps = rule9 }
+    ∷ record { number = 10; keeps = rule10 }
+    ∷ record { number = 11; keeps = rule11 }
+    ∷ []
+
+abbrev pub sheetRules : List Rule
+sheetRules = frameRules ++ (circuitRules ++ entryRules)
+
+-- the number of the first rule of a list that a sheet does not keep, 0 where it keeps them all
+unfoldable pub firstBroken : List Rule → List ℕ → ℕ
+firstBroken [] s = 0
+firstBroken (r ∷ rules) s = elim (r .keeps s) [ true ↦ firstBroken rules s | false ↦ r .number ]
+
+-- the verdict upon a sheet: 0 where it passes, else the number of its refusal
+unfoldable pub verdict : List ℕ → ℕ
+verdict s = firstBroken sheetRules s

@@ -1,0 +1,71 @@
+-- The words of a sheet (document 01, "The sheet"). A word past the end reads as 0.
+use Prim.Native.Nat.{ℕ, zero, suc, _+_, _*_, _/_}
+use mathlib.Core.List.{List}
+use lib.ListN.{length, take, drop}
+use Rattle.words.specs.Words.{word}
+use Rattle.sheet.specs.declared.circuits.Region.{Region}
+use Rattle.sheet.specs.declared.circuits.Circuit.{Circuit}
+use Rattle.sheet.specs.declared.entries.Entry.{Entry}
+
+-- the head of five words: columns, rows, memory words per node, number of circuits, number of schedules
+abbrev pub columns : List ℕ → ℕ
+columns s = word s 0
+
+abbrev pub rows : List ℕ → ℕ
+rows s = word s 1
+
+abbrev pub memoryWords : List ℕ → ℕ
+memoryWords s = word s 2
+
+abbrev pub circuits : List ℕ → ℕ
+circuits s = word s 3
+
+abbrev pub schedules : List ℕ → ℕ
+schedules s = word s 4
+
+abbrev pub nodes : List ℕ → ℕ
+nodes s = columns s * rows s
+
+-- circuit k, six words behind the head: source, destination, read offset, read length, receive offset, receive length
+unfoldable pub circuitAt : List ℕ → ℕ → Circuit
+circuitAt s k = record {
+  read = record { node = word s (5 + 6 * k); offset = word s (5 + 6 * k + 2); size = word s (5 + 6 * k + 3) };
+  receive = record { node = word s (5 + 6 * k + 1); offset = word s (5 + 6 * k + 4); size = word s (5 + 6 * k + 5) };
+}
+
+-- a schedule, by its place in the sheet: its period, its number of entries, then four words an entry
+abbrev pub statedEntries : List ℕ → ℕ → ℕ
+statedEntries s place = word s (place + 1)
+
+-- the place of the schedule behind the one at a place
+abbrev pub nextPlace : List ℕ → ℕ → ℕ
+nextPlace s place = place + 2 + 4 * statedEntries s place
+
+-- the place of schedule j, behind the circuits
+unfoldable pub schedulePlace : List ℕ → ℕ → ℕ
+schedulePlace s zero = 5 + 6 * circuits s
+schedulePlace s (suc j) = nextPlace s (schedulePlace s j)
+
+-- the period of schedule j
+abbrev pub period : List ℕ → ℕ → ℕ
+period s j = word s (schedulePlace s j)
+
+-- the entries at a place, and those of schedule j: a part of the sheet
+abbrev pub entriesAt : List ℕ → ℕ → List ℕ
+entriesAt s place = take (4 * statedEntries s place) (drop (place + 2) s)
+
+unfoldable pub entriesOf : List ℕ → ℕ → List ℕ
+entriesOf s j = entriesAt s (schedulePlace s j)
+
+-- how many entries such a part has
+abbrev pub entryCount : List ℕ → ℕ
+entryCount entries = length entries / 4
+
+-- entry i of such a part, four words: offset, length, circuit, route
+unfoldable pub entryAt : List ℕ → ℕ → Entry
+entryAt entries i = record {
+  offset = word entries (4 * i);
+  size = word entries (4 * i + 1);
+  circuit = word entries (4 * i + 2);
+  route = word entries (4 * i + 3);
+}

@@ -1,0 +1,109 @@
+// The frame of a sheet: its head, where its schedules are, and the rules 1 to 3.
+ghost use mathlib.Core.Path.{_≡_};
+ghost use Prim.Native.Nat.{ℕ, _+_, _*_, _<_, _≤_};
+ghost use lib.ListN.{length};
+ghost use Rattle.sheet.specs.Sheet.{schedules, schedulePlace, period, entriesOf};
+ghost use Rattle.sheet.specs.Rules.{rule1, rule2, rule3};
+ghost use Rattle.sheet.specs.Passed.{Headed, Framed, Placed};
+ghost use Rattle.sheet.specs.Frame.{placeAfter};
+
+// Where a schedule may begin.
+pub enum Place {
+    At(usize),
+    Nowhere,
+}
+
+// Number 1: the sheet has its five head words.
+pub fn keeps_rule1(s: &[u32]) -> bool
+    ensures { λ r. ⌜ r ≡ rule1 (now (s .entry)) ⌝ }
+{
+    5 <= s.len()
+}
+
+// Number 2: each head number is in its range.
+pub fn keeps_rule2(s: &[u32]) -> bool
+    ensures { λ r. ⌜ r ≡ rule2 (now (s .entry)) ⌝ }
+{
+    if words::is_between(2, 4, words::get(s, 0)) {
+        if words::is_between(2, 4, words::get(s, 1)) {
+            if words::is_between(1, 16384, words::get(s, 2)) {
+                if words::is_between(0, 64, words::get(s, 3)) {
+                    return words::is_between(1, 8, words::get(s, 4));
+                }
+            }
+        }
+    }
+    false
+}
+
+// The place behind the schedule at a place, where that begins within the sheet and states few enough entries.
+fn place_after(s: &[u32], at: usize) -> Place
+    requires { ⌜ at < 65536 ⌝ }
+    ensures { λ r. ⌜ r ≡ placeAfter (now (s .entry)) at ⌝ }
+{
+    if s.len() < at + 2 {
+        return Place::Nowhere;
+    }
+    let count = words::get(s, at + 1);
+    if count > 256 {
+        return Place::Nowhere;
+    }
+    Place::At(at + 2 + 4 * (count as usize))
+}
+
+// Number 3: the schedules fill the sheet to its end. The checker calls it once the rules 1 and 2 are kept.
+pub fn keeps_rule3(s: &[u32]) -> bool
+    requires { ⌜ Headed (now s) ⌝ }
+    ensures { λ r. ⌜ r ≡ rule3 (now (s .entry)) ⌝ }
+{
+    let count = words::get(s, 4);
+    let mut at = 5 + 6 * (words::get(s, 3) as usize);
+    let mut j: u32 = 0;
+    while j < count {
+        let after = place_after(s, at);
+        match after {
+            Place::Nowhere => {
+                return false;
+            }
+            Place::At(next) => {
+                at = next;
+            }
+        }
+        j += 1;
+    }
+    at == s.len()
+}
+
+// The place of schedule j. Whoever has checked the rules 1 to 3 meets the requires, here and below.
+fn schedule_place(s: &[u32], j: u32) -> usize
+    requires { ⌜ (Framed (now s)) × (j < schedules (now s)) ⌝ }
+    ensures { λ r. ⌜ (r ≡ schedulePlace (now (s .entry)) j) × Placed (now (s .entry)) r ⌝ }
+{
+    let mut at = 5 + 6 * (words::get(s, 3) as usize);
+    let mut i: u32 = 0;
+    while i < j {
+        at = at + 2 + 4 * (words::get(s, at + 1) as usize);
+        i += 1;
+    }
+    at
+}
+
+// The period of schedule j.
+pub fn schedule_period(s: &[u32], j: u32) -> u32
+    requires { ⌜ (Framed (now s)) × (j < schedules (now s)) ⌝ }
+    ensures { λ r. ⌜ r ≡ period (now (s .entry)) j ⌝ }
+{
+    let at = schedule_place(s, j);
+    words::get(s, at)
+}
+
+// The entries of schedule j, as that part of the sheet.
+pub fn entries_of(s: &[u32], j: u32) -> &[u32]
+    requires { ⌜ (Framed (now s)) × (j < schedules (now s)) ⌝ }
+    ensures { λ r. ⌜ now r ≡ entriesOf (now (s .entry)) j ⌝ }
+{
+    let at = schedule_place(s, j);
+    let from = at + 2;
+    let to = from + 4 * (words::get(s, at + 1) as usize);
+    &s[from..to]
+}

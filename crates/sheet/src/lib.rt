@@ -1,0 +1,18 @@
+// The sheet: its parts, and the rules 1 to 8 (document 01, "The sheet", "Refusals").
+mod circuits;
+mod entries;
+mod frame;
+
+pub use circuits::Circuit;
+pub use circuits::Region;
+pub use circuits::keeps_rule4;
+pub use circuits::keeps_rule5;
+pub use circuits::keeps_rule6;
+pub use entries::Entry;
+pub use entries::keeps_rule7;
+pub use entries::keeps_rule8;
+pub use frame::entries_of;
+pub use frame::keeps_rule1;
+pub use frame::keeps_rule2;
+pub use frame::keeps_rule3;
+pub use frame::schedule_period;

@@ -1,0 +1,78 @@
+-- The line for an input, test by test.
+-- Assumes nothing.
+use Prim.Native.Nat.{ℕ, zero, suc, _+_, _*_, _<_, _≤_}
+use mathlib.Core.Bool.{Bool, true, false}
+use mathlib.Core.List.{List}
+use mathlib.Core.Path.{_≡_, refl, sym, _∙_, ap}
+use native.Mathlib.Omega.{arith}
+use lib.ListN.{length, take, replicate, length-replicate}
+use lib.Seq.{length-take-le}
+use Rattle.words.specs.Tests.{_<?_}
+use Rattle.words.specs.Words.{pick, tab}
+use Rattle.words.proofs.TestLaws.{yes<, no<}
+use Rattle.sheet.specs.Rules.{verdict}
+use Rattle.octets.specs.Octets.{wordIn}
+use Rattle.checker.specs.declared.Outcome.{Outcome}
+use Rattle.checker.specs.declared.Outcome.the-variants.{Passes as PassesOutcome, Refused as RefusedOutcome}
+use Rattle.checker.specs.Answers.{outcomeOf}
+use Rattle.sheet_check.specs.declared.Line.{Line}
+use Rattle.sheet_check.specs.declared.Line.the-variants.{Passes, Refused, TooLarge, InputEnds}
+use Rattle.sheet_check.specs.Line.{mostWords, sheetIn, verdictLine, lineOf}
+
+module _ (b : List ℕ) where
+  pub no-length : length b < 4 → InputEnds ≡ lineOf b
+  unfolding lineOf
+  no-length h =
+      sym (ap (λ (t : Bool). pick t InputEnds (pick (mostWords <? wordIn b 0) TooLarge (pick (length b <? 4 * (1 + wordIn b 0)) InputEnds (verdictLine (verdict (sheetIn b)))))) (yes< h))
+
+  module _ (h : 4 ≤ length b) (n : ℕ) (e : n ≡ wordIn b 0) where
+    has-length : pick (mostWords <? wordIn b 0) TooLarge (pick (length b <? 4 * (1 + wordIn b 0)) InputEnds (verdictLine (verdict (sheetIn b)))) ≡ lineOf b
+    unfolding lineOf
+    has-length =
+        sym (ap (λ (t : Bool). pick t InputEnds (pick (mostWords <? wordIn b 0) TooLarge (pick (length b <? 4 * (1 + wordIn b 0)) InputEnds (verdictLine (verdict (sheetIn b)))))) (no< h))
+
+    pub too-large : mostWords < n → TooLarge ≡ lineOf b
+    too-large l =
+        sym (ap (λ (t : Bool). pick t TooLarge (pick (length b <? 4 * (1 + wordIn b 0)) InputEnds (verdictLine (verdict (sheetIn b))))) (yes< (omega (arith, e, l))))
+        ∙ has-length
+
+    module _ (l : n ≤ mostWords) where
+      small : pick (length b <? 4 * (1 + wordIn b 0)) InputEnds (verdictLine (verdict (sheetIn b))) ≡ lineOf b
+      small =
+          sym (ap (λ (t : Bool). pick t TooLarge (pick (length b <? 4 * (1 + wordIn b 0)) InputEnds (verdictLine (verdict (sheetIn b))))) (no< (omega (arith, e, l))))
+          ∙ has-length
+
+      pub sheet-ends : length b < 4 * (1 + n) → InputEnds ≡ lineOf b
+      sheet-ends k = sym (ap (λ (t : Bool). pick t InputEnds (verdictLine (verdict (sheetIn b)))) (yes< (omega (arith, e, k)))) ∙ small
+
+      pub whole : 4 * (1 + n) ≤ length b → verdictLine (verdict (sheetIn b)) ≡ lineOf b
+      whole k = sym (ap (λ (t : Bool). pick t InputEnds (verdictLine (verdict (sheetIn b)))) (no< (omega (arith, e, k)))) ∙ small
+
+-- the line of a verdict, from the checker's outcome
+abbrev lined : Outcome → Line
+lined PassesOutcome = Passes
+lined (RefusedOutcome n) = Refused n
+
+lined-is : (n : ℕ) → lined (outcomeOf n) ≡ verdictLine n
+lined-is zero = refl
+lined-is (suc n) = refl
+
+module _ (b sheet : List ℕ) (n : ℕ) (l : n ≡ wordIn b 0) (q : sheet ≡ tab n (λ k. wordIn b (1 + k))) (o : Outcome) (p : o ≡ outcomeOf (verdict sheet)) where
+  judged-is : lined o ≡ verdictLine (verdict (sheetIn b))
+  judged-is =
+      ap lined p ∙ lined-is (verdict sheet)
+      ∙ ap (λ (x : List ℕ). verdictLine (verdict x)) (q ∙ ap (λ (m : ℕ). tab m (λ k. wordIn b (1 + k))) l)
+
+  pub judged-passes : o ≡ PassesOutcome → Passes ≡ verdictLine (verdict (sheetIn b))
+  judged-passes e = sym (ap lined e) ∙ judged-is
+
+  pub judged-refused : (k : ℕ) → o ≡ RefusedOutcome k → Refused k ≡ verdictLine (verdict (sheetIn b))
+  judged-refused k e = sym (ap lined e) ∙ judged-is
+
+-- the part of the words that a sheet needs
+pub part-length : (n m : ℕ) → n ≤ m → length {A = ℕ} (take n (replicate m 0)) ≡ n
+part-length n m h = length-take-le n (replicate m 0) (omega (arith, length-replicate {A = ℕ} m 0))
+
+pub part-ready : (n m : ℕ) (b : List ℕ) → n ≤ m → 4 * (1 + n) ≤ length b → n ≡ wordIn b 0
+    → (4 * (1 + length {A = ℕ} (take n (replicate m 0))) ≤ length b) × (length {A = ℕ} (take n (replicate m 0)) ≡ wordIn b 0)
+part-ready n m b h k e = (omega (arith, part-length n m h), part-length n m h ∙ e)

@@ -1,0 +1,41 @@
+use Rattle.sheet_check.proofs.LineLaws.{judged-passes, judged-refused}
+use borrow.Author.Needs.{needs}
+use Rattle.sheet_check.proofs.judged.Statement.{statement}
+use Rattle.sheet_check.proofs.judged.Tie as tie
+
+read-words-requires : tie.Need-read-words-requires
+read-words-requires c κs = search needs
+
+verdict-requires : tie.Need-verdict-requires
+verdict-requires c κs = search needs
+
+enum-told : tie.Need-enum-told
+enum-told c = search needs
+
+enum-known-outcome : tie.Need-enum-known-outcome
+enum-known-outcome c = search needs
+
+same-length : tie.Need-same-length
+same-length c = search needs
+
+returns : tie.Need-returns
+returns c = judged-passes _ _ _ (c .before .before .before .before .before .before .before .before .before .before .pre .1) (c .before .before .before .before .before .before .read-words .ensures) _ (c .before .before .verdict .ensures) (c .enum-told .given .1)
+
+same-length-2 : tie.Need-same-length-2
+same-length-2 c = search needs
+
+returns-2 : tie.Need-returns-2
+returns-2 c = judged-refused _ _ _ (c .before .before .before .before .before .before .before .before .before .before .before .pre .1) (c .before .before .before .before .before .before .before .read-words .ensures) _ (c .before .before .before .verdict .ensures) _ (c .before .outcome .given .1)
+
+pub judged-spec : {M : Type 1} → statement M
+judged-spec =
+    tie.close
+    (tie.spec
+    read-words-requires
+    verdict-requires
+    enum-told
+    enum-known-outcome
+    same-length
+    returns
+    same-length-2
+    returns-2)

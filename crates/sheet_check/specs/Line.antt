@@ -1,0 +1,29 @@
+-- The line that sheet_check prints for its input (document 01, "The key's examples", gives the messages): a word with the sheet's
+-- length, then the sheet; what follows is ignored.
+use Prim.Native.Nat.{ℕ, zero, suc, _+_, _*_}
+use mathlib.Core.List.{List}
+use lib.ListN.{length}
+use Rattle.words.specs.Tests.{_<?_}
+use Rattle.words.specs.Words.{pick, tab}
+use Rattle.sheet.specs.Rules.{verdict}
+use Rattle.octets.specs.Octets.{wordIn}
+use Rattle.sheet_check.specs.declared.Line.{Line}
+use Rattle.sheet_check.specs.declared.Line.the-variants.{Passes, Refused, TooLarge, InputEnds}
+
+-- the most words that a sheet can have: a head, 64 circuits, and 8 schedules of 256 entries
+abbrev pub mostWords : ℕ
+mostWords = 8597
+
+-- the sheet that follows its length
+abbrev pub sheetIn : List ℕ → List ℕ
+sheetIn bytes = tab (wordIn bytes 0) (λ k. wordIn bytes (1 + k))
+
+abbrev pub verdictLine : ℕ → Line
+verdictLine zero = Passes
+verdictLine (suc n) = Refused (suc n)
+
+unfoldable pub lineOf : List ℕ → Line
+lineOf bytes =
+    pick (length bytes <? 4) InputEnds
+    (pick (mostWords <? wordIn bytes 0) TooLarge
+    (pick (length bytes <? 4 * (1 + wordIn bytes 0)) InputEnds (verdictLine (verdict (sheetIn bytes)))))

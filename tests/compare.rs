@@ -1,0 +1,222 @@
+//! Compares our verdicts on circuit sheets with those of the second checker: first the
+//! library call, then the program `sheet_check`, whose path is the argument.
+
+mod second {
+    pub mod checker;
+    pub mod near_misses;
+    #[allow(dead_code)]
+    pub mod sheets;
+}
+
+use second::sheets::{largest, sheet_a, Case};
+use second::{checker, near_misses};
+use std::io::Write;
+use std::process::{Command, ExitCode, Stdio};
+
+extern "C" {
+    fn argo_verdict(sheet: *const u32, length: usize) -> u32;
+}
+
+const SHEETS_REQUIRED: usize = 6_000;
+const SHEETS_REQUIRED_OF_EACH_NUMBER: usize = 100;
+const INPUTS_REQUIRED: usize = 250;
+const MOST_SHEET_WORDS: u32 = 8_597;
+const DIFFERENCES_SHOWN: usize = 10;
+
+fn our_verdict(sheet: &[u32]) -> u32 {
+    // The pointer and the length are those of a live slice.
+    unsafe { argo_verdict(sheet.as_ptr(), sheet.len()) }
+}
+
+fn main() -> ExitCode {
+    let Some(program) = std::env::args().nth(1) else {
+        eprintln!("usage: compare PATH_OF_SHEET_CHECK");
+        return ExitCode::FAILURE;
+    };
+    let mut passed = 0;
+    let mut differences: Vec<String> = Vec::new();
+
+    let cases = near_misses::all_cases();
+    let mut sheets_by_number = [0; 12];
+    let mut numbers = Vec::new();
+    for case in &cases {
+        let second = checker::verdict(&case.words);
+        let ours = our_verdict(&case.words);
+        sheets_by_number[second as usize] += 1;
+        numbers.push(second);
+        if ours == second && case.expected.is_none_or(|expected| expected == second) {
+            passed += 1;
+        } else {
+            differences.push(format!(
+                "sheet ({}): ours {ours}, second checker {second}, made for {:?}\n  words {:?}",
+                case.name, case.expected, case.words
+            ));
+        }
+    }
+
+    let inputs = inputs(&cases, &numbers);
+    let mut inputs_by_line: Vec<(String, usize)> = Vec::new();
+    for (name, input) in &inputs {
+        let wanted = wanted_line(input);
+        match inputs_by_line.iter_mut().find(|(line, _)| *line == wanted) {
+            Some((_, count)) => *count += 1,
+            None => inputs_by_line.push((wanted.clone(), 1)),
+        }
+        let printed = run(&program, input);
+        if printed == Ok(format!("{wanted}\n")) {
+            passed += 1;
+        } else {
+            let start = &input[..input.len().min(400)];
+            differences.push(format!(
+                "input ({name}, {} bytes): printed {printed:?}, wanted {wanted:?}\n  {start:?}",
+                input.len()
+            ));
+        }
+    }
+
+    println!("number  sheets");
+    for (number, count) in sheets_by_number.iter().enumerate() {
+        println!("{number:>6}  {count:>6}");
+    }
+    println!(" total  {:>6}", cases.len());
+    println!("line of sheet_check  inputs");
+    inputs_by_line.sort();
+    for (line, count) in &inputs_by_line {
+        println!("{line:>19}  {count:>6}");
+    }
+    println!("              total  {:>6}", inputs.len());
+
+    for difference in differences.iter().take(DIFFERENCES_SHOWN) {
+        println!("{difference}");
+    }
+    let mut enough = true;
+    if cases.len() < SHEETS_REQUIRED || inputs.len() < INPUTS_REQUIRED {
+        println!("too few sheets or inputs were compared");
+        enough = false;
+    }
+    for (number, &count) in sheets_by_number.iter().enumerate() {
+        if count < SHEETS_REQUIRED_OF_EACH_NUMBER {
+            println!("too few sheets have number {number}");
+            enough = false;
+        }
+    }
+    println!("{passed} passed, {} failed", differences.len());
+    if enough && differences.is_empty() {
+        ExitCode::SUCCESS
+    } else {
+        ExitCode::FAILURE
+    }
+}
+
+/// The line that an input calls for: the stated length first, then the words, then the
+/// sheet they make. What follows the sheet does not count.
+fn wanted_line(input: &[u8]) -> String {
+    let word_at = |position: usize| {
+        let bytes = input.get(4 * position..4 * position + 4)?;
+        Some(u32::from_le_bytes(bytes.try_into().expect("four bytes")))
+    };
+    let Some(stated) = word_at(0) else {
+        return "input ends".to_string();
+    };
+    if stated > MOST_SHEET_WORDS {
+        return "too large".to_string();
+    }
+    let sheet: Option<Vec<u32>> = (1..=stated as usize).map(word_at).collect();
+    match sheet.map(|words| checker::verdict(&words)) {
+        None => "input ends".to_string(),
+        Some(0) => "passes".to_string(),
+        Some(number) => format!("refused {number}"),
+    }
+}
+
+/// What the program prints, or why it could not be run to its end.
+fn run(program: &str, input: &[u8]) -> Result<String, String> {
+    let mut child = Command::new(program)
+        .stdin(Stdio::piped())
+        .stdout(Stdio::piped())
+        .spawn()
+        .map_err(|error| error.to_string())?;
+    // The program may end before it has read all; a broken pipe is then no fault of it.
+    let _ = child.stdin.take().expect("a pipe").write_all(input);
+    let output = child.wait_with_output().map_err(|error| error.to_string())?;
+    if output.status.code().is_none() {
+        return Err(format!("{}", output.status));
+    }
+    String::from_utf8(output.stdout).map_err(|error| error.to_string())
+}
+
+fn bytes_of(words: &[u32]) -> Vec<u8> {
+    words.iter().flat_map(|word| word.to_le_bytes()).collect()
+}
+
+/// The stated length, then the words.
+fn input_of(stated: u32, words: &[u32]) -> Vec<u8> {
+    [bytes_of(&[stated]), bytes_of(words)].concat()
+}
+
+fn inputs(cases: &[Case], numbers: &[u32]) -> Vec<(&'static str, Vec<u8>)> {
+    let mut list: Vec<(&'static str, Vec<u8>)> = Vec::new();
+
+    // Sheets of every number, spread over all those compared.
+    for number in 0..12 {
+        let of_number: Vec<&Case> = cases
+            .iter()
+            .zip(numbers)
+            .filter(|&(case, &found)| found == number && case.words.len() <= 8_597)
+            .map(|(case, _)| case)
+            .collect();
+        let step = of_number.len().div_ceil(14).max(1);
+        for case in of_number.iter().step_by(step) {
+            list.push(("generated sheet", input_of(case.words.len() as u32, &case.words)));
+        }
+    }
+
+    // Sheet A cut after every byte.
+    let small = sheet_a().words();
+    let whole = input_of(small.len() as u32, &small);
+    for length in 0..=whole.len() {
+        list.push(("sheet A cut", whole[..length].to_vec()));
+    }
+    for byte in [1, 255] {
+        for length in 1..4 {
+            list.push(("less than a word", vec![byte; length]));
+        }
+    }
+
+    // Bytes behind the sheet.
+    for tail in [vec![0], vec![255; 2], vec![1; 3], vec![0; 4], vec![255; 5], whole.clone()] {
+        list.push(("bytes behind sheet A", [whole.clone(), tail].concat()));
+    }
+    list.push(("many bytes behind sheet A", [whole.clone(), vec![7; 100_000]].concat()));
+
+    // A stated length that is not that of the words.
+    for stated in 0..small.len() as u32 {
+        list.push(("fewer words stated", input_of(stated, &small)));
+    }
+    for stated in [18, 19, 100, 8_596, 8_597] {
+        list.push(("more words stated", input_of(stated, &small)));
+    }
+    for stated in [8_598, 8_599, 1 << 16, 1 << 30, (1 << 30) + 17, 1 << 31, u32::MAX - 1, u32::MAX]
+    {
+        list.push(("too many words stated, none there", input_of(stated, &[])));
+        list.push(("too many words stated, sheet A there", input_of(stated, &small)));
+        let mut cut = input_of(stated, &small);
+        cut.truncate(7);
+        list.push(("too many words stated, input cut", cut));
+    }
+
+    // Around the largest sheet.
+    let large = largest(1).words();
+    let whole = input_of(8_597, &large);
+    list.push(("largest sheet", whole.clone()));
+    list.push(("largest sheet and bytes behind", [whole.clone(), vec![1; 9]].concat()));
+    for missing in [1, 2, 3, 4, 5, 4_000] {
+        list.push(("largest sheet cut", whole[..whole.len() - missing].to_vec()));
+    }
+    list.push(("largest sheet, a word less stated", input_of(8_596, &large)));
+    let longer = [large.clone(), vec![0]].concat();
+    list.push(("largest sheet, a word more", input_of(8_598, &longer)));
+    list.push(("as many zeros", input_of(8_597, &vec![0; 8_597])));
+    list.push(("as many words of ones", input_of(8_597, &vec![u32::MAX; 8_597])));
+    list
+}

@@ -1,0 +1,65 @@
+//! Holds the second checker against the examples of document 01, against what each sheet
+//! was made for, and against the checker written for speed. It needs no library of ours.
+
+#[path = "../bench/linear.rs"]
+mod linear;
+mod second {
+    pub mod checker;
+    pub mod near_misses;
+    pub mod sheets;
+}
+
+use second::{checker, near_misses, sheets};
+use std::process::ExitCode;
+
+fn main() -> ExitCode {
+    let mut passed = 0;
+    let mut failed = 0;
+    let mut sheets_by_number = [0; 12];
+    let cases = near_misses::all_cases();
+    for case in &cases {
+        let plain = checker::verdict(&case.words);
+        let fast = linear::verdict(&case.words);
+        sheets_by_number[plain as usize] += 1;
+        if plain == fast && case.expected.is_none_or(|expected| expected == plain) {
+            passed += 1;
+        } else {
+            failed += 1;
+            if failed <= 10 {
+                println!("{}: plain {plain}, fast {fast}, expected {:?}", case.name, case.expected);
+                println!("  {:?}", case.words);
+            }
+        }
+    }
+
+    // The sheets that are timed have to be of the stated sizes.
+    let largest = sheets::largest(1).words();
+    let middle = sheets::middle(1);
+    let middle_is_right = middle.nodes() == 16
+        && middle.circuits.len() == 30
+        && middle.schedules.len() == 3
+        && middle.schedules.iter().all(|schedule| schedule.entries.len() == 40);
+    for right in [
+        largest.len() == 8_597,
+        checker::verdict(&largest) == 0,
+        middle_is_right,
+        checker::verdict(&middle.words()) == 0,
+    ] {
+        if right {
+            passed += 1;
+        } else {
+            failed += 1;
+        }
+    }
+
+    println!("number  sheets");
+    for (number, count) in sheets_by_number.iter().enumerate() {
+        println!("{number:>6}  {count:>6}");
+    }
+    println!("{passed} passed, {failed} failed");
+    if failed == 0 {
+        ExitCode::SUCCESS
+    } else {
+        ExitCode::FAILURE
+    }
+}
