@@ -1,5 +1,6 @@
-//! A checker of circuit sheets written for speed, against which ours is timed: a pass
-//! over the circuits, a pass over the entries, and a table of the wires in use. No heap.
+//! A checker of circuit sheets, linear in the sheet and in the wires' use, against which ours is timed: a pass over the
+//! circuits, a pass over the entries, and a table of the wires in use. No heap. The table is a parameter: bytes one at a
+//! time, as one writes it first, or tuned, sixteen bytes at once.
 
 use std::cell::RefCell;
 
@@ -11,22 +12,101 @@ const SOURCE: usize = 4;
 const MEMORY: usize = 5;
 /// By document 01, number 10 the last cycle of any wire is P + 5.
 const CYCLES_BEYOND_PERIOD: usize = 6;
-/// A slot is tested and marked as sixteen bytes at once, so the last row has room behind it.
 const WIDEST_SLOT: usize = 16;
-const TABLE_BYTES: usize =
-    MOST_NODES * WIRES_PER_NODE * (1_024 + CYCLES_BEYOND_PERIOD) + WIDEST_SLOT;
+/// A slot may be taken as sixteen bytes at once, so the last row has room behind it.
+const TABLE_BYTES: usize = MOST_NODES * WIRES_PER_NODE * (1_024 + CYCLES_BEYOND_PERIOD) + WIDEST_SLOT;
+
+thread_local! {
+    static OCCUPIED: RefCell<[u8; TABLE_BYTES]> = const { RefCell::new([0; TABLE_BYTES]) };
+}
+
+/// How a table of wires and cycles is cleared, and how a slot is tested and taken in it.
+trait Table {
+    /// Before the first schedule, with the longest period.
+    fn open(bytes: &mut [u8; TABLE_BYTES], wires: usize, longest_period: u32) -> Self;
+    /// Before each schedule.
+    fn begin(&mut self, bytes: &mut [u8; TABLE_BYTES], schedule: u32, period: u32);
+    /// Bytes from a wire to the next.
+    fn row_bytes(&self) -> usize;
+    /// Takes a slot; whether it was free.
+    fn take(&self, bytes: &mut [u8; TABLE_BYTES], start: usize, length: usize) -> bool;
+}
+
+/// A byte at a time, cleared for each schedule.
+struct Plain {
+    wires: usize,
+    row_bytes: usize,
+}
+
+impl Table for Plain {
+    fn open(_: &mut [u8; TABLE_BYTES], wires: usize, _: u32) -> Plain {
+        Plain { wires, row_bytes: 0 }
+    }
+
+    fn begin(&mut self, bytes: &mut [u8; TABLE_BYTES], _: u32, period: u32) {
+        self.row_bytes = period as usize + CYCLES_BEYOND_PERIOD;
+        bytes[..self.wires * self.row_bytes].fill(0);
+    }
+
+    fn row_bytes(&self) -> usize {
+        self.row_bytes
+    }
+
+    fn take(&self, bytes: &mut [u8; TABLE_BYTES], start: usize, length: usize) -> bool {
+        let slot = &mut bytes[start..start + length];
+        let free = slot.iter().all(|&byte| byte == 0);
+        slot.fill(1);
+        free
+    }
+}
+
+/// Sixteen bytes at once. Schedule s marks bit s: there are at most eight, so one clearing serves the whole sheet.
+struct Tuned {
+    row_bytes: usize,
+    schedule: u32,
+}
+
+impl Table for Tuned {
+    fn open(bytes: &mut [u8; TABLE_BYTES], wires: usize, longest_period: u32) -> Tuned {
+        let row_bytes = longest_period as usize + CYCLES_BEYOND_PERIOD;
+        bytes[..wires * row_bytes + WIDEST_SLOT].fill(0);
+        Tuned { row_bytes, schedule: 0 }
+    }
+
+    fn begin(&mut self, _: &mut [u8; TABLE_BYTES], schedule: u32, _: u32) {
+        self.schedule = schedule;
+    }
+
+    fn row_bytes(&self) -> usize {
+        self.row_bytes
+    }
+
+    fn take(&self, bytes: &mut [u8; TABLE_BYTES], start: usize, length: usize) -> bool {
+        let ones = u128::MAX / 255;
+        let mark = ones >> (128 - 8 * length) << self.schedule;
+        let Some(slot) = bytes[start..].first_chunk_mut::<WIDEST_SLOT>() else {
+            unreachable!("number 10 keeps every slot within the table")
+        };
+        let present = u128::from_le_bytes(*slot);
+        *slot = (present | mark).to_le_bytes();
+        present & mark == 0
+    }
+}
 
 /// Larger than every number of a refusal.
 const NOTHING_FOUND: u32 = 12;
 
-thread_local! {
-    /// A byte for each wire and cycle. Schedule s marks bit s of it: there are at most
-    /// eight, so one clearing serves the whole sheet.
-    static OCCUPIED: RefCell<[u8; TABLE_BYTES]> = const { RefCell::new([0; TABLE_BYTES]) };
-}
-
 /// 0 when the sheet passes, else the first of the numbers 1 to 11 that applies.
 pub fn verdict(sheet: &[u32]) -> u32 {
+    verdict_with::<Plain>(sheet)
+}
+
+/// The same with the tuned table.
+pub fn tuned_verdict(sheet: &[u32]) -> u32 {
+    verdict_with::<Tuned>(sheet)
+}
+
+fn verdict_with<T: Table>(sheet: &[u32]) -> u32 {
     let &[columns, rows, memory_words, circuit_count, schedule_count, ref body @ ..] = sheet else {
         return 1;
     };
@@ -39,8 +119,7 @@ pub fn verdict(sheet: &[u32]) -> u32 {
         return 2;
     }
 
-    let Some((circuit_words, schedule_words)) = body.split_at_checked(6 * circuit_count as usize)
-    else {
+    let Some((circuit_words, schedule_words)) = body.split_at_checked(6 * circuit_count as usize) else {
         return 3;
     };
     let mut rest = schedule_words;
@@ -71,7 +150,7 @@ pub fn verdict(sheet: &[u32]) -> u32 {
         return 7;
     }
     OCCUPIED.with_borrow_mut(|occupied| {
-        schedules_verdict(columns, rows, circuits, schedule_words, longest_period, occupied)
+        schedules_verdict::<T>(columns, rows, circuits, schedule_words, longest_period, occupied)
     })
 }
 
@@ -81,8 +160,7 @@ fn circuits_verdict(columns: u32, rows: u32, memory_words: u32, circuits: &[[u32
     let memory_words = u64::from(memory_words);
     let mut ascending = true;
     let mut previous = None;
-    for &[source, destination, read_offset, read_length, receive_offset, receive_length] in circuits
-    {
+    for &[source, destination, read_offset, read_length, receive_offset, receive_length] in circuits {
         if source >= nodes
             || destination >= nodes
             || source == destination
@@ -137,7 +215,7 @@ fn distance(columns: u32, rows: u32, source: u32, destination: u32) -> u32 {
 
 /// Numbers 7 to 11, or 0. One pass over all entries: once a number is found, only what
 /// would give a lower one is still tested.
-fn schedules_verdict(
+fn schedules_verdict<T: Table>(
     columns: u32,
     rows: u32,
     circuits: &[[u32; 6]],
@@ -150,19 +228,14 @@ fn schedules_verdict(
     for node in 0..columns * rows {
         let (row, column) = (node / columns, node % columns);
         let at = |row: u32, column: u32| (row % rows * columns + column % columns) as u8;
-        neighbours[node as usize] = [
-            at(row + rows - 1, column),
-            at(row, column + 1),
-            at(row + 1, column),
-            at(row, column + columns - 1),
-        ];
+        neighbours[node as usize] =
+            [at(row + rows - 1, column), at(row, column + 1), at(row + 1, column), at(row, column + columns - 1)];
     }
     let mut distances = [0u32; MOST_CIRCUITS];
     for (steps, circuit) in distances.iter_mut().zip(circuits) {
         *steps = distance(columns, rows, circuit[0], circuit[1]);
     }
-    let row_bytes = longest_period as usize + CYCLES_BEYOND_PERIOD;
-    occupied[..nodes * WIRES_PER_NODE * row_bytes + WIDEST_SLOT].fill(0);
+    let mut table = T::open(occupied, nodes * WIRES_PER_NODE, longest_period);
 
     let mut found = NOTHING_FOUND;
     let mut schedule = 0;
@@ -173,13 +246,11 @@ fn schedules_verdict(
         if !(9..=1_024).contains(&period) {
             return 7;
         }
+        table.begin(occupied, schedule, period);
+        let row_bytes = table.row_bytes();
         let mut previous = -1;
         for &[offset, length, circuit, route] in entry_words.as_chunks::<4>().0 {
-            if offset >= period
-                || !(2..=16).contains(&length)
-                || circuit as usize >= circuits.len()
-                || route > 65_535
-            {
+            if offset >= period || !(2..=16).contains(&length) || circuit as usize >= circuits.len() || route > 65_535 {
                 return 7;
             }
 
@@ -227,17 +298,10 @@ fn schedules_verdict(
             }
 
             starts[hops + 1] = (node * WIRES_PER_NODE + MEMORY) * row_bytes + cycle + 3;
-            let ones = u128::MAX / 255;
-            let mark = ones >> (128 - 8 * length) << schedule;
             for &start in &starts[..hops + 2] {
-                let Some(slot) = occupied[start..].first_chunk_mut::<WIDEST_SLOT>() else {
-                    unreachable!("number 10 keeps every slot within the table")
-                };
-                let bytes = u128::from_le_bytes(*slot);
-                if bytes & mark != 0 {
+                if !table.take(occupied, start, length) {
                     found = 11;
                 }
-                *slot = (bytes | mark).to_le_bytes();
             }
         }
         schedule += 1;

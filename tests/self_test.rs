@@ -20,13 +20,14 @@ fn main() -> ExitCode {
     for case in &cases {
         let plain = checker::verdict(&case.words);
         let fast = linear::verdict(&case.words);
+        let tuned = linear::tuned_verdict(&case.words);
         sheets_by_number[plain as usize] += 1;
-        if plain == fast && case.expected.is_none_or(|expected| expected == plain) {
+        if plain == fast && plain == tuned && case.expected.is_none_or(|expected| expected == plain) {
             passed += 1;
         } else {
             failed += 1;
             if failed <= 10 {
-                println!("{}: plain {plain}, fast {fast}, expected {:?}", case.name, case.expected);
+                println!("{}: {plain}, linear {fast}, tuned {tuned}, expected {:?}", case.name, case.expected);
                 println!("  {:?}", case.words);
             }
         }

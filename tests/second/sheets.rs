@@ -91,13 +91,8 @@ impl Plan {
     }
 
     pub fn words(&self) -> Vec<u32> {
-        let mut words = vec![
-            self.columns,
-            self.rows,
-            self.memory_words,
-            self.circuits.len() as u32,
-            self.schedules.len() as u32,
-        ];
+        let mut words =
+            vec![self.columns, self.rows, self.memory_words, self.circuits.len() as u32, self.schedules.len() as u32];
         for circuit in &self.circuits {
             words.extend([
                 circuit.source,
@@ -197,13 +192,9 @@ fn runs_in_ring(forward: u32, ring: u32, forward_side: u32, backward_side: u32) 
 type Runs = Vec<(u32, u32)>;
 
 pub fn shortest_runs(plan: &Plan, source: u32, destination: u32) -> (Runs, Runs) {
-    let column_steps =
-        (destination % plan.columns + plan.columns - source % plan.columns) % plan.columns;
+    let column_steps = (destination % plan.columns + plan.columns - source % plan.columns) % plan.columns;
     let row_steps = (destination / plan.columns + plan.rows - source / plan.columns) % plan.rows;
-    (
-        runs_in_ring(column_steps, plan.columns, EAST, WEST),
-        runs_in_ring(row_steps, plan.rows, SOUTH, NORTH),
-    )
+    (runs_in_ring(column_steps, plan.columns, EAST, WEST), runs_in_ring(row_steps, plan.rows, SOUTH, NORTH))
 }
 
 /// One shortest path, as the sides to leave by, any of them possible.
@@ -367,12 +358,7 @@ pub struct Wish {
 }
 
 /// A region within memory: random, at either end, or touching another one.
-fn some_region(
-    random: &mut Random,
-    memory_words: u32,
-    longest: u32,
-    others: &[(u32, u32)],
-) -> (u32, u32) {
+fn some_region(random: &mut Random, memory_words: u32, longest: u32, others: &[(u32, u32)]) -> (u32, u32) {
     let length = random.between(1, longest.min(memory_words));
     let last_offset = memory_words - length;
     let offset = match random.between(0, 5) {
@@ -421,14 +407,7 @@ fn add_circuits(random: &mut Random, plan: &mut Plan, wish: &Wish) {
         {
             continue;
         }
-        plan.circuits.push(Circuit {
-            source,
-            destination,
-            read_offset,
-            read_length,
-            receive_offset,
-            receive_length,
-        });
+        plan.circuits.push(Circuit { source, destination, read_offset, read_length, receive_offset, receive_length });
     }
     plan.sort_circuits();
 }
@@ -438,13 +417,7 @@ pub fn last_offset(period: u32, length: u32, hops: u32) -> Option<u32> {
     (period + 2).checked_sub(length - 1 + 3 * hops)
 }
 
-fn some_schedule(
-    random: &mut Random,
-    plan: &Plan,
-    period: u32,
-    aim: u32,
-    length: Option<u32>,
-) -> Schedule {
+fn some_schedule(random: &mut Random, plan: &Plan, period: u32, aim: u32, length: Option<u32>) -> Schedule {
     let mut schedule = Schedule { period, entries: Vec::new() };
     if plan.circuits.is_empty() {
         return schedule;
@@ -484,12 +457,7 @@ fn some_schedule(
         let list = uses(plan, source, &path, offset);
         if occupied.free(&list, length) {
             occupied.mark(&list, length);
-            schedule.entries.push(Entry {
-                offset,
-                length,
-                circuit: circuit as u32,
-                route: route_of(&path),
-            });
+            schedule.entries.push(Entry { offset, length, circuit: circuit as u32, route: route_of(&path) });
         }
     }
     schedule.sort_entries();
@@ -601,13 +569,7 @@ pub fn passing_plans() -> Vec<Plan> {
 pub fn largest(seed: u64) -> Plan {
     let mut random = Random::new(seed);
     let region = 2_048;
-    let mut plan = Plan {
-        columns: 4,
-        rows: 4,
-        memory_words: 8 * region,
-        circuits: Vec::new(),
-        schedules: Vec::new(),
-    };
+    let mut plan = Plan { columns: 4, rows: 4, memory_words: 8 * region, circuits: Vec::new(), schedules: Vec::new() };
     for destination in 0..16 {
         let source = (destination / 4 + 2) % 4 * 4 + (destination % 4 + 2) % 4;
         for number in 0..4 {
@@ -693,9 +655,7 @@ pub fn middle(seed: u64) -> Plan {
             length: None,
         };
         let plan = passing_plan(&mut random, &wish);
-        if plan.circuits.len() == 30
-            && plan.schedules.iter().all(|schedule| schedule.entries.len() == 40)
-        {
+        if plan.circuits.len() == 30 && plan.schedules.iter().all(|schedule| schedule.entries.len() == 40) {
             return plan;
         }
     }
@@ -715,10 +675,7 @@ pub fn sheet_a() -> Plan {
             receive_offset: 0,
             receive_length: 4,
         }],
-        schedules: vec![Schedule {
-            period: 9,
-            entries: vec![Entry { offset: 0, length: 3, circuit: 0, route: 13 }],
-        }],
+        schedules: vec![Schedule { period: 9, entries: vec![Entry { offset: 0, length: 3, circuit: 0, route: 13 }] }],
     }
 }
 
@@ -730,10 +687,8 @@ fn two_circuits(offset: u32) -> Plan {
         Circuit { source: 0, destination: 3, receive_offset: 0, ..first },
         Circuit { source: 1, destination: 3, receive_offset: 4, ..first },
     ];
-    plan.schedules[0].entries = vec![
-        Entry { offset: 0, length: 2, circuit: 0, route: 9 },
-        Entry { offset, length: 2, circuit: 1, route: 2 },
-    ];
+    plan.schedules[0].entries =
+        vec![Entry { offset: 0, length: 2, circuit: 0, route: 9 }, Entry { offset, length: 2, circuit: 1, route: 2 }];
     plan
 }
 

@@ -53,8 +53,9 @@ fn schedules_number(s: &[u32]) -> u32
 {
     if sheet::keeps_rule7(s) {
         if sheet::keeps_rule8(s) {
-            if routes::keeps_rule9(s) {
-                if routes::keeps_rule10(s) {
+            let distances = routes::circuit_distances(s);
+            if routes::keeps_rule9(s, &distances) {
+                if routes::keeps_rule10(s, &distances) {
                     if clash::keeps_rule11(s) {
                         return 0;
                     }

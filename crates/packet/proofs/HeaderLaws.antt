@@ -36,6 +36,10 @@ built-fits kind address route e = go (partsFit kind address route) refl e
         record { kind-fits = is< _ _ (and-left _ _ h); address-fits = is< _ _ (and-left _ _ h₁); route-fits = is< _ _ (and-right _ _ h₁) }
     go false h q = absurd (let z : ⊥ = omega arith in z)
 
+-- so a header that was built gives its parts back
+pub built-gives-back : (kind address route : ℕ) → headerNumber kind address route ≡ 0 → GivenBack kind address route
+built-gives-back kind address route e = given-back kind address route (built-fits kind address route e)
+
 -- the answer where a part is too wide, and where none is
 module _ (kind address route : ℕ) where
   abbrev Answer : Built → Type 0

@@ -7,6 +7,7 @@ use mathlib.Core.Path.{_≡_, refl, sym, _∙_, ap, ap₂, subst}
 use native.Mathlib.Omega.{arith}
 use native.Mathlib.Nat.{mul-le-mul}
 use Rattle.words.specs.Tests.{_and_, _≤?_, _<?_}
+use Rattle.words.specs.Words.{word}
 use Rattle.words.proofs.TestLaws.{and-no, and-on, or-yes, or-on, or-skip, yes≤, no≤, yes<, no<, yes=, no=, yes≠, no≠}
 use Rattle.sheet.specs.declared.circuits.Region.{Region}
 use Rattle.sheet.specs.declared.circuits.Circuit.{Circuit}
@@ -21,6 +22,24 @@ nodes-few s h a b p q =
     let wide : a ≤ 4 = omega arith in
     let high : b ≤ 4 = omega arith in
     mul-le-mul wide high
+
+-- a circuit, from its six words
+pub circuit-is : (s : List ℕ) (k : ℕ) {source readOffset readSize destination receiveOffset receiveSize : ℕ}
+    → source ≡ word s (5 + 6 * k) → readOffset ≡ word s (5 + 6 * k + 2) → readSize ≡ word s (5 + 6 * k + 3)
+    → destination ≡ word s (5 + 6 * k + 1) → receiveOffset ≡ word s (5 + 6 * k + 4) → receiveSize ≡ word s (5 + 6 * k + 5)
+    → _≡_ {A = Circuit}
+    record {
+      read = record { node = source; offset = readOffset; size = readSize };
+      receive = record { node = destination; offset = receiveOffset; size = receiveSize };
+    }
+    (circuitAt s k)
+unfolding circuitAt
+circuit-is s k p q r t u v = cc
+
+-- number 4 at a circuit, in terms of what was read
+pub fits-read : (s : List ℕ) (k n m : ℕ) (c : Circuit) {w v : Bool} → n ≡ nodes s → m ≡ memoryWords s → c ≡ circuitAt s k
+    → w ≡ circuitFits n m c → w ≡ v → circuitFits (nodes s) (memoryWords s) (circuitAt s k) ≡ v
+fits-read s k n m c p q r e f = cc
 
 -- both nodes are in the grid and differ, and the regions decide
 pub circuit-rest : (count memory : ℕ) (c : Circuit) {v : Bool} → c .read .node < count → c .receive .node < count
@@ -38,6 +57,11 @@ ordered-second a b c d e = or-on (no< (omega arith)) (and-on (yes= e) refl)
 pub ordered-no : (a b c d : ℕ) → c < a → false ≡ precedes a b c d
 unfolding precedes
 ordered-no a b c d h = or-on (no< (omega arith)) (and-no _ (no= (λ e. omega (arith, e))))
+
+-- the regions are at different nodes
+pub apart-nodes : (a b : Region) → (a .node ≡ b .node → ⊥) → true ≡ apart a b
+unfolding apart
+apart-nodes a b ne = or-yes _ (yes≠ ne)
 
 -- the first region ends before the second begins
 pub apart-first : (a b : Region) → a .offset + a .size ≤ b .offset → true ≡ apart a b
@@ -74,6 +98,17 @@ module _ (s : List ℕ) (j k : ℕ) (own : Region) (other : Circuit)
   pub pair-no : {w : Bool} → (j ≡ k → ⊥) → w ≡ false → w ≡ apart own (other .receive) → false ≡ receiveApart s j k
   unfolding receiveApart
   pair-no ne e f = and-no _ (sym (or-on (no= ne) (sym e ∙ f ∙ receive-is)))
+
+-- a pair of circuits of rule 6, of which the second has no node in common with the first one's receive region
+pub pair-nodes : (s : List ℕ) (j k : ℕ) (own : Region) (source destination : ℕ) → own ≡ circuitAt s j .receive
+    → source ≡ circuitAt s k .read .node → destination ≡ circuitAt s k .receive .node
+    → (source ≡ own .node → ⊥) → (destination ≡ own .node → ⊥) → true ≡ receiveApart s j k
+unfolding receiveApart
+pair-nodes s j k own source destination p q r a b =
+    let same = ap (λ (x : Region). x .node) p in
+    and-on
+    (sym (or-skip _ (apart-nodes _ _ (λ e. b (r ∙ sym e ∙ sym same)))))
+    (apart-nodes _ _ (λ e. a (q ∙ sym e ∙ sym same)))
 
 -- the regions of a circuit end so low that no sum wraps
 module _ (s : List ℕ) (f : Framed s) (r : rule4 s ≡ true) (k : ℕ) (h : k < circuits s) where

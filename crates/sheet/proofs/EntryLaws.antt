@@ -9,6 +9,7 @@ use Rattle.words.proofs.TestLaws.{and-no, and-on, yes<}
 use Rattle.sheet.specs.declared.entries.Entry.{Entry}
 use Rattle.sheet.specs.Sheet.{circuits, period, entriesOf, entryCount, entryAt}
 use Rattle.sheet.specs.Rules.{eachEntry, entryFits, rule7At, entryPrecedes, rule8At}
+use Rattle.sheet.proofs.FrameLaws.{range-read}
 
 -- all but the route is in its range, and the route decides
 pub entry-rest : (count P : ℕ) (e : Entry) → e .offset < P → between 2 16 (e .size) ≡ true → e .circuit < count
@@ -18,13 +19,10 @@ entry-rest count P e a b c = and-on (yes< a) (and-on b (and-on (yes< c) refl))
 
 -- rule 7 at one schedule, in terms of the period and the entries that were read
 module _ (s : List ℕ) (j P : ℕ) (p : P ≡ period s j) where
-  range-is : {w : Bool} → w ≡ between 9 1024 P → {v : Bool} → w ≡ v → between 9 1024 (period s j) ≡ v
-  range-is e f = ap (between 9 1024) (sym p) ∙ sym e ∙ f
-
   -- the period is out of its range
   pub schedule-no : {w : Bool} → w ≡ between 9 1024 P → w ≡ false → false ≡ rule7At s j
   unfolding rule7At
-  schedule-no e f = and-no _ (range-is e f)
+  schedule-no e f = and-no _ (range-read 9 1024 p e f)
 
   -- the period is in its range, and the entries decide
   pub schedule-rest : (entries : List ℕ) (count : ℕ) {w v : Bool} → w ≡ between 9 1024 P → w ≡ true
@@ -32,7 +30,7 @@ module _ (s : List ℕ) (j P : ℕ) (p : P ≡ period s j) where
       → v ≡ all (entryCount entries) (λ i. entryFits count P (entryAt entries i)) → v ≡ rule7At s j
   unfolding rule7At eachEntry
   schedule-rest entries count e f q r g =
-      and-on (range-is e f) (g ∙ parts)
+      and-on (range-read 9 1024 p e f) (g ∙ parts)
     where
       parts : all (entryCount entries) (λ i. entryFits count P (entryAt entries i))
           ≡ all (entryCount (entriesOf s j)) (λ i. entryFits (circuits s) (period s j) (entryAt (entriesOf s j) i))

@@ -9,7 +9,7 @@ use native.Mathlib.Numerals.{add-one}
 use native.Mathlib.Decide.{ℕ-discrete}
 use native.Mathlib.Nat.{add-sub-cancel-left}
 use lib.ListN.{length, take, drop}
-use Rattle.words.specs.Tests.{_and_, _≤?_, _=?_}
+use Rattle.words.specs.Tests.{between, _and_, _≤?_, _=?_}
 use Rattle.words.specs.Words.{word, pick}
 use Rattle.words.proofs.TestLaws.{and-no, and-skip, and-both, and-left, and-right, yes≤, no≤, is≤, is=}
 use Rattle.words.proofs.AllLaws.{all-at}
@@ -19,6 +19,10 @@ use Rattle.sheet.specs.Sheet.{circuits, schedules, statedEntries, schedu
 use Rattle.sheet.specs.Frame.{placeAfter}
 use Rattle.sheet.specs.Rules.{scheduleFits, rule3}
 use Rattle.sheet.specs.Passed.{Placed}
+
+-- the range test of a number, in terms of the number that was read
+pub range-read : (low high : ℕ) {x y : ℕ} {w v : Bool} → x ≡ y → w ≡ between low high x → w ≡ v → between low high y ≡ v
+range-read low high p e f = ap (between low high) (sym p) ∙ sym e ∙ f
 
 -- the answer of `place_after`, from the facts in numbers
 module _ (s : List ℕ) (at : ℕ) where

@@ -148,9 +148,8 @@ pub fn keeps_rule5(s: &[u32]) -> bool
     true
 }
 
-// Number 6 at circuit j's receive region and circuit k: apart from k's read region, and from its receive region where k is
-// another circuit.
-fn pair_apart(s: &[u32], receive: Region, j: u32, k: u32) -> bool
+// Number 6 at circuit j's receive region and circuit k: apart from k's read region, and from another k's receive region.
+fn pair_apart_by_regions(s: &[u32], receive: Region, j: u32, k: u32) -> bool
     requires { ⌜ (Framed (now s)) × (rule4 (now s) ≡ true) × (j < circuits (now s)) × (k < circuits (now s)) × (receive ≡ circuitAt (now s) j .receive) ⌝ }
     ensures { λ r. ⌜ r ≡ receiveApart (now (s .entry)) j k ⌝ }
 {
@@ -164,6 +163,21 @@ fn pair_apart(s: &[u32], receive: Region, j: u32, k: u32) -> bool
         return receive.is_apart(read);
     }
     false
+}
+
+// The same, first by the nodes: most pairs have none in common, which circuit k's first two words tell.
+fn pair_apart(s: &[u32], receive: Region, j: u32, k: u32) -> bool
+    requires { ⌜ (Framed (now s)) × (rule4 (now s) ≡ true) × (j < circuits (now s)) × (k < circuits (now s)) × (receive ≡ circuitAt (now s) j .receive) ⌝ }
+    ensures { λ r. ⌜ r ≡ receiveApart (now (s .entry)) j k ⌝ }
+{
+    let at = 5 + 6 * (k as usize);
+    if words::get(s, at) == receive.node {
+        return pair_apart_by_regions(s, receive, j, k);
+    }
+    if words::get(s, at + 1) == receive.node {
+        return pair_apart_by_regions(s, receive, j, k);
+    }
+    true
 }
 
 // Number 6 at circuit j's receive region.

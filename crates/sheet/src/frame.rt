@@ -104,6 +104,6 @@ pub fn entries_of(s: &[u32], j: u32) -> &[u32]
 {
     let at = schedule_place(s, j);
     let from = at + 2;
-    let to = from + 4 * (words::get(s, at + 1) as usize);
+    let to = at + 2 + 4 * (words::get(s, at + 1) as usize);
     &s[from..to]
 }

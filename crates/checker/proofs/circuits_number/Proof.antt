@@ -1,3 +1,6 @@
+-- `checker::circuits_number` meets its contract: Numbers 4 to 6: each test decides where those before it are passed.
+-- Assumes nothing.
+use mathlib.Core.Path.{_≡_, sym, _∙_}
 use mathlib.Core.Path.{sym, _∙_}
 use Rattle.sheet.proofs.VerdictLaws.{here, on, done}
 use borrow.Author.Needs.{needs}
@@ -14,16 +17,16 @@ keeps-rule6-requires : tie.Need-keeps-rule6-requires
 keeps-rule6-requires c κs = (c .before .before .before .before .before .pre, sym (c .before .before .before .keeps-rule4 .ensures) ∙ c .before .before .if1 .taken)
 
 returns : tie.Need-returns
-returns c = on _ _ _ (cc) (on _ _ _ (cc) (on _ _ _ (cc) (done _)))
+returns c = on _ _ _ (sym (c .before .before .before .before .before .keeps-rule4 .ensures) ∙ c .before .before .before .before .if1 .taken) (on _ _ _ (sym (c .before .before .before .keeps-rule5 .ensures) ∙ c .before .before .if2 .taken) (on _ _ _ (sym (c .before .keeps-rule6 .ensures) ∙ c .if3 .taken) (done _)))
 
 returns-2 : tie.Need-returns-2
-returns-2 c = on _ _ _ (cc) (on _ _ _ (cc) (here _ _ _ (cc)))
+returns-2 c = on _ _ _ (sym (c .before .before .before .before .before .keeps-rule4 .ensures) ∙ c .before .before .before .before .if1 .taken) (on _ _ _ (sym (c .before .before .before .keeps-rule5 .ensures) ∙ c .before .before .if2 .taken) (here _ _ _ (sym (c .before .keeps-rule6 .ensures) ∙ c .if3 .left)))
 
 returns-3 : tie.Need-returns-3
-returns-3 c = on _ _ _ (cc) (here _ _ _ (cc))
+returns-3 c = on _ _ _ (sym (c .before .before .before .keeps-rule4 .ensures) ∙ c .before .before .if1 .taken) (here _ _ _ (sym (c .before .keeps-rule5 .ensures) ∙ c .if2 .left))
 
 returns-4 : tie.Need-returns-4
-returns-4 c = here _ _ _ (cc)
+returns-4 c = here _ _ _ (sym (c .before .keeps-rule4 .ensures) ∙ c .if1 .left)
 
 pub circuits-number-spec : {M : Type 1} → statement M
 circuits-number-spec =

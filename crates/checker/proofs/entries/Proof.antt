@@ -1,3 +1,5 @@
+-- `checker::entries` meets its contract: where the number is 0 the sheet is divided into its parts and the schedule exists.
+-- Assumes nothing.
 use mathlib.Core.Path.{sym, _∙_}
 use Rattle.sheet.proofs.VerdictLaws.{passed-framed}
 use Rattle.checker.proofs.AnswerLaws.{handed, part-empty, part-whole}

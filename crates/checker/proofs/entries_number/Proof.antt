@@ -1,3 +1,5 @@
+-- `checker::entries_number` meets its contract: the outcome of the number of handing back entries.
+-- Assumes nothing.
 use mathlib.Core.Path.{_∙_, ap}
 use Rattle.checker.specs.Answers.{outcomeOf}
 use borrow.Author.Needs.{needs}

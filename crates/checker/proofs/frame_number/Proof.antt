@@ -1,3 +1,6 @@
+-- `checker::frame_number` meets its contract: Numbers 1 to 3: each test decides where those before it are passed, and the first two give what the third asks.
+-- Assumes nothing.
+use mathlib.Core.Path.{_≡_, sym, _∙_}
 use Rattle.sheet.proofs.PassedLaws.{headed}
 use Rattle.sheet.proofs.VerdictLaws.{here, on, done}
 use borrow.Author.Needs.{needs}
@@ -11,19 +14,19 @@ keeps-rule2-requires : tie.Need-keeps-rule2-requires
 keeps-rule2-requires c κs = search needs
 
 keeps-rule3-requires : tie.Need-keeps-rule3-requires
-keeps-rule3-requires c κs = headed _ (cc) (cc)
+keeps-rule3-requires c κs = headed _ (sym (c .before .before .before .keeps-rule1 .ensures) ∙ c .before .before .if1 .taken) (sym (c .before .keeps-rule2 .ensures) ∙ c .if2 .taken)
 
 returns : tie.Need-returns
-returns c = on _ _ _ (cc) (on _ _ _ (cc) (on _ _ _ (cc) (done _)))
+returns c = on _ _ _ (sym (c .before .before .before .before .before .keeps-rule1 .ensures) ∙ c .before .before .before .before .if1 .taken) (on _ _ _ (sym (c .before .before .before .keeps-rule2 .ensures) ∙ c .before .before .if2 .taken) (on _ _ _ (sym (c .before .keeps-rule3 .ensures) ∙ c .if3 .taken) (done _)))
 
 returns-2 : tie.Need-returns-2
-returns-2 c = on _ _ _ (cc) (on _ _ _ (cc) (here _ _ _ (cc)))
+returns-2 c = on _ _ _ (sym (c .before .before .before .before .before .keeps-rule1 .ensures) ∙ c .before .before .before .before .if1 .taken) (on _ _ _ (sym (c .before .before .before .keeps-rule2 .ensures) ∙ c .before .before .if2 .taken) (here _ _ _ (sym (c .before .keeps-rule3 .ensures) ∙ c .if3 .left)))
 
 returns-3 : tie.Need-returns-3
-returns-3 c = on _ _ _ (cc) (here _ _ _ (cc))
+returns-3 c = on _ _ _ (sym (c .before .before .before .keeps-rule1 .ensures) ∙ c .before .before .if1 .taken) (here _ _ _ (sym (c .before .keeps-rule2 .ensures) ∙ c .if2 .left))
 
 returns-4 : tie.Need-returns-4
-returns-4 c = here _ _ _ (cc)
+returns-4 c = here _ _ _ (sym (c .before .keeps-rule1 .ensures) ∙ c .if1 .left)
 
 pub frame-number-spec : {M : Type 1} → statement M
 frame-number-spec =

@@ -1,3 +1,5 @@
+-- `checker::outcome_of` meets its contract: 0 is the one number that passes.
+-- Assumes nothing.
 use Rattle.checker.proofs.AnswerLaws.{refused-is}
 use borrow.Author.Needs.{needs}
 use Rattle.checker.proofs.outcome_of.Statement.{statement}

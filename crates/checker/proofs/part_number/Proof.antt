@@ -1,3 +1,5 @@
+-- `checker::part_number` meets its contract: the sheet's number first, then whether the schedule exists.
+-- Assumes nothing.
 use native.Mathlib.Omega.{arith}
 use Rattle.checker.proofs.AnswerLaws.{sheet-refused, schedule-there, schedule-absent}
 use borrow.Author.Needs.{needs}

@@ -1,3 +1,5 @@
+-- `checker::verdict` meets its contract: the outcome of the verdict's number.
+-- Assumes nothing.
 use mathlib.Core.Path.{_∙_, ap}
 use Rattle.checker.specs.Answers.{outcomeOf}
 use borrow.Author.Needs.{needs}

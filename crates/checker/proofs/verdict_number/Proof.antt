@@ -1,3 +1,5 @@
+-- `checker::verdict_number` meets its contract: the three groups of rules follow each other in the list of rules.
+-- Assumes nothing.
 use mathlib.Core.Path.{sym, _∙_}
 use Rattle.checker.proofs.AnswerLaws.{frame-kept, circuits-kept, frame-decides, circuits-decide, entries-decide}
 use borrow.Author.Needs.{needs}

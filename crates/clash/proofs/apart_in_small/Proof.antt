@@ -1,3 +1,5 @@
+-- `clash::apart_in_small` meets its contract: a table of zeros is free.
+-- Assumes nothing.
 use Rattle.clash.proofs.RoomLaws.{ready-zeros}
 use borrow.Author.Needs.{needs}
 use Rattle.clash.proofs.apart_in_small.Statement.{statement}

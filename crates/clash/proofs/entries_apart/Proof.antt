@@ -1,3 +1,5 @@
+-- `clash::entries_apart` meets its contract: Number 11 at one schedule: with just the entries before it in the table, an entry finds a place taken exactly where it meets one of them.
+-- Assumes nothing.
 use native.Mathlib.Omega.{arith}
 use Prim.Native.Nat.{ℕ, _+_, _-_, _≤_}
 use mathlib.Core.Path.{refl, ap}

@@ -1,3 +1,5 @@
+-- `clash::keeps_rule11` meets its contract: Number 11: each schedule is tested.
+-- Assumes nothing.
 use native.Mathlib.Omega.{arith}
 use Prim.Native.Nat.{_-_, _≤_}
 use mathlib.Core.Bool.{true}

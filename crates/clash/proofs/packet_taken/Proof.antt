@@ -1,3 +1,5 @@
+-- `clash::packet_taken` meets its contract: the places from wire i on are a row and those from the next wire on.
+-- Assumes nothing.
 use native.Mathlib.Nat.{sub-zero}
 use Prim.Native.Nat.{_-_, _≤_}
 use mathlib.Core.Path.{_≡_, refl, _∙_}

@@ -1,3 +1,5 @@
+-- `clash::place_entry` meets its contract: the places of the route that was followed are the entry's, and all of them lie in the table.
+-- Assumes nothing.
 use native.Mathlib.Omega.{arith}
 use Rattle.clash.proofs.EntryLaws.{source-read, entry-held, entry-places, entry-hops, hit-answer, take-answer}
 use borrow.Author.Needs.{needs}

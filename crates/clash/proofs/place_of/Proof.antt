@@ -1,3 +1,5 @@
+-- `clash::place_of` meets its contract: a wire's number times a stride of at most 65,536 fits a usize.
+-- Assumes nothing.
 use native.Mathlib.Omega.{arith}
 use native.Mathlib.Nat.{mul-le-mul}
 use borrow.Author.Needs.{needs}

@@ -1,3 +1,5 @@
+-- `clash::schedule_apart` meets its contract: each table is used only where it holds all wires in the period's cycles.
+-- Assumes nothing.
 use native.Mathlib.Omega.{arith}
 use Rattle.clash.proofs.RoomLaws.{nodes-high, places-high, roomy}
 use Rattle.sheet.proofs.PassedLaws.{period-range}

@@ -1,3 +1,5 @@
+-- `clash::take_packet` meets its contract: what is taken wire by wire is taken in all.
+-- Assumes nothing.
 use native.Mathlib.Nat.{sub-zero}
 use Prim.Native.Nat.{ℕ, _+_, _-_, _*_, _^_, _<_, _≤_}
 use mathlib.Core.List.{List}

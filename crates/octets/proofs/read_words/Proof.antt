@@ -1,3 +1,5 @@
+-- `octets::read_words` meets its contract: each turn stores the next word, so the slice is the table of the words.
+-- Assumes nothing.
 use denote.Ref.{now}
 use native.Mathlib.Omega.{arith}
 use Prim.Native.Nat.{ℕ, _+_, _-_, _≤_, _<_}

@@ -1,3 +1,5 @@
+-- `octets::word_in` meets its contract: four bytes, each below 256, make a word below 2^32.
+-- Assumes nothing.
 use native.Mathlib.Omega.{arith}
 use Rattle.octets.specs.Octets.{wordIn}
 use borrow.Author.Needs.{needs}

@@ -1,4 +1,5 @@
-use Rattle.routes.proofs.RouteRules.{each-ending}
+-- `routes::entries_end` meets its contract: Number 10 at one schedule: each entry is tested.
+-- Assumes nothing.
 use native.Mathlib.Omega.{arith}
 use Prim.Native.Nat.{_-_, _≤_}
 use mathlib.Core.Bool.{true}
@@ -7,21 +8,21 @@ use Rattle.words.specs.Tests.{all}
 use Rattle.words.proofs.AllLaws.{all-none, all-more, all-done, all-fails}
 use Rattle.sheet.specs.Sheet.{entryAt}
 use Rattle.sheet.specs.Rules.{entryEnds}
-use Rattle.routes.proofs.RouteRules.{timed, led}
+use Rattle.routes.proofs.RouteRules.{timed, led, each-ending}
 use Rattle.routes.proofs.entries_end.Statement.{statement}
 use Rattle.routes.proofs.entries_end.Tie as tie
 
 abbrev Inv-loop : tie.InvT-loop
-Inv-loop s j period entries count i₀ i = (i ≤ count) × (all i (λ k. entryEnds s period (entryAt entries k)) ≡ true)
+Inv-loop s distances j period entries count i₀ i = (i ≤ count) × (all i (λ k. entryEnds s period (entryAt entries k)) ≡ true)
 
 abbrev μ-loop : tie.MeasureT-loop
-μ-loop s j period entries count i₀ i = count - i
+μ-loop s distances j period entries count i₀ i = count - i
 
 schedule-period-requires : tie.Need-schedule-period-requires Inv-loop μ-loop
-schedule-period-requires c κs = (c .before .pre .0 .ranged .framed, c .before .pre .1)
+schedule-period-requires c κs = (c .before .before .pre .0 .ranged .framed, c .before .before .pre .1)
 
 entries-of-requires : tie.Need-entries-of-requires Inv-loop μ-loop
-entries-of-requires c κs = (c .before .before .pre .0 .ranged .framed, c .before .before .pre .1)
+entries-of-requires c κs = (c .before .before .before .pre .0 .ranged .framed, c .before .before .before .pre .1)
 
 loop-holds : tie.Need-loop-holds Inv-loop μ-loop
 loop-holds c = (omega arith, sym (all-none _))
@@ -30,7 +31,7 @@ at-requires : tie.Need-at-requires Inv-loop μ-loop
 at-requires c κs = omega arith
 
 entry-ends-requires : tie.Need-entry-ends-requires Inv-loop μ-loop
-entry-ends-requires c κs = (timed _ (c .before .before .before .before .before .before .pre .0 .ranged) _ (c .before .before .before .before .before .before .pre .1) _ (c .before .before .before .entries-of .ensures) (c .before .before .loop .i) (omega arith) _ (c .at .ensures) _ (c .before .before .before .before .schedule-period .ensures), led _ (c .before .before .before .before .before .before .pre .0 .ranged) _ (c .before .before .before .before .before .before .pre .1) _ (c .before .before .before .entries-of .ensures) (c .before .before .loop .i) (omega arith) _ (c .at .ensures) (c .before .before .before .before .before .before .pre .0 .routes-lead))
+entry-ends-requires c κs = (timed _ (c .before .before .before .before .before .before .before .pre .0 .ranged) _ (c .before .before .before .before .before .before .before .pre .1) _ (c .before .before .before .entries-of .ensures) (c .before .before .loop .i) (omega arith) _ (c .at .ensures) _ (c .before .before .before .before .schedule-period .ensures), led _ (c .before .before .before .before .before .before .before .pre .0 .ranged) _ (c .before .before .before .before .before .before .before .pre .1) _ (c .before .before .before .entries-of .ensures) (c .before .before .loop .i) (omega arith) _ (c .at .ensures) (c .before .before .before .before .before .before .before .pre .0 .routes-lead), c .before .before .before .before .before .before .before .pre .2)
 
 add-i : tie.Need-add-i Inv-loop μ-loop
 add-i c = omega arith

@@ -1,3 +1,5 @@
+-- `routes::entries_lead` meets its contract: Number 9 at one schedule: each entry is tested.
+-- Assumes nothing.
 use native.Mathlib.Omega.{arith}
 use Prim.Native.Nat.{_-_, _≤_}
 use mathlib.Core.Bool.{true}
@@ -11,13 +13,13 @@ use Rattle.routes.proofs.entries_lead.Statement.{statement}
 use Rattle.routes.proofs.entries_lead.Tie as tie
 
 abbrev Inv-loop : tie.InvT-loop
-Inv-loop s j entries count i₀ i = (i ≤ count) × (all i (λ k. entryLeads s (entryAt entries k)) ≡ true)
+Inv-loop s distances j entries count i₀ i = (i ≤ count) × (all i (λ k. entryLeads s (entryAt entries k)) ≡ true)
 
 abbrev μ-loop : tie.MeasureT-loop
-μ-loop s j entries count i₀ i = count - i
+μ-loop s distances j entries count i₀ i = count - i
 
 entries-of-requires : tie.Need-entries-of-requires Inv-loop μ-loop
-entries-of-requires c κs = (c .before .pre .0 .framed, c .before .pre .1)
+entries-of-requires c κs = (c .before .before .pre .0 .framed, c .before .before .pre .1)
 
 loop-holds : tie.Need-loop-holds Inv-loop μ-loop
 loop-holds c = (omega arith, sym (all-none _))
@@ -26,7 +28,7 @@ at-requires : tie.Need-at-requires Inv-loop μ-loop
 at-requires c κs = omega arith
 
 entry-leads-requires : tie.Need-entry-leads-requires Inv-loop μ-loop
-entry-leads-requires c κs = joined _ (c .before .before .before .before .before .pre .0) _ (c .before .before .before .before .before .pre .1) _ (c .before .before .before .entries-of .ensures) (c .before .before .loop .i) (omega arith) _ (c .at .ensures)
+entry-leads-requires c κs = (joined _ (c .before .before .before .before .before .before .pre .0) _ (c .before .before .before .before .before .before .pre .1) _ (c .before .before .before .entries-of .ensures) (c .before .before .loop .i) (omega arith) _ (c .at .ensures), c .before .before .before .before .before .before .pre .2)
 
 add-i : tie.Need-add-i Inv-loop μ-loop
 add-i c = omega arith

@@ -1,3 +1,5 @@
+-- `routes::keeps_rule10` meets its contract: Number 10: each schedule is tested.
+-- Assumes nothing.
 use native.Mathlib.Omega.{arith}
 use Prim.Native.Nat.{_-_, _≤_}
 use mathlib.Core.Bool.{true}
@@ -11,10 +13,10 @@ use Rattle.routes.proofs.keeps_rule10.Statement.{statement}
 use Rattle.routes.proofs.keeps_rule10.Tie as tie
 
 abbrev Inv-loop : tie.InvT-loop
-Inv-loop s count j₀ j = (j ≤ count) × (all j (λ k. eachEntry s k (entryEnds s (period s k))) ≡ true)
+Inv-loop s distances count j₀ j = (j ≤ count) × (all j (λ k. eachEntry s k (entryEnds s (period s k))) ≡ true)
 
 abbrev μ-loop : tie.MeasureT-loop
-μ-loop s count j₀ j = count - j
+μ-loop s distances count j₀ j = count - j
 
 get-requires : tie.Need-get-requires Inv-loop μ-loop
 get-requires c κs = search needs
@@ -23,7 +25,7 @@ loop-holds : tie.Need-loop-holds Inv-loop μ-loop
 loop-holds c = (omega arith, sym (all-none _))
 
 entries-end-requires : tie.Need-entries-end-requires Inv-loop μ-loop
-entries-end-requires c κs = (c .before .before .before .before .pre, omega (arith, c .before .before .get .ensures))
+entries-end-requires c κs = (c .before .before .before .before .before .pre .0, omega (arith, c .before .before .get .ensures), c .before .before .before .before .before .pre .1)
 
 add-j : tie.Need-add-j Inv-loop μ-loop
 add-j c = omega arith

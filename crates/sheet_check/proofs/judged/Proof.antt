@@ -1,3 +1,5 @@
+-- `sheet_check::judged` meets its contract: the words that were read are the sheet, and each outcome has its line.
+-- Assumes nothing.
 use Rattle.sheet_check.proofs.LineLaws.{judged-passes, judged-refused}
 use borrow.Author.Needs.{needs}
 use Rattle.sheet_check.proofs.judged.Statement.{statement}

@@ -1,3 +1,5 @@
+-- `sheet_check::line_for` meets its contract: the tests are those of the line, in its order.
+-- Assumes nothing.
 use Rattle.sheet_check.proofs.LineLaws.{part-ready}
 use mathlib.Core.Path.{sym, _∙_}
 use Rattle.sheet_check.proofs.LineLaws.{no-length, too-large, sheet-ends, whole, part-length}

@@ -1,3 +1,5 @@
+-- `packet::Header::new` meets its contract: each test is that a part fits its field, and parts that fit make a word.
+-- Assumes nothing.
 use Rattle.packet.proofs.HeaderLaws.{kind-wide, address-wide, route-wide, all-fit}
 use borrow.Author.Needs.{needs}
 use Rattle.packet.proofs.Header.new.Statement.{statement}

@@ -8,7 +8,7 @@ use Rattle.words.specs.Tests.{all}
 use Rattle.words.proofs.AllLaws.{all-none, all-more, all-done, all-fails}
 use Rattle.sheet.specs.Sheet.{circuits, nodes as nodesOf, memoryWords, circuitAt}
 use Rattle.sheet.specs.Rules.{circuitFits, rule4}
-use Rattle.sheet.proofs.CircuitLaws.{nodes-few}
+use Rattle.sheet.proofs.CircuitLaws.{nodes-few, fits-read}
 use Rattle.sheet.proofs.circuits.keeps_rule4.Statement.{statement}
 use Rattle.sheet.proofs.circuits.keeps_rule4.Tie as tie
 
@@ -63,11 +63,15 @@ loop-less c = omega arith
 loop-again : tie.Need-loop-again Inv-loop μ-loop
 loop-again c =
     let l = c .before .before .before .before .loop in
-    (l .inv .0, l .inv .1, l .inv .2, omega arith, all-more _ _ (l .inv .4) (cc))
+    let fits = fits-read _ _ _ _ _ (l .inv .1) (l .inv .2) (c .before .before .at .ensures) (c .before .fits2 .ensures) (c .if1 .taken) in
+    (l .inv .0, l .inv .1, l .inv .2, omega arith, all-more _ _ (l .inv .4) fits)
 
 returns : tie.Need-returns Inv-loop μ-loop
 unfolding rule4
-returns c = all-fails _ _ (c .before .before .before .before .loop .k) (omega arith) (cc)
+returns c =
+    let l = c .before .before .before .before .loop in
+    let fails = fits-read _ _ _ _ _ (l .inv .1) (l .inv .2) (c .before .before .at .ensures) (c .before .fits2 .ensures) (c .if1 .left) in
+    all-fails _ _ (l .k) (omega arith) fails
 
 returns-2 : tie.Need-returns-2 Inv-loop μ-loop
 unfolding rule4

@@ -2,7 +2,7 @@
 -- Assumes nothing.
 use Prim.Native.Nat.{_≤_, _+_, _-_}
 use mathlib.Core.Bool.{true}
-use mathlib.Core.Path.{_≡_, sym}
+use mathlib.Core.Path.{_≡_, sym, _∙_, ap₂}
 use native.Mathlib.Omega.{arith}
 use Rattle.words.specs.Tests.{all}
 use Rattle.words.proofs.AllLaws.{all-none, all-more, all-done, all-fails}
@@ -50,11 +50,15 @@ loop-less c = omega arith
 loop-again : tie.Need-loop-again Inv-loop μ-loop
 loop-again c =
     let l = c .before .before .before .before .before .loop in
-    (l .inv .0, omega arith, all-more _ _ (l .inv .2) (cc))
+    let pair = ap₂ circuitPrecedes (c .before .before .before .at .ensures) (c .before .before .at2 .ensures) in
+    (l .inv .0, omega arith, all-more _ _ (l .inv .2) (sym (c .before .is-before .ensures ∙ pair) ∙ c .if1 .taken))
 
 returns : tie.Need-returns Inv-loop μ-loop
 unfolding rule5
-returns c = all-fails _ _ (c .before .before .before .before .before .loop .k) (omega arith) (cc)
+returns c =
+    let l = c .before .before .before .before .before .loop in
+    let pair = ap₂ circuitPrecedes (c .before .before .before .at .ensures) (c .before .before .at2 .ensures) in
+    all-fails _ _ (l .k) (omega arith) (sym (c .before .is-before .ensures ∙ pair) ∙ c .if1 .left)
 
 returns-2 : tie.Need-returns-2 Inv-loop μ-loop
 unfolding rule5

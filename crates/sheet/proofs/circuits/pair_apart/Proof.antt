@@ -1,59 +1,57 @@
--- `sheet::circuits::pair_apart` meets its contract. Number 6 at a pair of circuits: by rule 4 their regions end so low that no sum wraps.
+-- `sheet::circuits::pair_apart` meets its contract. Number 6 at a pair of circuits: the nodes decide where none is common, else the regions.
 -- Assumes nothing.
-use Rattle.sheet.proofs.CircuitLaws.{pair-same, pair-other, pair-no, circuit-ends, receive-ends}
+use native.Mathlib.Omega.{arith}
+use Rattle.sheet.specs.Sheet.{circuitAt}
+use Rattle.sheet.proofs.CircuitLaws.{pair-nodes}
 use Rattle.sheet.proofs.circuits.pair_apart.Statement.{statement}
 use Rattle.sheet.proofs.circuits.pair_apart.Tie as tie
 
-at-requires : tie.Need-at-requires
-at-requires c κs = tt
+mul-at : tie.Need-mul-at
+mul-at c = omega arith
 
-is-apart-requires : tie.Need-is-apart-requires
-is-apart-requires c κs =
-    let p = c .before .before .before .before .before .pre in (
-      receive-ends _ (p .0) (p .1) _ (p .2) _ (p .4),
-      circuit-ends _ (p .0) (p .1) _ (p .3) _ (c .before .before .before .at .ensures) .0,
-    )
+add-at : tie.Need-add-at
+add-at c = omega arith
+
+get-requires : tie.Need-get-requires
+get-requires c κs = tt
+
+pair-apart-by-regions-requires : tie.Need-pair-apart-by-regions-requires
+pair-apart-by-regions-requires c κs = c .before .before .before .before .pre
 
 returns : tie.Need-returns
-returns c =
-    let p = c .before .before .before .before .before .before .pre in
-    let other = c .before .before .before .before .at .ensures in
-    pair-same _ _ _ _ _ (p .4) other (c .before .if1 .taken) (c .is-apart .ensures)
+returns c = c .pair-apart-by-regions .ensures
 
-is-apart-requires-2 : tie.Need-is-apart-requires-2
-is-apart-requires-2 c κs =
-    let p = c .before .before .before .before .before .pre in (
-      receive-ends _ (p .0) (p .1) _ (p .2) _ (p .4),
-      circuit-ends _ (p .0) (p .1) _ (p .3) _ (c .before .before .before .at .ensures) .1,
-    )
+add-get : tie.Need-add-get
+add-get c = omega arith
 
-is-apart-requires-3 : tie.Need-is-apart-requires-3
-is-apart-requires-3 c κs =
-    let p = c .before .before .before .before .before .before .before .pre in (
-      receive-ends _ (p .0) (p .1) _ (p .2) _ (p .4),
-      circuit-ends _ (p .0) (p .1) _ (p .3) _ (c .before .before .before .before .before .at .ensures) .0,
-    )
+get-requires-2 : tie.Need-get-requires-2
+get-requires-2 c κs = tt
+
+pair-apart-by-regions-requires-2 : tie.Need-pair-apart-by-regions-requires-2
+pair-apart-by-regions-requires-2 c κs = c .before .before .before .before .before .before .before .pre
 
 returns-2 : tie.Need-returns-2
-returns-2 c =
-    let p = c .before .before .before .before .before .before .before .before .pre in
-    let other = c .before .before .before .before .before .before .at .ensures in
-    pair-other _ _ _ _ _ (p .4) other (c .before .if2 .taken) (c .before .before .is-apart2 .ensures) (c .is-apart3 .ensures)
+returns-2 c = c .pair-apart-by-regions2 .ensures
 
 returns-3 : tie.Need-returns-3
+unfolding circuitAt
 returns-3 c =
-    let p = c .before .before .before .before .before .before .before .pre in
-    let other = c .before .before .before .before .before .at .ensures in
-    pair-no _ _ _ _ _ (p .4) other (c .before .before .if1 .left) (c .if2 .left) (c .before .is-apart2 .ensures)
+    let source = c .before .before .before .before .before .get .ensures in
+    let destination = c .before .before .get2 .ensures in
+    let own = c .before .before .before .before .before .before .before .pre .4 in
+    pair-nodes _ _ _ _ _ _ own source destination (c .before .before .before .if1 .left) (c .if2 .left)
 
 pub pair-apart-spec : {M : Type 1} → statement M
 pair-apart-spec =
     tie.close
     (tie.spec
-    at-requires
-    is-apart-requires
+    mul-at
+    add-at
+    get-requires
+    pair-apart-by-regions-requires
     returns
-    is-apart-requires-2
-    is-apart-requires-3
+    add-get
+    get-requires-2
+    pair-apart-by-regions-requires-2
     returns-2
     returns-3)

@@ -2,7 +2,7 @@
 -- Assumes nothing.
 use Prim.Native.Nat.{_≤_, _-_}
 use mathlib.Core.Bool.{true}
-use mathlib.Core.Path.{_≡_, sym, ap}
+use mathlib.Core.Path.{_≡_, sym, ap, _∙_}
 use native.Mathlib.Omega.{arith}
 use Rattle.words.specs.Tests.{all}
 use Rattle.words.proofs.AllLaws.{all-none, all-more, all-done, all-fails}
@@ -41,10 +41,10 @@ loop-less c = omega arith
 loop-again : tie.Need-loop-again Inv-loop μ-loop
 loop-again c =
     let l = c .before .before .before .loop in
-    (l .inv .0, omega arith, all-more _ _ (l .inv .2) (cc))
+    (l .inv .0, omega arith, all-more _ _ (l .inv .2) (sym (c .before .pair-apart .ensures) ∙ c .if1 .taken))
 
 returns : tie.Need-returns Inv-loop μ-loop
-returns c = all-fails _ _ (c .before .before .before .loop .k) (omega arith) (cc)
+returns c = all-fails _ _ (c .before .before .before .loop .k) (omega arith) (sym (c .before .pair-apart .ensures) ∙ c .if1 .left)
 
 returns-2 : tie.Need-returns-2 Inv-loop μ-loop
 returns-2 c = all-done _ _ _ (c .before .loop .inv .2) (omega arith) (omega arith)

@@ -2,7 +2,7 @@
 -- Assumes nothing.
 use Prim.Native.Nat.{_≤_, _+_, _-_}
 use mathlib.Core.Bool.{true}
-use mathlib.Core.Path.{_≡_, sym}
+use mathlib.Core.Path.{_≡_, sym, _∙_, ap₂}
 use native.Mathlib.Omega.{arith}
 use borrow.Author.Needs.{needs}
 use Rattle.words.specs.Tests.{all}
@@ -45,10 +45,14 @@ loop-less c = omega arith
 loop-again : tie.Need-loop-again Inv-loop μ-loop
 loop-again c =
     let l = c .before .before .before .before .before .loop in
-    (omega arith, all-more _ _ (l .inv .1) (cc))
+    let pair = ap₂ entryPrecedes (c .before .before .before .at .ensures) (c .before .before .at2 .ensures) in
+    (omega arith, all-more _ _ (l .inv .1) (sym (c .before .is-before .ensures ∙ pair) ∙ c .if1 .taken))
 
 returns : tie.Need-returns Inv-loop μ-loop
-returns c = all-fails _ _ (c .before .before .before .before .before .loop .i) (omega arith) (cc)
+returns c =
+    let l = c .before .before .before .before .before .loop in
+    let pair = ap₂ entryPrecedes (c .before .before .before .at .ensures) (c .before .before .at2 .ensures) in
+    all-fails _ _ (l .i) (omega arith) (sym (c .before .is-before .ensures ∙ pair) ∙ c .if1 .left)
 
 returns-2 : tie.Need-returns-2 Inv-loop μ-loop
 returns-2 c = all-done _ _ _ (c .before .loop .inv .1) (omega arith) (omega arith)

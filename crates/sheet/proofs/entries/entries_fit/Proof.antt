@@ -2,7 +2,7 @@
 -- Assumes nothing.
 use Prim.Native.Nat.{_≤_, _-_}
 use mathlib.Core.Bool.{true}
-use mathlib.Core.Path.{_≡_, sym}
+use mathlib.Core.Path.{_≡_, sym, _∙_, ap}
 use native.Mathlib.Omega.{arith}
 use borrow.Author.Needs.{needs}
 use Rattle.words.specs.Tests.{all}
@@ -36,10 +36,13 @@ loop-less c = omega arith
 loop-again : tie.Need-loop-again Inv-loop μ-loop
 loop-again c =
     let l = c .before .before .before .before .loop in
-    (omega arith, all-more _ _ (l .inv .1) (cc))
+    let fits = sym (c .before .fits2 .ensures ∙ ap (entryFits _ _) (c .before .before .at .ensures)) ∙ c .if1 .taken in
+    (omega arith, all-more _ _ (l .inv .1) fits)
 
 returns : tie.Need-returns Inv-loop μ-loop
-returns c = all-fails _ _ (c .before .before .before .before .loop .i) (omega arith) (cc)
+returns c =
+    let fails = sym (c .before .fits2 .ensures ∙ ap (entryFits _ _) (c .before .before .at .ensures)) ∙ c .if1 .left in
+    all-fails _ _ (c .before .before .before .before .loop .i) (omega arith) fails
 
 returns-2 : tie.Need-returns-2 Inv-loop μ-loop
 returns-2 c = all-done _ _ _ (c .before .loop .inv .1) (omega arith) (omega arith)

@@ -2,7 +2,7 @@
 -- Assumes nothing.
 use Prim.Native.Nat.{_≤_, _-_}
 use mathlib.Core.Bool.{true}
-use mathlib.Core.Path.{_≡_, sym}
+use mathlib.Core.Path.{_≡_, sym, _∙_}
 use native.Mathlib.Omega.{arith}
 use borrow.Author.Needs.{needs}
 use Rattle.words.specs.Tests.{all}
@@ -36,11 +36,11 @@ loop-less c = omega arith
 loop-again : tie.Need-loop-again Inv-loop μ-loop
 loop-again c =
     let l = c .before .before .before .loop in
-    (l .inv .0, omega arith, all-more _ _ (l .inv .2) (cc))
+    (l .inv .0, omega arith, all-more _ _ (l .inv .2) (sym (c .before .schedule-fits .ensures) ∙ c .if1 .taken))
 
 returns : tie.Need-returns Inv-loop μ-loop
 unfolding rule7
-returns c = all-fails _ _ (c .before .before .before .loop .j) (omega arith) (cc)
+returns c = all-fails _ _ (c .before .before .before .loop .j) (omega arith) (sym (c .before .schedule-fits .ensures) ∙ c .if1 .left)
 
 returns-2 : tie.Need-returns-2 Inv-loop μ-loop
 unfolding rule7

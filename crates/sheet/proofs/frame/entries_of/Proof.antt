@@ -12,6 +12,9 @@ schedule-place-requires c κs = search needs
 add-from : tie.Need-add-from
 add-from c = omega arith
 
+add-to : tie.Need-add-to
+add-to c = omega arith
+
 add-get : tie.Need-add-get
 add-get c = omega arith
 
@@ -24,8 +27,8 @@ cast-to c = search needs
 mul-to : tie.Need-mul-to
 mul-to c = omega arith
 
-add-to : tie.Need-add-to
-add-to c = omega arith
+add-to-2 : tie.Need-add-to-2
+add-to-2 c = omega arith
 
 mul-result : tie.Need-mul-result
 mul-result c = omega arith
@@ -48,11 +51,12 @@ entries-of-spec =
     (tie.spec
     schedule-place-requires
     add-from
+    add-to
     add-get
     get-requires
     cast-to
     mul-to
-    add-to
+    add-to-2
     mul-result
     sub-result
     part-result-start

@@ -1,7 +1,7 @@
 -- `sheet::circuits::Circuit::at` meets its contract: the six words are those of the definition.
 -- Assumes nothing.
 use native.Mathlib.Omega.{arith}
-use Rattle.sheet.specs.Sheet.{circuitAt}
+use Rattle.sheet.proofs.CircuitLaws.{circuit-is}
 use Rattle.sheet.proofs.circuits.Circuit.at.Statement.{statement}
 use Rattle.sheet.proofs.circuits.Circuit.at.Tie as tie
 
@@ -45,8 +45,10 @@ get-requires-6 : tie.Need-get-requires-6
 get-requires-6 c κs = tt
 
 returns : tie.Need-returns
-unfolding circuitAt
-returns c = cc
+returns c =
+    let third = c .before .before .before in
+    circuit-is _ _ (third .before .before .get .ensures) (third .before .get2 .ensures) (third .get3 .ensures)
+    (c .before .before .get4 .ensures) (c .before .get5 .ensures) (c .get6 .ensures)
 
 pub at-spec : {M : Type 1} → statement M
 at-spec =

@@ -1,5 +1,6 @@
 -- `sheet::circuits::Circuit::fits` meets its contract. Number 4 at one circuit: each test decides one part of the definition's.
 -- Assumes nothing.
+use mathlib.Core.Path.{sym, _∙_}
 use native.Mathlib.Omega.{arith}
 use Rattle.words.proofs.TestLaws.{and-no, and-on, and-skip, no<, no≠}
 use Rattle.sheet.specs.Rules.{circuitFits}
@@ -26,10 +27,14 @@ fits-requires-2 : tie.Need-fits-requires-2
 fits-requires-2 c κs = tt
 
 returns-4 : tie.Need-returns-4
-returns-4 c = circuit-rest _ _ _ (omega arith) (omega arith) (omega arith) (and-on (cc) (c .fits3 .ensures))
+returns-4 c =
+    let fits = sym (c .before .before .fits2 .ensures) ∙ c .before .if4 .taken in
+    circuit-rest _ _ _ (omega arith) (omega arith) (omega arith) (and-on fits (c .fits3 .ensures))
 
 returns-5 : tie.Need-returns-5
-returns-5 c = circuit-rest _ _ _ (omega arith) (omega arith) (omega arith) (and-no _ (cc))
+returns-5 c =
+    let fails = sym (c .before .fits2 .ensures) ∙ c .if4 .left in
+    circuit-rest _ _ _ (omega arith) (omega arith) (omega arith) (and-no _ fails)
 
 pub fits-spec : {M : Type 1} → statement M
 fits-spec =

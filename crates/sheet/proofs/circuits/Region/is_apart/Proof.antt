@@ -2,15 +2,12 @@
 -- Assumes nothing.
 use native.Mathlib.Omega.{arith}
 use Rattle.words.specs.Tests.{_≤?_}
-use Rattle.words.proofs.TestLaws.{or-yes, yes≠}
-use Rattle.sheet.specs.Rules.{apart}
-use Rattle.sheet.proofs.CircuitLaws.{apart-first, apart-second}
+use Rattle.sheet.proofs.CircuitLaws.{apart-nodes, apart-first, apart-second}
 use Rattle.sheet.proofs.circuits.Region.is_apart.Statement.{statement}
 use Rattle.sheet.proofs.circuits.Region.is_apart.Tie as tie
 
 returns : tie.Need-returns
-unfolding apart
-returns c = or-yes _ (yes≠ (c .if1 .taken))
+returns c = apart-nodes _ _ (c .if1 .taken)
 
 add-if2 : tie.Need-add-if2
 add-if2 c = omega arith
