@@ -169,19 +169,13 @@ pub fn follow_route(cols: u32, rows: u32, source: u32, route: u32) -> Path
     nowhere_path()
 }
 
-// A byte as a word.
-fn wide(x: u8) -> u32
-    ensures { λ r. ⌜ r ≡ x ⌝ }
-{
-    x as u32
-}
-
 // The fewest steps between two nodes.
 pub fn distance(cols: u32, rows: u32, from: u32, to: u32) -> u32
     requires { ⌜ (InGrid cols rows from) × (InGrid cols rows to) ⌝ }
     ensures { λ r. ⌜ r ≡ distanceOf cols rows from to ⌝ }
 {
     let grid = (cols - 2) * 3 + (rows - 2);
-    let at = (grid * 256 + from * 16 + to) as usize;
-    wide(DISTANCES[at])
+    let at = (grid * 16 + from) as usize;
+    let row = DISTANCES[at];
+    ((row >> (4 * to)) % 16) as u32
 }

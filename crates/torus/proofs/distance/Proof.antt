@@ -1,6 +1,5 @@
 -- `torus::distance` meets its contract: the table is right at every pair of nodes of every grid.
 -- Assumes nothing.
-use mathlib.Core.Path.{_∙_}
 use native.Mathlib.Omega.{arith}
 use Rattle.torus.proofs.NeighbourLaws.{bounds}
 use Rattle.torus.proofs.DistanceLaws.{table-right}
@@ -24,27 +23,33 @@ add-grid c = search needs
 mul-at : tie.Need-mul-at
 mul-at c = search needs
 
-mul-at-2 : tie.Need-mul-at-2
-mul-at-2 c = let b = bounds (c .pre .0) in omega arith
-
 add-at : tie.Need-add-at
 add-at c = let b = bounds (c .pre .0) in omega arith
-
-add-at-2 : tie.Need-add-at-2
-add-at-2 c = let b = bounds (c .pre .0) in omega arith
 
 cast-at : tie.Need-cast-at
 cast-at c = search needs
 
-array-read-wide : tie.Need-array-read-wide
-array-read-wide c = let b = bounds (c .pre .0) in omega arith
+mul-row : tie.Need-mul-row
+mul-row c = search needs
 
-wide-requires : tie.Need-wide-requires
-wide-requires c κs = search needs
+array-read-row : tie.Need-array-read-row
+array-read-row c = let b = bounds (c .pre .0) in omega arith
+
+mul-result : tie.Need-mul-result
+mul-result c = let b = bounds (c .pre .0) in omega arith
+
+cast-result : tie.Need-cast-result
+cast-result c = search needs
+
+shr-result : tie.Need-shr-result
+shr-result c = let b = bounds (c .pre .0) in omega arith
+
+cast-result-2 : tie.Need-cast-result-2
+cast-result-2 c = search needs
 
 returns : tie.Need-returns
 unfolding distances
-returns c = c .wide .ensures ∙ table-right _ _ _ _ (c .before .pre .0) (c .before .pre .1)
+returns c = table-right _ _ _ _ (c .pre .0) (c .pre .1)
 
 pub distance-spec : {M : Type 1} → statement M
 distance-spec =
@@ -55,10 +60,12 @@ distance-spec =
     sub-grid-2
     add-grid
     mul-at
-    mul-at-2
     add-at
-    add-at-2
     cast-at
-    array-read-wide
-    wide-requires
+    mul-row
+    array-read-row
+    mul-result
+    cast-result
+    shr-result
+    cast-result-2
     returns)
