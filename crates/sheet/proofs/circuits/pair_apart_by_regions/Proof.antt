@@ -1,4 +1,4 @@
--- `sheet::circuits::pair_apart_by_regions` meets its contract. Number 6 at a pair of circuits, by their regions: by rule 4 their regions end so low that no sum wraps.
+-- `sheet::circuits::pair_apart_by_regions` meets its contract. Number 6 at a pair of circuits: by rule 4 their regions end so low that no sum wraps.
 -- Assumes nothing.
 use Rattle.sheet.proofs.CircuitLaws.{pair-same, pair-other, pair-no, circuit-ends, receive-ends}
 use Rattle.sheet.proofs.circuits.pair_apart_by_regions.Statement.{statement}
