@@ -3,4 +3,3 @@ pub mod CircuitLaws
 pub mod EntryLaws
 pub mod PassedLaws
 pub mod VerdictLaws
-pub mod Examples

@@ -1,0 +1,92 @@
+-- Number 20 in words says what the machine's faults say, where each latch holds an output or none.
+-- Assumes nothing.
+use Prim.Native.Nat.{ℕ, zero, suc, _≤_, _<_}
+use mathlib.Core.Path.{_≡_, refl, sym, _∙_, ap, ap₂}
+use mathlib.Core.Bool.{Bool, not}
+use mathlib.Core.List.{List}
+use native.Mathlib.Omega.{arith}
+use Rattle.words.specs.Tests.{any, _and_, _or_, _≤?_, _=?_}
+use Rattle.words.specs.Words.{pick, countOf}
+use Rattle.words.proofs.TestLaws.{yes≤, no≤, yes=, no=}
+use Rattle.sheet.specs.Sheet.{circuits, nodes}
+use Rattle.sheet.specs.Slots.{sourceOf}
+use Rattle.network.specs.View.{noOutput}
+use Rattle.network.specs.Cycle.{isFull, isPayload, collides, crowds, reopens, headless, strays, faulty}
+use Rattle.network.specs.Registers.{reg, sheetIn, room, latchRow, linkMark, linkWord, headWord, receiveMark, receiveAddress}
+use Rattle.network.specs.Machine.{at, slotIn, askedMark, sentMark, sentWord, memoryMark, memoryWord, collidesIn, headlessIn, crowdsIn, straysIn, reopensIn, faultyIn}
+use Rattle.network.specs.Seen.{cell, output, marked, view}
+use Rattle.network.proofs.ViewLaws.{asked-same, sent-same}
+
+-- two tests that agree at each number below n
+any-same : (n : ℕ) (p q : ℕ → Bool) → ((k : ℕ) → k < n → p k ≡ q k) → any n p ≡ any n q
+unfolding any
+any-same zero p q h = refl
+any-same (suc n) p q h = ap₂ _or_ (any-same n p q (λ k l. h k (omega arith))) (h n (omega arith))
+
+count-same : (n : ℕ) (p q : ℕ → Bool) → ((k : ℕ) → k < n → p k ≡ q k) → countOf n p ≡ countOf n q
+unfolding countOf
+count-same zero p q h = refl
+count-same (suc n) p q h = ap₂ (λ b k. pick b (suc k) k) (h n (omega arith)) (count-same n p q (λ k l. h k (omega arith)))
+
+-- a cell is there, and is a payload word, by its mark
+pub full-cell : (mark w : ℕ) → (1 ≤? mark) ≡ isFull (cell mark w)
+full-cell zero w = no≤ (omega arith)
+full-cell (suc zero) w = yes≤ (omega arith)
+full-cell (suc (suc zero)) w = yes≤ (omega arith)
+full-cell (suc (suc (suc mark))) w = yes≤ (omega arith)
+
+pub payload-cell : (mark w : ℕ) → (2 ≤? mark) ≡ isPayload (cell mark w)
+payload-cell zero w = no≤ (omega arith)
+payload-cell (suc zero) w = no≤ (omega arith)
+payload-cell (suc (suc zero)) w = yes≤ (omega arith)
+payload-cell (suc (suc (suc mark))) w = yes≤ (omega arith)
+
+-- a register of 6 would look like none: that is what the bound is for
+none-held : (register : ℕ) → register ≤ 5 → (register =? 0) ≡ (output register =? noOutput)
+none-held zero l = yes= refl ∙ sym (yes= refl)
+none-held (suc o) l = no= (λ e. omega arith) ∙ sym (no= (λ e. omega arith))
+
+none-arriving : (mark : ℕ) → (mark =? 0) ≡ not (marked mark)
+none-arriving zero = yes= refl
+none-arriving (suc mark) = no= (λ e. omega arith)
+
+pub collides-is : (s m : List ℕ) (node o : ℕ) → o < 5 → collidesIn s node o ≡ collides (view s m) node o
+unfolding collidesIn collides
+collides-is s m node o l =
+    ap (λ k. 2 ≤? k) (count-same 5 _ _ (λ input _.
+    full-cell (askedMark s node o input) (reg s headWord (at node input)) ∙ ap isFull (asked-same s m node o input l)))
+
+pub headless-is : (s m : List ℕ) (node input : ℕ) → reg s latchRow (at node input) ≤ 5
+    → headlessIn s node input ≡ headless (view s m) node input
+unfolding headlessIn headless
+headless-is s m node input l =
+    ap₂ _and_ (payload-cell (reg s linkMark (at node input)) (reg s linkWord (at node input)))
+    (none-held (reg s latchRow (at node input)) l)
+
+pub crowds-is : (s m : List ℕ) (node : ℕ) → crowdsIn s node ≡ crowds (sheetIn s) (view s m) node
+unfolding crowdsIn crowds
+crowds-is s m node =
+    ap (λ k. 2 ≤? k) (count-same (circuits (sheetIn s)) _ _ (λ c _.
+    ap (λ b. sourceOf (sheetIn s) c =? node and b) (full-cell (sentMark s c) (sentWord s m c) ∙ ap isFull (sent-same s m c))))
+
+pub strays-is : (s m : List ℕ) (node : ℕ) → straysIn s node ≡ strays (sheetIn s) (view s m) node
+unfolding straysIn strays
+strays-is s m node =
+    ap₂ (λ a b. a and (b or room s ≤? reg s receiveAddress node))
+    (payload-cell (memoryMark s node) (memoryWord s node)) (none-arriving (reg s receiveMark node))
+
+pub reopens-is : (s m : List ℕ) (circuit : ℕ) → reopensIn s circuit ≡ reopens (sheetIn s) (view s m) circuit
+unfolding reopensIn reopens slotIn
+reopens-is s m circuit = refl
+
+pub faulty-is : (s m : List ℕ)
+    → ((node input : ℕ) → node < nodes (sheetIn s) → input < 5 → reg s latchRow (at node input) ≤ 5)
+    → faultyIn s ≡ faulty (sheetIn s) (view s m)
+unfolding faultyIn faulty
+faulty-is s m held =
+    ap₂ _or_
+    (any-same (nodes (sheetIn s)) _ _ (λ node nl.
+    ap₂ _or_ (any-same 5 _ _ (λ o ol. collides-is s m node o ol))
+    (ap₂ _or_ (any-same 5 _ _ (λ input il. headless-is s m node input (held node input nl il)))
+    (ap₂ _or_ (crowds-is s m node) (strays-is s m node)))))
+    (any-same (circuits (sheetIn s)) _ _ (λ c _. reopens-is s m c))

@@ -1,0 +1,4 @@
+pub mod RowLaws
+pub mod ViewLaws
+pub mod FaultLaws
+pub mod StepLaws

@@ -1,0 +1,202 @@
+-- One clock cycle of the machine on a sheet z, and its faults (document 01, "The router", "The session" and number 20).
+use Prim.Native.Nat.{ℕ, zero, suc, _+_, _-_, _*_, _/_, _%_, min}
+use mathlib.Core.Bool.{Bool, true, false, not}
+use mathlib.Core.List.{List}
+use Rattle.words.specs.Tests.{any, _and_, _or_, _≤?_, _<?_, _=?_}
+use Rattle.words.specs.Words.{pick, countOf}
+use Rattle.packet.specs.Header.{headerWord, kindOf, addressOf, routeOf, firstCode, shiftedWord}
+use Rattle.torus.specs.Torus.{neighbourOf, oppositeOf}
+use Rattle.sheet.specs.Sheet.{columns, rows, memoryWords, circuits, nodes, period}
+use Rattle.sheet.specs.Slots.{slotLength, slotRoute, sourceOf}
+use Rattle.network.specs.View.{Cell, empty, header, payload, sourceInput, memoryOutput, noOutput, Routers, Sender, Receiver, Landing, nothing, landed, Order, noOrder, pending, View}
+
+-- the header stage. The output that a header asks for: the code of the side that the packet came in by means this node's memory, any
+-- other a side to leave by
+unfoldable pub outputFor : ℕ → ℕ → ℕ
+outputFor input word = pick (input =? firstCode (routeOf word)) memoryOutput (firstCode (routeOf word))
+
+-- it takes the header's first code off; a payload word goes on as it is
+abbrev pub advance : Cell → Cell
+advance empty = empty
+advance (header word) = header (shiftedWord word)
+advance (payload word last) = payload word last
+
+-- the output chosen for a cell: a header's own, a payload word's by the latch
+abbrev pub choose : ℕ → ℕ → Cell → ℕ
+choose input latch empty = noOutput
+choose input latch (header word) = outputFor input word
+choose input latch (payload word last) = latch
+
+-- the latch afterwards: a header replaces the choice held, and the packet's last word drops it
+abbrev pub hold : ℕ → ℕ → Cell → ℕ
+hold input latch empty = latch
+hold input latch (header word) = outputFor input word
+hold input latch (payload word last) = pick last noOutput latch
+
+-- the crossbar. What input i asks of output o, and the first of so many cells that is there
+unfoldable pub asks : Routers → ℕ → ℕ → ℕ → Cell
+asks r node output input = pick (r .choice node input =? output) (r .head node input) empty
+
+abbrev pub join : Cell → Cell → Cell
+join empty d = d
+join (header word) d = header word
+join (payload word last) d = payload word last
+
+abbrev pub gather : ℕ → (ℕ → Cell) → Cell
+gather zero cells = empty
+gather (suc n) cells = join (gather n cells) (cells n)
+
+-- the routers after a cycle in which the sources put the given cells on their wires
+unfoldable pub stepRouters : List ℕ → (ℕ → Cell) → Routers → Routers
+stepRouters z wire r = record {
+  link = λ node input.
+      pick (input =? sourceInput) (wire node) (r .out (neighbourOf (columns z) (rows z) node input) (oppositeOf input));
+  head = λ node input. advance (r .link node input);
+  choice = λ node input. choose input (r .latch node input) (r .link node input);
+  latch = λ node input. hold input (r .latch node input) (r .link node input);
+  out = λ node output. gather 5 (asks r node output);
+}
+
+-- the senders. In a cycle a circuit's sender rests, opens a packet (a slot begins and words are left), or sends its packet's next word
+pub data Move : Type 0 where
+  rests : Move
+  opens : Move
+  sends : Move
+
+abbrev pub moveOf : Bool → Bool → Bool → Move
+moveOf true true going = opens
+moveOf true false going = pick going sends rests
+moveOf false left going = pick going sends rests
+
+abbrev pub move : ℕ → Sender → Move
+move slot s = moveOf (1 ≤? slot) (1 ≤? s .left) (1 ≤? s .toGo)
+
+-- a packet has min (length − 1) (words left) payload words, fixed in its header's cycle
+abbrev pub stepSender : Move → ℕ → Sender → Sender
+stepSender rests slot s = s
+stepSender opens slot s = record {
+  left = s .left;
+  readAddress = s .readAddress;
+  writeAddress = s .writeAddress;
+  kind = s .kind;
+  toGo = min (slot - 1) (s .left);
+}
+stepSender sends slot s = record {
+  left = s .left - 1;
+  readAddress = s .readAddress + 1;
+  writeAddress = s .writeAddress + 1;
+  kind = s .kind;
+  toGo = s .toGo - 1;
+}
+
+-- what a sender puts on its source's wire, given the header word and the memory word of this cycle
+abbrev pub sentCell : Move → ℕ → ℕ → Sender → Cell
+sentCell rests head word s = empty
+sentCell opens head word s = header head
+sentCell sends head word s = payload word (s .toGo =? 1)
+
+module _ (z : List ℕ) (v : View) where
+  abbrev pub slotNow : ℕ → ℕ
+  slotNow circuit = slotLength z (v .schedule) (v .cycle) circuit
+
+  abbrev pub moveNow : ℕ → Move
+  moveNow circuit = move (slotNow circuit) (v .sender circuit)
+
+  -- the header of the packet that a circuit would open, and the memory word that it would send, read in this cycle
+  abbrev pub headNow : ℕ → ℕ
+  headNow circuit =
+      headerWord (v .sender circuit .kind) (v .sender circuit .writeAddress) (slotRoute z (v .schedule) (v .cycle) circuit)
+
+  abbrev pub readNow : ℕ → ℕ
+  readNow circuit = v .memory (sourceOf z circuit) (v .sender circuit .readAddress)
+
+  abbrev pub sentNow : ℕ → Cell
+  sentNow circuit = sentCell (moveNow circuit) (headNow circuit) (readNow circuit) (v .sender circuit)
+
+  -- the wire from a node's source: the first of the node's circuits that puts a cell on it
+  unfoldable pub sourceWire : ℕ → Cell
+  sourceWire node = gather (circuits z) (λ circuit. pick (sourceOf z circuit =? node) (sentNow circuit) empty)
+
+-- the receive unit: a header at the memory output begins a packet, a payload word is stored at its address, and the last ends it
+abbrev pub landingOf : Receiver → Cell → Landing
+landingOf r empty = nothing
+landingOf r (header word) = nothing
+landingOf r (payload word last) = landed (r .kind) (r .address) word
+
+abbrev pub stepReceiver : Receiver → Cell → Receiver
+stepReceiver r empty = r
+stepReceiver r (header word) = record { arriving = true; kind = kindOf word; address = addressOf word }
+stepReceiver r (payload word last) = record { arriving = pick last false (r .arriving); kind = r .kind; address = r .address + 1 }
+
+-- a memory word after a landing
+abbrev pub storedBy : Landing → ℕ → ℕ → ℕ
+storedBy nothing address word = word
+storedBy (landed kind at new) address word = pick (at =? address) new word
+
+-- the clock. After the period's last cycle the number rises by one, wrapping at 2^32; an order for that number then puts its schedule
+-- in force and is spent
+abbrev pub nextNumber : ℕ → ℕ
+nextNumber number = (number + 1) % 4294967296
+
+abbrev pub scheduleAfter : Order → ℕ → ℕ → ℕ
+scheduleAfter noOrder number schedule = schedule
+scheduleAfter (pending ordered at) number schedule = pick (at =? number) ordered schedule
+
+abbrev pub orderAfter : Order → ℕ → Order
+orderAfter noOrder number = noOrder
+orderAfter (pending ordered at) number = pick (at =? number) noOrder (pending ordered at)
+
+abbrev pub periodEnds : List ℕ → View → Bool
+periodEnds z v = v .cycle + 1 =? period z (v .schedule)
+
+-- one cycle of it all: reads come before stores
+abbrev pub tick : List ℕ → View → View
+tick z v = record {
+  routers = stepRouters z (sourceWire z v) (v .routers);
+  memory = λ node address.
+      storedBy (landingOf (v .receiver node) (v .routers .out node memoryOutput)) address (v .memory node address);
+  cycle = pick (periodEnds z v) 0 (v .cycle + 1);
+  periodNumber = pick (periodEnds z v) (nextNumber (v .periodNumber)) (v .periodNumber);
+  schedule = pick (periodEnds z v) (scheduleAfter (v .order) (nextNumber (v .periodNumber)) (v .schedule)) (v .schedule);
+  order = pick (periodEnds z v) (orderAfter (v .order) (nextNumber (v .periodNumber))) (v .order);
+  sender = λ circuit. stepSender (moveNow z v circuit) (slotNow z v circuit) (v .sender circuit);
+  receiver = λ node. stepReceiver (v .receiver node) (v .routers .out node memoryOutput);
+  landing = λ node. landingOf (v .receiver node) (v .routers .out node memoryOutput);
+}
+
+-- number 20: two words want one wire, a payload word has no header, or a landing lies beyond the memory
+abbrev pub isFull : Cell → Bool
+isFull empty = false
+isFull (header word) = true
+isFull (payload word last) = true
+
+abbrev pub isPayload : Cell → Bool
+isPayload empty = false
+isPayload (header word) = false
+isPayload (payload word last) = true
+
+-- two inputs ask for one output
+unfoldable pub collides : View → ℕ → ℕ → Bool
+collides v node output = 2 ≤? countOf 5 (λ input. isFull (asks (v .routers) node output input))
+
+-- two circuits of a node put a word on its source wire, or one opens a packet while it still sends another
+unfoldable pub crowds : List ℕ → View → ℕ → Bool
+crowds z v node = 2 ≤? countOf (circuits z) (λ circuit. sourceOf z circuit =? node and isFull (sentNow z v circuit))
+
+unfoldable pub reopens : List ℕ → View → ℕ → Bool
+reopens z v circuit = 1 ≤? slotNow z v circuit and 1 ≤? v .sender circuit .left and 1 ≤? v .sender circuit .toGo
+
+-- a payload word in the header stage for which no choice is held
+unfoldable pub headless : View → ℕ → ℕ → Bool
+headless v node input = isPayload (v .routers .link node input) and v .routers .latch node input =? noOutput
+
+-- a payload word at the memory output with no packet arriving, or for an address beyond the memory
+unfoldable pub strays : List ℕ → View → ℕ → Bool
+strays z v node =
+    isPayload (v .routers .out node memoryOutput)
+    and (not (v .receiver node .arriving) or memoryWords z ≤? v .receiver node .address)
+
+unfoldable pub faulty : List ℕ → View → Bool
+faulty z v =
+    any (nodes z) (λ node. any 5 (collides v node) or any 5 (headless v node) or crowds z v node or strays z v node)
+    or any (circuits z) (reopens z v)

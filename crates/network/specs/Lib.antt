@@ -1,0 +1,5 @@
+pub mod View
+pub mod Cycle
+pub mod Registers
+pub mod Machine
+pub mod Seen

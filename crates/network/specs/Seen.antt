@@ -1,0 +1,75 @@
+-- The words of a state and of the memories, read as the machine's registers; and when two views agree on all registers that a sheet has.
+use Prim.Native.Nat.{ℕ, zero, suc, _+_, _*_, _<_}
+use mathlib.Core.Bool.{Bool, true, false}
+use mathlib.Core.List.{List}
+use mathlib.Core.Path.{_≡_}
+use Rattle.words.specs.Words.{word}
+use Rattle.sheet.specs.Sheet.{memoryWords, circuits, nodes}
+use Rattle.network.specs.View.{Cell, empty, header, payload, noOutput, Routers, Sender, Receiver, Landing, nothing, landed, Order, noOrder, pending, View}
+use Rattle.network.specs.Registers.{reg, sheetIn, room, clockRow, cyclePlace, numberPlace, schedulePlace, orderMarkPlace, orderSchedulePlace, orderPeriodPlace, linkMark, linkWord, headMark, headWord, choiceRow, latchRow, outMark, outWord, receiveMark, receiveKind, receiveAddress, landingMark, landingKind, landingAddress, landingWord}
+use Rattle.network.specs.Machine.{at, senderIn}
+
+-- a cell, from its mark and word
+abbrev pub cell : ℕ → ℕ → Cell
+cell zero w = empty
+cell (suc zero) w = header w
+cell (suc (suc zero)) w = payload w false
+cell (suc (suc (suc mark))) w = payload w true
+
+-- a choice or a latch, of which the register holds one more
+abbrev pub output : ℕ → ℕ
+output zero = noOutput
+output (suc o) = o
+
+abbrev pub marked : ℕ → Bool
+marked zero = false
+marked (suc mark) = true
+
+abbrev pub landingIn : ℕ → ℕ → ℕ → ℕ → Landing
+landingIn zero kind address w = nothing
+landingIn (suc mark) kind address w = landed kind address w
+
+abbrev pub orderIn : ℕ → ℕ → ℕ → Order
+orderIn zero schedule period = noOrder
+orderIn (suc mark) schedule period = pending schedule period
+
+-- the machine in a state's words and the memories
+abbrev pub view : List ℕ → List ℕ → View
+view s m = record {
+  routers = record {
+    link = λ node input. cell (reg s linkMark (at node input)) (reg s linkWord (at node input));
+    head = λ node input. cell (reg s headMark (at node input)) (reg s headWord (at node input));
+    choice = λ node input. output (reg s choiceRow (at node input));
+    latch = λ node input. output (reg s latchRow (at node input));
+    out = λ node o. cell (reg s outMark (at node o)) (reg s outWord (at node o));
+  };
+  memory = λ node address. word m (node * room s + address);
+  cycle = reg s clockRow cyclePlace;
+  periodNumber = reg s clockRow numberPlace;
+  schedule = reg s clockRow schedulePlace;
+  order = orderIn (reg s clockRow orderMarkPlace) (reg s clockRow orderSchedulePlace) (reg s clockRow orderPeriodPlace);
+  sender = senderIn s;
+  receiver = λ node. record {
+    arriving = marked (reg s receiveMark node);
+    kind = reg s receiveKind node;
+    address = reg s receiveAddress node;
+  };
+  landing = λ node.
+      landingIn (reg s landingMark node) (reg s landingKind node) (reg s landingAddress node) (reg s landingWord node);
+}
+
+-- two views agree on all registers, senders and memory words that a sheet has
+pub record Agree (z : List ℕ) (a b : View) : Type 0 where
+  pub link : (node input : ℕ) → node < nodes z → input < 5 → a .routers .link node input ≡ b .routers .link node input
+  pub head : (node input : ℕ) → node < nodes z → input < 5 → a .routers .head node input ≡ b .routers .head node input
+  pub choice : (node input : ℕ) → node < nodes z → input < 5 → a .routers .choice node input ≡ b .routers .choice node input
+  pub latch : (node input : ℕ) → node < nodes z → input < 5 → a .routers .latch node input ≡ b .routers .latch node input
+  pub out : (node o : ℕ) → node < nodes z → o < 5 → a .routers .out node o ≡ b .routers .out node o
+  pub memory : (node address : ℕ) → node < nodes z → address < memoryWords z → a .memory node address ≡ b .memory node address
+  pub cycle : a .cycle ≡ b .cycle
+  pub periodNumber : a .periodNumber ≡ b .periodNumber
+  pub schedule : a .schedule ≡ b .schedule
+  pub order : a .order ≡ b .order
+  pub sender : (circuit : ℕ) → circuit < circuits z → a .sender circuit ≡ b .sender circuit
+  pub receiver : (node : ℕ) → node < nodes z → a .receiver node ≡ b .receiver node
+  pub landing : (node : ℕ) → node < nodes z → a .landing node ≡ b .landing node

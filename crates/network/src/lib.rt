@@ -1,0 +1,1 @@
+// The clocked network over a session state that lies in lent words.

@@ -1,0 +1,6 @@
+pub mod NumberLaws
+pub mod SoundLaws
+pub mod SheetLaws
+pub mod RegisterLaws
+pub mod CycleLaws
+pub mod KeptLaws

@@ -1,0 +1,225 @@
+-- What a call that is carried out has passed: the tests of its number, as records with named fields.
+-- Assumes nothing.
+use Prim.Native.Nat.{ℕ, _+_, _*_, _≤_, _<_}
+use mathlib.Core.Bool.{Bool, true, false, not, false≢true}
+use mathlib.Core.List.{List}
+use mathlib.Core.Path.{_≡_, refl, sym, _∙_, ap}
+use native.Mathlib.Omega.{arith}
+use native.Mathlib.Decide.{ℕ-discrete}
+use lib.ListN.{length}
+use Rattle.words.specs.Tests.{_or_, _≤?_, _=?_}
+use Rattle.words.specs.Words.{pick}
+use Rattle.words.proofs.TestLaws.{and-left, and-right, is≤, is<, is=, yes=, yes≤}
+use Rattle.sheet.specs.declared.circuits.Region.{Region}
+use Rattle.sheet.specs.Sheet.{memoryWords, circuits, schedules, nodes, circuitAt}
+use Rattle.sheet.specs.Rules.{verdict}
+use Rattle.network.specs.Registers.{reg, sheetIn, room, stateWords, clockRow, orderMarkPlace, leftRow}
+use Rattle.network.specs.Machine.{faultyIn}
+use Rattle.session.specs.Sound.{sound, kindTravels, liesIn}
+use Rattle.session.specs.Calls.{unless, _then_, stateNumber, memoryNumber, loadNumber, startNamed, startFits, isBusy, startNumber, placeNumber, leftNumber, landedNumber, isPending, ahead, orderNumber, cycleNumber}
+
+-- no number of two applies
+pub then-zero : (a b : ℕ) → (a then b) ≡ 0 → (a ≡ 0) × (b ≡ 0)
+unfolding _then_
+then-zero a b e = go (a =? 0) refl e
+  where
+    go : (t : Bool) → (a =? 0) ≡ t → pick t b a ≡ 0 → (a ≡ 0) × (b ≡ 0)
+    go true q r = (is= a 0 q, r)
+    go false q r = absurd (false≢true (sym q ∙ yes= r))
+
+-- a number does not apply: its test holds
+pub unless-zero : (number : ℕ) (test : Bool) → 0 < number → unless number test ≡ 0 → test ≡ true
+unfolding unless
+unless-zero number true l e = refl
+unless-zero number false l e = absurd (let z : ⊥ = omega arith in z)
+
+-- and back
+pub zero-then : {a b : ℕ} → a ≡ 0 → b ≡ 0 → (a then b) ≡ 0
+unfolding _then_
+zero-then {a} {b} e f = ap (λ (t : Bool). pick t b a) (yes= e) ∙ f
+
+pub zero-unless : (number : ℕ) {test : Bool} → test ≡ true → unless number test ≡ 0
+unfolding unless
+zero-unless number {test} e = ap (λ (t : Bool). pick t 0 number) e
+
+-- a test that must not hold
+pub not-holds : (b : Bool) → not b ≡ true → b ≡ false
+not-holds true e = absurd (false≢true e)
+not-holds false e = refl
+
+-- so many words from an address on lie in a region, in numbers
+pub record Lies (r : Region) (address count : ℕ) : Type 0 where
+  pub low : r .offset ≤ address
+  pub high : address + count ≤ r .offset + r .size
+
+pub lies : (r : Region) (address count : ℕ) → liesIn r address count ≡ true → Lies r address count
+unfolding liesIn
+lies r address count e = record { low = is≤ _ _ (and-left _ _ e); high = is≤ _ _ (and-right _ _ e) }
+
+-- 12 and 13: the state is long enough and sound
+pub record StatePassed (s : List ℕ) : Type 0 where
+  pub long : stateWords ≤ length s
+  pub is-sound : sound s ≡ true
+
+pub state-passed : (s : List ℕ) → stateNumber s ≡ 0 → StatePassed s
+unfolding stateNumber
+state-passed s e =
+    let p = then-zero _ _ e in
+    record { long = is≤ _ _ (unless-zero 12 _ (omega arith) (p .0)); is-sound = unless-zero 13 _ (omega arith) (p .1) }
+
+-- 14 too: the memory has the sheet's length
+pub record MemoryPassed (s m : List ℕ) : Type 0 where
+  pub state : StatePassed s
+  pub whole : length m ≡ nodes (sheetIn s) * room s
+
+pub memory-passed : (s m : List ℕ) → memoryNumber s m ≡ 0 → MemoryPassed s m
+unfolding memoryNumber
+memory-passed s m e =
+    let p = then-zero _ _ e in
+    record { state = state-passed s (p .0); whole = is= _ _ (unless-zero 14 _ (omega arith) (p .1)) }
+
+-- a load that is carried out
+pub record LoadPassed (z s m : List ℕ) : Type 0 where
+  pub passes : verdict z ≡ 0
+  pub long : stateWords ≤ length s
+  pub whole : length m ≡ nodes z * memoryWords z
+
+pub load-passed : (z s m : List ℕ) → loadNumber z s m ≡ 0 → LoadPassed z s m
+unfolding loadNumber
+load-passed z s m e =
+    let p = then-zero _ _ e in
+    let q = then-zero _ _ (p .1) in
+    record {
+      passes = p .0;
+      long = is≤ _ _ (unless-zero 12 _ (omega arith) (q .0));
+      whole = is= _ _ (unless-zero 14 _ (omega arith) (q .1));
+    }
+
+-- a start that is carried out
+pub record StartPassed (s : List ℕ) (circuit readAddress writeAddress count kind : ℕ) : Type 0 where
+  pub state : StatePassed s
+  pub circuit-inside : circuit < circuits (sheetIn s)
+  pub read-inside : readAddress < room s
+  pub write-inside : writeAddress < room s
+  pub travels : kindTravels kind ≡ true
+  pub some : 1 ≤ count
+  pub single : kind =? 0 or count =? 1 ≡ true
+  pub reads : Lies (circuitAt (sheetIn s) circuit .read) readAddress count
+  pub writes : Lies (circuitAt (sheetIn s) circuit .receive) writeAddress count
+  pub free : reg s leftRow circuit ≡ 0
+
+-- a register that is not at least 1
+zero-left : (x : ℕ) → not (1 ≤? x) ≡ true → x ≡ 0
+zero-left x e = go (ℕ-discrete x 0)
+  where
+    go : Dec (x ≡ 0) → x ≡ 0
+    go (yes q) = q
+    go (no q) = absurd (false≢true (sym (not-holds _ e) ∙ yes≤ (omega (arith, q))))
+
+pub start-passed : (s : List ℕ) (circuit readAddress writeAddress count kind : ℕ)
+    → startNumber s circuit readAddress writeAddress count kind ≡ 0
+    → StartPassed s circuit readAddress writeAddress count kind
+unfolding startNumber startNamed startFits isBusy
+start-passed s circuit readAddress writeAddress count kind e =
+    let p = then-zero _ _ e in
+    let q = then-zero _ _ (p .1) in
+    let r = then-zero _ _ (q .1) in
+    let named = unless-zero 15 _ (omega arith) (q .0) in
+    let named₁ = and-right _ _ named in
+    let named₂ = and-right _ _ named₁ in
+    let fits = unless-zero 16 _ (omega arith) (r .0) in
+    let fits₁ = and-right _ _ fits in
+    let fits₂ = and-right _ _ fits₁ in
+    record {
+      state = state-passed s (p .0);
+      circuit-inside = is< _ _ (and-left _ _ named);
+      read-inside = is< _ _ (and-left _ _ named₁);
+      write-inside = is< _ _ (and-left _ _ named₂);
+      travels = and-right _ _ named₂;
+      some = is≤ _ _ (and-left _ _ fits);
+      single = and-left _ _ fits₁;
+      reads = lies _ _ _ (and-left _ _ fits₂);
+      writes = lies _ _ _ (and-right _ _ fits₂);
+      free = zero-left _ (unless-zero 17 _ (omega arith) (r .1));
+    }
+
+-- a store or a fetch that is carried out
+pub record PlacePassed (s m : List ℕ) (node address : ℕ) : Type 0 where
+  pub memory : MemoryPassed s m
+  pub node-inside : node < nodes (sheetIn s)
+  pub address-inside : address < room s
+
+pub place-passed : (s m : List ℕ) (node address : ℕ) → placeNumber s m node address ≡ 0 → PlacePassed s m node address
+unfolding placeNumber
+place-passed s m node address e =
+    let p = then-zero _ _ e in
+    let q = unless-zero 15 _ (omega arith) (p .1) in
+    record {
+      memory = memory-passed s m (p .0);
+      node-inside = is< _ _ (and-left _ _ q);
+      address-inside = is< _ _ (and-right _ _ q);
+    }
+
+-- words left, and what landed
+pub record LeftPassed (s : List ℕ) (circuit : ℕ) : Type 0 where
+  pub state : StatePassed s
+  pub circuit-inside : circuit < circuits (sheetIn s)
+
+pub left-passed : (s : List ℕ) (circuit : ℕ) → leftNumber s circuit ≡ 0 → LeftPassed s circuit
+unfolding leftNumber
+left-passed s circuit e =
+    let p = then-zero _ _ e in
+    record { state = state-passed s (p .0); circuit-inside = is< _ _ (unless-zero 15 _ (omega arith) (p .1)) }
+
+pub record LandedPassed (s : List ℕ) (node : ℕ) : Type 0 where
+  pub state : StatePassed s
+  pub node-inside : node < nodes (sheetIn s)
+
+pub landed-passed : (s : List ℕ) (node : ℕ) → landedNumber s node ≡ 0 → LandedPassed s node
+unfolding landedNumber
+landed-passed s node e =
+    let p = then-zero _ _ e in
+    record { state = state-passed s (p .0); node-inside = is< _ _ (unless-zero 15 _ (omega arith) (p .1)) }
+
+-- an order that is carried out
+pub record OrderPassed (s : List ℕ) (schedule period : ℕ) : Type 0 where
+  pub state : StatePassed s
+  pub schedule-inside : schedule < schedules (sheetIn s)
+  pub free : reg s clockRow orderMarkPlace ≡ 0
+  pub ahead-low : 3 ≤ ahead s period
+  pub ahead-high : ahead s period < 2147483648
+
+pub order-passed : (s : List ℕ) (schedule period : ℕ) → orderNumber s schedule period ≡ 0 → OrderPassed s schedule period
+unfolding orderNumber isPending
+order-passed s schedule period e =
+    let p = then-zero _ _ e in
+    let q = then-zero _ _ (p .1) in
+    let r = then-zero _ _ (q .1) in
+    let far = unless-zero 19 _ (omega arith) (r .1) in
+    record {
+      state = state-passed s (p .0);
+      schedule-inside = is< _ _ (unless-zero 15 _ (omega arith) (q .0));
+      free = zero-left _ (unless-zero 18 _ (omega arith) (r .0));
+      ahead-low = is≤ _ _ (and-left _ _ far);
+      ahead-high = is< _ _ (and-right _ _ far);
+    }
+
+-- a cycle that is carried out
+pub record CyclePassed (s m : List ℕ) : Type 0 where
+  pub memory : MemoryPassed s m
+  pub calm : faultyIn s ≡ false
+
+pub cycle-passed : (s m : List ℕ) → cycleNumber s m ≡ 0 → CyclePassed s m
+unfolding cycleNumber
+cycle-passed s m e =
+    let p = then-zero _ _ e in
+    record { memory = memory-passed s m (p .0); calm = not-holds _ (unless-zero 20 _ (omega arith) (p .1)) }
+
+-- and back
+pub cycle-zero : (s m : List ℕ) → CyclePassed s m → cycleNumber s m ≡ 0
+unfolding cycleNumber memoryNumber stateNumber
+cycle-zero s m p =
+    zero-then
+    (zero-then (zero-then (zero-unless 12 (yes≤ (p .memory .state .long))) (zero-unless 13 (p .memory .state .is-sound)))
+    (zero-unless 14 (yes= (p .memory .whole))))
+    (zero-unless 20 (ap not (p .calm)))

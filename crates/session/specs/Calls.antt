@@ -1,0 +1,164 @@
+-- The calls of a session on any lent words: the number that each answers (document 01, "Refusals, in checking order"), its value, and the
+-- words afterwards.
+use Prim.Native.Nat.{ℕ, _+_, _-_, _*_, _%_}
+use mathlib.Core.Bool.{Bool, not}
+use mathlib.Core.List.{List, _∷_, _++_}
+use lib.ListN.{length, drop, set}
+use Rattle.words.specs.Tests.{_and_, _or_, _≤?_, _<?_, _=?_}
+use Rattle.words.specs.Words.{word, pick, tab}
+use Rattle.sheet.specs.Sheet.{memoryWords, circuits, schedules, nodes, circuitAt}
+use Rattle.sheet.specs.Rules.{verdict}
+use Rattle.network.specs.View.{Landing}
+use Rattle.network.specs.Registers.{reg, sheetIn, room, movingWords, stateWords, rowWords, clockRow, numberPlace, orderMarkPlace, orderSchedulePlace, orderPeriodPlace, landingMark, landingKind, landingAddress, landingWord, leftRow, readRow, writeRow, kindRow}
+use Rattle.network.specs.Machine.{faultyIn, nextState, nextMemory}
+use Rattle.network.specs.Seen.{landingIn}
+use Rattle.session.specs.Sound.{sound, kindTravels, liesIn}
+
+infixr 30 _then_
+-- a number unless the test holds, and the first number of two that applies
+unfoldable pub unless : ℕ → Bool → ℕ
+unless number test = pick test 0 number
+
+unfoldable pub _then_ : ℕ → ℕ → ℕ
+first then second = pick (first =? 0) second first
+
+-- 12 and 13, which every call but load tests first; with 14 where memory is lent
+unfoldable pub stateNumber : List ℕ → ℕ
+stateNumber s = unless 12 (stateWords ≤? length s) then unless 13 (sound s)
+
+unfoldable pub memoryNumber : List ℕ → List ℕ → ℕ
+memoryNumber s m = stateNumber s then unless 14 (length m =? nodes (sheetIn s) * room s)
+
+-- load: 1 to 12 and 14
+unfoldable pub loadNumber : List ℕ → List ℕ → List ℕ → ℕ
+loadNumber z s m = verdict z then unless 12 (stateWords ≤? length s) then unless 14 (length m =? nodes z * memoryWords z)
+
+-- start: the circuit, both addresses and the kind exist (15); the count and the regions fit (16); the circuit is not busy (17)
+unfoldable pub startNamed : List ℕ → ℕ → ℕ → ℕ → ℕ → Bool
+startNamed s circuit readAddress writeAddress kind =
+    circuit <? circuits (sheetIn s) and readAddress <? room s and writeAddress <? room s and kindTravels kind
+
+unfoldable pub startFits : List ℕ → ℕ → ℕ → ℕ → ℕ → ℕ → Bool
+startFits s circuit readAddress writeAddress count kind =
+    1 ≤? count
+    and (kind =? 0 or count =? 1)
+    and liesIn (circuitAt (sheetIn s) circuit .read) readAddress count
+    and liesIn (circuitAt (sheetIn s) circuit .receive) writeAddress count
+
+-- document 01: a circuit is free at zero words left
+unfoldable pub isBusy : List ℕ → ℕ → Bool
+isBusy s circuit = 1 ≤? reg s leftRow circuit
+
+unfoldable pub startNumber : List ℕ → ℕ → ℕ → ℕ → ℕ → ℕ → ℕ
+startNumber s circuit readAddress writeAddress count kind =
+    stateNumber s
+    then unless 15 (startNamed s circuit readAddress writeAddress kind)
+    then unless 16 (startFits s circuit readAddress writeAddress count kind)
+    then unless 17 (not (isBusy s circuit))
+
+-- store and fetch: the node and the address exist (15)
+unfoldable pub placeNumber : List ℕ → List ℕ → ℕ → ℕ → ℕ
+placeNumber s m node address = memoryNumber s m then unless 15 (node <? nodes (sheetIn s) and address <? room s)
+
+-- words left, and what landed: the circuit, or the node, exists (15)
+unfoldable pub leftNumber : List ℕ → ℕ → ℕ
+leftNumber s circuit = stateNumber s then unless 15 (circuit <? circuits (sheetIn s))
+
+unfoldable pub landedNumber : List ℕ → ℕ → ℕ
+landedNumber s node = stateNumber s then unless 15 (node <? nodes (sheetIn s))
+
+-- order: the schedule exists (15), none is pending (18), and the period is 3 to 2^31 − 1 ahead, modulo 2^32 (19)
+unfoldable pub isPending : List ℕ → Bool
+isPending s = 1 ≤? reg s clockRow orderMarkPlace
+
+unfoldable pub ahead : List ℕ → ℕ → ℕ
+ahead s period = (period + 4294967296 - reg s clockRow numberPlace) % 4294967296
+
+unfoldable pub orderNumber : List ℕ → ℕ → ℕ → ℕ
+orderNumber s schedule period =
+    stateNumber s
+    then unless 15 (schedule <? schedules (sheetIn s))
+    then unless 18 (not (isPending s))
+    then unless 19 (3 ≤? ahead s period and ahead s period <? 2147483648)
+
+-- cycle: no fault (20)
+unfoldable pub cycleNumber : List ℕ → List ℕ → ℕ
+cycleNumber s m = memoryNumber s m then unless 20 (not (faultyIn s))
+
+-- the state after a load: every moving word is 0, then the sheet with its length; what lies behind stays
+unfoldable pub loaded : List ℕ → List ℕ → List ℕ
+loaded z s = tab movingWords (λ k. 0) ++ ((length z ∷ z) ++ drop (movingWords + 1 + length z) s)
+
+-- a register set
+abbrev pub put : List ℕ → ℕ → ℕ → ℕ → List ℕ
+put s row k w = set s (row * rowWords + k) w
+
+unfoldable pub started : List ℕ → ℕ → ℕ → ℕ → ℕ → ℕ → List ℕ
+started s circuit readAddress writeAddress count kind =
+    put (put (put (put s leftRow circuit count) readRow circuit readAddress) writeRow circuit writeAddress) kindRow circuit kind
+
+unfoldable pub ordered : List ℕ → ℕ → ℕ → List ℕ
+ordered s schedule period =
+    put (put (put s clockRow orderMarkPlace 1) clockRow orderSchedulePlace schedule) clockRow orderPeriodPlace period
+
+unfoldable pub stored : List ℕ → List ℕ → ℕ → ℕ → ℕ → List ℕ
+stored s m node address w = set m (node * room s + address) w
+
+-- the values of fetch, words left, the period number and what landed
+unfoldable pub fetched : List ℕ → List ℕ → ℕ → ℕ → ℕ
+fetched s m node address = word m (node * room s + address)
+
+unfoldable pub wordsLeft : List ℕ → ℕ → ℕ
+wordsLeft s circuit = reg s leftRow circuit
+
+unfoldable pub periodNumberIn : List ℕ → ℕ
+periodNumberIn s = reg s clockRow numberPlace
+
+unfoldable pub lastLanding : List ℕ → ℕ → Landing
+lastLanding s node =
+    landingIn (reg s landingMark node) (reg s landingKind node) (reg s landingAddress node) (reg s landingWord node)
+
+-- what is lent to a session's calls
+pub record Lent : Type 0 where
+  pub state : List ℕ
+  pub memory : List ℕ
+
+pub data Call : Type 0 where
+  load : List ℕ → Call
+  start : ℕ → ℕ → ℕ → ℕ → ℕ → Call
+  store : ℕ → ℕ → ℕ → Call
+  fetch : ℕ → ℕ → Call
+  left : ℕ → Call
+  periodNumber : Call
+  landed : ℕ → Call
+  order : ℕ → ℕ → Call
+  cycle : Call
+
+-- the number that a call answers: 0 where it is carried out
+abbrev pub number : Call → Lent → ℕ
+number (load z) w = loadNumber z (w .state) (w .memory)
+number (start circuit readAddress writeAddress count kind) w = startNumber (w .state) circuit readAddress writeAddress count kind
+number (store node address new) w = placeNumber (w .state) (w .memory) node address
+number (fetch node address) w = placeNumber (w .state) (w .memory) node address
+number (left circuit) w = leftNumber (w .state) circuit
+number periodNumber w = stateNumber (w .state)
+number (landed node) w = landedNumber (w .state) node
+number (order schedule period) w = orderNumber (w .state) schedule period
+number cycle w = cycleNumber (w .state) (w .memory)
+
+-- the lent words after a call that is carried out
+abbrev pub does : Call → Lent → Lent
+does (load z) w = record { state = loaded z (w .state); memory = w .memory }
+does (start circuit readAddress writeAddress count kind) w =
+    record { state = started (w .state) circuit readAddress writeAddress count kind; memory = w .memory }
+does (store node address new) w = record { state = w .state; memory = stored (w .state) (w .memory) node address new }
+does (fetch node address) w = w
+does (left circuit) w = w
+does periodNumber w = w
+does (landed node) w = w
+does (order schedule period) w = record { state = ordered (w .state) schedule period; memory = w .memory }
+does cycle w = record { state = nextState (w .state) (w .memory); memory = nextMemory (w .state) (w .memory) }
+
+-- the lent words after a call: a refusal changes nothing
+unfoldable pub after : Call → Lent → Lent
+after x w = pick (number x w =? 0) (does x w) w

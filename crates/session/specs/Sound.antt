@@ -1,0 +1,75 @@
+-- A sound state (document 01, the paragraph behind the refusals; number 13), clause by clause. Registers of nodes and circuits that the
+-- sheet lacks, and fields beside an empty, idle or zero mark, are never tested.
+use Prim.Native.Nat.{ℕ, _+_, _*_}
+use mathlib.Core.Bool.{Bool}
+use mathlib.Core.List.{List}
+use Rattle.words.specs.Tests.{all, _and_, _or_, _≤?_, _<?_, _=?_, _≠?_}
+use Rattle.packet.specs.Header.{kindOf}
+use Rattle.sheet.specs.declared.circuits.Region.{Region}
+use Rattle.sheet.specs.Sheet.{circuits, schedules, nodes, circuitAt, period}
+use Rattle.sheet.specs.Rules.{verdict}
+use Rattle.network.specs.Registers.{reg, sheetLength, sheetIn, sheetWords, clockRow, cyclePlace, schedulePlace, orderMarkPlace, orderSchedulePlace, linkMark, linkWord, headMark, headWord, choiceRow, latchRow, outMark, outWord, receiveMark, receiveKind, landingMark, leftRow, readRow, writeRow, kindRow, toGoRow}
+
+-- the state's sheet, with its stored length, passes 1 to 11
+unfoldable pub sheetSound : List ℕ → Bool
+sheetSound s = sheetLength s ≤? sheetWords and verdict (sheetIn s) =? 0
+
+-- the schedule in force and the cycle are within range
+unfoldable pub clockSound : List ℕ → Bool
+clockSound s =
+    reg s clockRow schedulePlace <? schedules (sheetIn s)
+    and reg s clockRow cyclePlace <? period (sheetIn s) (reg s clockRow schedulePlace)
+
+-- the order's mark is a known one, and a pending order's schedule exists
+unfoldable pub orderSound : List ℕ → Bool
+orderSound s =
+    reg s clockRow orderMarkPlace ≤? 1
+    and (reg s clockRow orderMarkPlace =? 0 or reg s clockRow orderSchedulePlace <? schedules (sheetIn s))
+
+-- kinds that may travel: data and interrupt
+unfoldable pub kindTravels : ℕ → Bool
+kindTravels kind = kind =? 0 or kind =? 2
+
+-- so many words from an address on lie in a region
+unfoldable pub liesIn : Region → ℕ → ℕ → Bool
+liesIn r address count = r .offset ≤? address and address + count ≤? r .offset + r .size
+
+-- a transfer with words left has a kind that travels, an interrupt at most one word, and the rest of it lies in its regions; a packet
+-- still being sent has no more words to go than are left
+unfoldable pub transferSound : List ℕ → ℕ → Bool
+transferSound s c =
+    reg s toGoRow c ≤? reg s leftRow c
+    and (reg s leftRow c =? 0
+    or kindTravels (reg s kindRow c)
+    and (reg s kindRow c =? 0 or reg s leftRow c ≤? 1)
+    and liesIn (circuitAt (sheetIn s) c .read) (reg s readRow c) (reg s leftRow c)
+    and liesIn (circuitAt (sheetIn s) c .receive) (reg s writeRow c) (reg s leftRow c))
+
+-- a mark on a wire is a known one, and no header has kind 1 or 3
+unfoldable pub cellSound : ℕ → ℕ → Bool
+cellSound mark w = mark ≤? 3 and (mark ≠? 1 or kindTravels (kindOf w))
+
+-- an input's registers, and an output's: a choice beside a cell that is there, and a held latch, are known ones
+unfoldable pub routerSound : List ℕ → ℕ → Bool
+routerSound s k =
+    cellSound (reg s linkMark k) (reg s linkWord k)
+    and cellSound (reg s headMark k) (reg s headWord k)
+    and cellSound (reg s outMark k) (reg s outWord k)
+    and (reg s headMark k =? 0 or reg s choiceRow k ≤? 5)
+    and reg s latchRow k ≤? 5
+
+-- a receive unit's mark is a known one, and no arriving packet has kind 1 or 3; a stored landing's mark is a known one
+unfoldable pub nodeSound : List ℕ → ℕ → Bool
+nodeSound s n =
+    reg s receiveMark n ≤? 1
+    and (reg s receiveMark n =? 0 or kindTravels (reg s receiveKind n))
+    and reg s landingMark n ≤? 1
+
+unfoldable pub sound : List ℕ → Bool
+sound s =
+    sheetSound s
+    and clockSound s
+    and orderSound s
+    and all (circuits (sheetIn s)) (transferSound s)
+    and all (nodes (sheetIn s) * 5) (routerSound s)
+    and all (nodes (sheetIn s)) (nodeSound s)
