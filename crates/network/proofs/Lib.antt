@@ -2,3 +2,9 @@ pub mod RowLaws
 pub mod ViewLaws
 pub mod FaultLaws
 pub mod StepLaws
+pub mod StageLaws
+pub mod SlotLaws
+pub mod FirstLaws
+pub mod SourceLaws
+pub mod SentLaws
+pub mod PartLaws

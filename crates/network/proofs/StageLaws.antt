@@ -1,0 +1,61 @@
+-- The header stage, from the words that were read and the tests that were taken.
+-- Assumes nothing.
+use Prim.Native.Nat.{ℕ, _+_, _<_, _≤_}
+use mathlib.Core.Bool.{Bool, true, false}
+use mathlib.Core.Path.{_≡_, sym, _∙_, ap}
+use native.Mathlib.Omega.{arith}
+use Rattle.words.specs.Tests.{_=?_}
+use Rattle.words.specs.Words.{pick}
+use Rattle.words.proofs.TestLaws.{yes=, no=, yes≤, no≤}
+use Rattle.packet.specs.Header.{routeOf, firstCode, shiftedWord}
+use Rattle.network.specs.View.{memoryOutput}
+use Rattle.network.specs.Cycle.{outputFor}
+use Rattle.network.specs.Machine.{nextHeadWord, nextLatch}
+
+-- the output for a route's first code
+module _ (input w route : ℕ) (e : route ≡ routeOf w) where
+  pub output-memory : input ≡ firstCode route → memoryOutput ≡ outputFor input w
+  unfolding outputFor
+  output-memory h = rw (yes= (h ∙ ap firstCode e))
+
+  pub output-side : (input ≡ firstCode route → ⊥) → firstCode route ≡ outputFor input w
+  unfolding outputFor
+  output-side ne = rw (no= (λ h. ne (h ∙ ap firstCode (sym e)))) (ap firstCode e)
+
+-- an output is one of five
+pub output-small : (input w o : ℕ) → o ≡ outputFor input w → o ≤ 4
+unfolding outputFor
+output-small input w o e = go (input =? firstCode (routeOf w)) e
+  where
+    go : (t : Bool) → o ≡ pick t memoryOutput (firstCode (routeOf w)) → o ≤ 4
+    go true q = omega arith
+    go false q = omega arith
+
+-- the word that leaves the header stage
+module _ (mark w : ℕ) where
+  pub head-shifted : (v : ℕ) → v ≡ shiftedWord w → mark ≡ 1 → v ≡ nextHeadWord mark w
+  unfolding nextHeadWord
+  head-shifted v e h = rw (yes= h) e
+
+  pub head-same : (mark ≡ 1 → ⊥) → w ≡ nextHeadWord mark w
+  unfolding nextHeadWord
+  head-same ne = rw (no= ne)
+
+-- the latch, from the mark m that was read
+module _ (input latch mark w m : ℕ) (e : m ≡ mark) where
+  pub latch-set : (v o : ℕ) → v ≡ w → o ≡ outputFor input v → m ≡ 1 → o + 1 ≡ nextLatch input latch mark w
+  unfolding nextLatch
+  latch-set v o q r h = rw (yes= (sym e ∙ h)) (ap (λ (x : ℕ). x + 1) (r ∙ ap (outputFor input) q))
+
+  pub latch-dropped : 3 ≤ m → 0 ≡ nextLatch input latch mark w
+  unfolding nextLatch
+  latch-dropped h =
+      let other : mark ≡ 1 → ⊥ = λ q. (let z : ⊥ = omega (arith, q) in z) in
+      let late : 3 ≤ mark = omega arith in
+      rw (no= other, yes≤ late)
+
+  pub latch-held : (v : ℕ) → v ≡ latch → (m ≡ 1 → ⊥) → m < 3 → v ≡ nextLatch input latch mark w
+  unfolding nextLatch
+  latch-held v q ne h =
+      let early : mark < 3 = omega arith in
+      rw (no= (λ f. ne (e ∙ f)), no≤ early) q
