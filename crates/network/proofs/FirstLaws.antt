@@ -19,9 +19,13 @@ module _ (marks : ℕ → ℕ) where
   unfolding firstMark
   first-next n h = rw (yes= h, firstMark)
 
-  word-next : (words : ℕ → ℕ) (n : ℕ) → firstMark n marks ≡ 0 → firstWord (suc n) marks words ≡ words n
+  word-next : (words : ℕ → ℕ) (n : ℕ) → firstMark n marks ≡ 0 → (marks n ≡ 0 → ⊥) → firstWord (suc n) marks words ≡ words n
   unfolding firstWord
-  word-next words n h = rw (yes= h, firstWord)
+  word-next words n h ne = rw (yes= h, no= ne, firstWord)
+
+  word-over : (words : ℕ → ℕ) (n : ℕ) → firstMark n marks ≡ 0 → marks n ≡ 0 → firstWord (suc n) marks words ≡ 0
+  unfolding firstWord
+  word-over words n h e = rw (yes= h, yes= e, firstWord)
 
   -- one is not empty: it stays
   first-stays : (n v : ℕ) → firstMark n marks ≡ v → (v ≡ 0 → ⊥) → firstMark (suc n) marks ≡ v
@@ -32,6 +36,14 @@ module _ (marks : ℕ → ℕ) where
       → firstWord (suc n) marks words ≡ firstWord n marks words
   unfolding firstWord
   word-stays words n v h ne = rw (no= (λ e. ne (sym h ∙ e)), firstWord)
+
+  -- a mark that is not empty stays, so that none stands before an empty one
+  mark-before : (n : ℕ) → firstMark (suc n) marks ≡ 0 → firstMark n marks ≡ 0
+  mark-before n h = go (ℕ-discrete (firstMark n marks) 0)
+    where
+      go : Dec (firstMark n marks ≡ 0) → firstMark n marks ≡ 0
+      go (yes e) = e
+      go (no ne) = absurd (ne (sym (first-stays n _ refl ne) ∙ h))
 
   pub first-more : (k v : ℕ) → firstMark k marks ≡ 0 → v ≡ marks k → v ≡ 0 → firstMark (k + 1) marks ≡ 0
   first-more k v h e q = rw add-one (first-next k h ∙ sym e ∙ q)
@@ -51,15 +63,18 @@ module _ (marks : ℕ → ℕ) where
     word-found words (suc n) l = go (ℕ-discrete k n) (word-found words n)
       where
         go : Dec (k ≡ n) → (k < n → firstWord n marks words ≡ words k) → firstWord (suc n) marks words ≡ words k
-        go (yes q) r = ap (λ (i : ℕ). firstWord (suc i) marks words) (sym q) ∙ word-next words k h
+        go (yes q) r = ap (λ (i : ℕ). firstWord (suc i) marks words) (sym q) ∙ word-next words k h (λ z. ne (e ∙ z))
         go (no other) r =
             let l′ : k < n = omega (arith, other) in
             word-stays words n v (first-found n l′) ne ∙ r l′
 
-  -- all but the last are empty: the last one's word
-  pub word-last : (words : ℕ → ℕ) (k : ℕ) → firstMark k marks ≡ 0 → firstWord (k + 1) marks words ≡ words k
-  word-last words k h = rw add-one (word-next words k h)
-
-  pub word-none : (words : ℕ → ℕ) → firstWord 0 marks words ≡ 0
+  word-none : (words : ℕ → ℕ) → firstWord 0 marks words ≡ 0
   unfolding firstWord
   word-none words = refl
+
+  -- all are empty
+  pub word-empty : (words : ℕ → ℕ) (n : ℕ) → firstMark n marks ≡ 0 → firstWord n marks words ≡ 0
+  word-empty words zero h = word-none words
+  word-empty words (suc n) h =
+      let before = mark-before n h in
+      word-over words n before (sym (first-next n before) ∙ h)

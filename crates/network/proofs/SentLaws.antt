@@ -22,7 +22,7 @@ use Rattle.network.specs.Registers.{reg, sheetIn, room, clockRow, cycleP
 use Rattle.network.specs.Machine.{wordOf, sentWord, ownMark, firstMark, firstWord, sourceWord}
 use Rattle.network.specs.Lent.{Lent, Sendable}
 use Rattle.network.proofs.SlotLaws.{route-small}
-use Rattle.network.proofs.FirstLaws.{word-found, word-last, word-none}
+use Rattle.network.proofs.FirstLaws.{word-found, word-empty}
 use Rattle.network.proofs.SourceLaws.{opening, moves-open, moves-on, source-read}
 
 -- the header of a circuit's packet, and the memory word that it reads
@@ -118,19 +118,15 @@ module _ (s z m : List ℕ) (own : z ≡ sheetIn s) (node : ℕ) where
   unfolding sourceWord
   wire-of = ap (λ (l : List ℕ). firstWord (circuits l) (ownMark s node) (sentWord s m)) own
 
-  pub wire-none : (count : ℕ) → count ≡ circuits z → count ≡ 0 → 0 ≡ sourceWord s m node
-  wire-none count e h =
-      sym (word-none (ownMark s node) (sentWord s m))
-      ∙ ap (λ (n : ℕ). firstWord n (ownMark s node) (sentWord s m)) (sym h ∙ e)
+  -- no circuit puts a mark there
+  pub wire-none : (k : ℕ) → firstMark k (ownMark s node) ≡ 0 → k ≡ circuits z → 0 ≡ sourceWord s m node
+  wire-none k h e =
+      sym (word-empty (ownMark s node) (sentWord s m) k h)
+      ∙ ap (λ (n : ℕ). firstWord n (ownMark s node) (sentWord s m)) e
       ∙ wire-of
 
-  module _ (k : ℕ) (h : firstMark k (ownMark s node) ≡ 0) (v : ℕ) (e : v ≡ sentWord s m k) where
-    pub wire-found : (mark : ℕ) → mark ≡ ownMark s node k → (mark ≡ 0 → ⊥) → k < circuits z → v ≡ sourceWord s m node
-    wire-found mark q ne l = e ∙ sym (word-found (ownMark s node) k mark h q ne (sentWord s m) (circuits z) l) ∙ wire-of
-
-    pub wire-last : k < circuits z → circuits z ≤ k + 1 → v ≡ sourceWord s m node
-    wire-last l r =
-        let q : k + 1 ≡ circuits z = omega arith in
-        e ∙ sym (word-last (ownMark s node) (sentWord s m) k h)
-        ∙ ap (λ (n : ℕ). firstWord n (ownMark s node) (sentWord s m)) q
-        ∙ wire-of
+  -- the first circuit that does
+  pub wire-found : (k : ℕ) → firstMark k (ownMark s node) ≡ 0 → (v : ℕ) → v ≡ sentWord s m k → (mark : ℕ) → mark ≡ ownMark s node k
+      → (mark ≡ 0 → ⊥) → k < circuits z → v ≡ sourceWord s m node
+  wire-found k h v e mark q ne l =
+      e ∙ sym (word-found (ownMark s node) k mark h q ne (sentWord s m) (circuits z) l) ∙ wire-of

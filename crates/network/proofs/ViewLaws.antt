@@ -52,13 +52,21 @@ cell-join (suc zero) y u v = refl
 cell-join (suc (suc zero)) y u v = refl
 cell-join (suc (suc (suc x))) y u v = rw (not-zero x) refl
 
+-- no word beside an empty mark
+cell-word : (mark w : ℕ) → cell mark (pick (mark =? 0) 0 w) ≡ cell mark w
+unfolding _=?_
+cell-word zero w = refl
+cell-word (suc zero) w = refl
+cell-word (suc (suc zero)) w = refl
+cell-word (suc (suc (suc mark))) w = rw (not-zero mark) refl
+
 pub cell-first : (n : ℕ) (marks words : ℕ → ℕ)
     → cell (firstMark n marks) (firstWord n marks words) ≡ gather n (λ i. cell (marks i) (words i))
 unfolding firstMark firstWord
 cell-first zero marks words = refl
 cell-first (suc n) marks words =
-    cell-join (firstMark n marks) (firstWord n marks words) (marks n) (words n)
-    ∙ ap (λ x. join x (cell (marks n) (words n))) (cell-first n marks words)
+    cell-join (firstMark n marks) (firstWord n marks words) (marks n) (pick (marks n =? 0) 0 (words n))
+    ∙ ap₂ join (cell-first n marks words) (cell-word (marks n) (words n))
 
 -- cells that agree one by one
 pub gather-same : (n : ℕ) (f g : ℕ → Cell) → ((i : ℕ) → i < n → f i ≡ g i) → gather n f ≡ gather n g

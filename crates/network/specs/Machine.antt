@@ -18,14 +18,14 @@ use Rattle.network.specs.Registers.{reg, sheetIn, room, movingWords, row
 abbrev pub at : ℕ → ℕ → ℕ
 at node k = node * 5 + k
 
--- the first mark of so many that is not empty, and the word beside it
+-- the first mark of so many that is not empty, and the word beside it; both 0 where all are empty
 unfoldable pub firstMark : ℕ → (ℕ → ℕ) → ℕ
 firstMark zero marks = 0
 firstMark (suc n) marks = pick (firstMark n marks =? 0) (marks n) (firstMark n marks)
 
 unfoldable pub firstWord : ℕ → (ℕ → ℕ) → (ℕ → ℕ) → ℕ
 firstWord zero marks words = 0
-firstWord (suc n) marks words = pick (firstMark n marks =? 0) (words n) (firstWord n marks words)
+firstWord (suc n) marks words = pick (firstMark n marks =? 0) (pick (marks n =? 0) 0 (words n)) (firstWord n marks words)
 
 -- a circuit's sender, and what it does in this cycle
 abbrev pub senderIn : List ℕ → ℕ → Sender

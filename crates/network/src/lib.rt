@@ -277,21 +277,18 @@ fn sent_word(s: &[u32], z: &[u32], m: &[u32], c: u32) -> u32
     read_now(s, z, m, c)
 }
 
-// The word on a node's source wire: that of the circuit whose mark is there, the last circuit's where there is none.
+// The word on a node's source wire: that of the circuit whose mark is there, 0 where there is none.
 pub fn source_word(s: &[u32], z: &[u32], m: &[u32], node: u32) -> u32
     requires { ⌜ Sendable (now s) (now z) ⌝ }
     ensures { λ r. ⌜ r ≡ sourceWord (now (s .entry)) (now (m .entry)) node ⌝ }
 {
     let count = words::get(z, 3);
-    if count == 0 {
-        return 0;
-    }
     let mut c: u32 = 0;
-    while c + 1 < count {
+    while c < count {
         if own_mark(s, z, node, c) != 0 {
             return sent_word(s, z, m, c);
         }
         c += 1;
     }
-    sent_word(s, z, m, c)
+    0
 }

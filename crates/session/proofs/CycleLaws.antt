@@ -46,12 +46,18 @@ cell-only : (b : Bool) {mark w : ℕ} → CellParts mark w → CellParts (pick b
 cell-only true x = x
 cell-only false {mark} {w} x = cell-none w
 
+cell-word : (mark w : ℕ) → CellParts mark w → CellParts mark (pick (mark =? 0) 0 w)
+cell-word mark w x =
+    record { known = x .known; travels = λ q. rw (no= (let ne : mark ≡ 0 → ⊥ = λ e. omega arith in ne)) (x .travels q) }
+
 cell-first : (n : ℕ) (marks words : ℕ → ℕ) → ((i : ℕ) → i < n → CellParts (marks i) (words i))
     → CellParts (firstMark n marks) (firstWord n marks words)
 unfolding firstMark firstWord
 cell-first zero marks words h = cell-none 0
 cell-first (suc n) marks words h =
-    cell-pick (firstMark n marks =? 0) (h n (omega arith)) (cell-first n marks words (λ i l. h i (omega arith)))
+    cell-pick (firstMark n marks =? 0)
+    (cell-word (marks n) (words n) (h n (omega arith)))
+    (cell-first n marks words (λ i l. h i (omega arith)))
 
 -- the header stage keeps the kind
 kind-shifted : (w : ℕ) → kindOf (shiftedWord w) ≡ kindOf w

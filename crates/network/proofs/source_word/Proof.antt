@@ -1,17 +1,17 @@
 -- `network::source_word` meets its contract: in the loop no circuit before `c` puts a mark on the wire.
 -- Assumes nothing.
 use native.Mathlib.Omega.{arith}
-use Prim.Native.Nat.{_<_, _-_}
+use Prim.Native.Nat.{_≤_, _-_}
 use mathlib.Core.Path.{_≡_}
 use Rattle.sheet.specs.Sheet.{circuits}
 use Rattle.network.specs.Machine.{firstMark, ownMark}
 use Rattle.network.proofs.FirstLaws.{first-none, first-more}
-use Rattle.network.proofs.SentLaws.{wire-none, wire-found, wire-last}
+use Rattle.network.proofs.SentLaws.{wire-none, wire-found}
 use Rattle.network.proofs.source_word.Statement.{statement}
 use Rattle.network.proofs.source_word.Tie as tie
 
 abbrev Inv-loop : tie.InvT-loop
-Inv-loop s z m node count c₀ c = (count ≡ circuits z) × (c < count) × (firstMark c (ownMark s node) ≡ 0)
+Inv-loop s z m node count c₀ c = (count ≡ circuits z) × (c ≤ count) × (firstMark c (ownMark s node) ≡ 0)
 
 abbrev μ-loop : tie.MeasureT-loop
 μ-loop s z m node count c₀ c = count - c
@@ -19,23 +19,17 @@ abbrev μ-loop : tie.MeasureT-loop
 get-requires : tie.Need-get-requires Inv-loop μ-loop
 get-requires c κs = tt
 
-returns : tie.Need-returns Inv-loop μ-loop
-returns c = wire-none _ _ _ (c .before .before .before .before .before .pre .lent .own) _ _ (c .before .get .ensures) (c .if1 .taken)
-
 loop-holds : tie.Need-loop-holds Inv-loop μ-loop
-loop-holds c = (c .before .get .ensures, omega arith, first-none _)
-
-add-loop : tie.Need-add-loop Inv-loop μ-loop
-add-loop c = omega arith
+loop-holds c = (c .get .ensures, omega arith, first-none _)
 
 own-mark-requires : tie.Need-own-mark-requires Inv-loop μ-loop
-own-mark-requires c κs = c .before .before .before .before .before .before .before .pre .lent
+own-mark-requires c κs = c .before .before .before .before .before .before .pre .lent
 
 sent-word-requires : tie.Need-sent-word-requires Inv-loop μ-loop
-sent-word-requires c κs = (c .before .before .before .before .before .before .before .before .before .pre, omega arith)
+sent-word-requires c κs = (c .before .before .before .before .before .before .before .before .pre, omega arith)
 
-returns-2 : tie.Need-returns-2 Inv-loop μ-loop
-returns-2 c = wire-found _ _ _ (c .before .before .before .before .before .before .before .before .before .before .pre .lent .own) _ _ (c .before .before .before .before .loop .inv .2) _ (c .sent-word .ensures) _ (c .before .before .own-mark .ensures) (c .before .if2 .taken) (omega arith)
+returns : tie.Need-returns Inv-loop μ-loop
+returns c = wire-found _ _ _ (c .before .before .before .before .before .before .before .before .before .pre .lent .own) _ _ (c .before .before .before .before .loop .inv .2) _ (c .sent-word .ensures) _ (c .before .before .own-mark .ensures) (c .before .if1 .taken) (omega arith)
 
 add-c : tie.Need-add-c Inv-loop μ-loop
 add-c c = omega arith
@@ -46,11 +40,8 @@ loop-less c = omega arith
 loop-again : tie.Need-loop-again Inv-loop μ-loop
 loop-again c = (c .before .before .before .loop .inv .0, omega arith, first-more _ _ _ (c .before .before .before .loop .inv .2) (c .before .own-mark .ensures) (omega arith))
 
-sent-word-requires-2 : tie.Need-sent-word-requires-2 Inv-loop μ-loop
-sent-word-requires-2 c κs = (c .before .before .before .before .before .before .before .pre, omega arith)
-
-returns-3 : tie.Need-returns-3 Inv-loop μ-loop
-returns-3 c = wire-last _ _ _ (c .before .before .before .before .before .before .before .before .pre .lent .own) _ _ (c .before .before .loop .inv .2) _ (c .sent-word2 .ensures) (omega arith) (omega arith)
+returns-2 : tie.Need-returns-2 Inv-loop μ-loop
+returns-2 c = wire-none _ _ _ (c .before .before .before .before .before .before .pre .lent .own) _ _ (c .before .loop .inv .2) (omega arith)
 
 pub source-word-spec : {M : Type 1} → statement M
 source-word-spec =
@@ -59,14 +50,11 @@ source-word-spec =
     Inv-loop
     μ-loop
     get-requires
-    returns
     loop-holds
-    add-loop
     own-mark-requires
     sent-word-requires
-    returns-2
+    returns
     add-c
     loop-less
     loop-again
-    sent-word-requires-2
-    returns-3)
+    returns-2)
