@@ -14,7 +14,8 @@ use Rattle.sheet.specs.Passed.{Headed}
 use Rattle.network.specs.View.{Cell, empty, header, sourceInput, memoryOutput, Routers}
 use Rattle.network.specs.Cycle.{advance, asks, stepRouters, isFull, isPayload}
 use Rattle.isolation.proofs.CellLaws.{not-full, payload-full, advance-full, pick-passes, pick-full, gather-one, gather-full}
-use Rattle.isolation.proofs.GridLaws.{opposite-side, opposite-back, neighbour-in, neighbour-back}
+use Rattle.torus.proofs.NeighbourLaws.{opposite-side, opposite-back}
+use Rattle.isolation.proofs.GridLaws.{neighbour-in, neighbour-back}
 use Rattle.isolation.proofs.Flight.{Flights, wordAt, Paths, ports, linkStage, headStage, outStage, InStage, Found, Holds, Leaves, Emits, NoClash}
 
 -- a cycle later a word is in the next stage

@@ -20,7 +20,7 @@ use Rattle.sheet.specs.Slots.{slotRoute, sourceOf}
 use Rattle.network.specs.Cycle.{Move, rests, sends}
 use Rattle.network.specs.Registers.{reg, sheetIn, room, clockRow, cyclePlace, schedulePlace, leftRow, readRow, writeRow, kindRow, toGoRow}
 use Rattle.network.specs.Machine.{wordOf, sentWord, ownMark, firstMark, firstWord, sourceWord}
-use Rattle.network.specs.Lent.{Lent, Sendable}
+use Rattle.network.specs.Paired.{Paired, Sendable}
 use Rattle.network.proofs.SlotLaws.{route-small}
 use Rattle.network.proofs.FirstLaws.{word-found, word-empty}
 use Rattle.network.proofs.SourceLaws.{opening, moves-open, moves-on, source-read}
@@ -54,7 +54,7 @@ module _ (s z : List ℕ) (g : Sendable s z) (c : ℕ) (inside : c < circuits z)
   module _ (kind address route : ℕ) (p : Parts s z c kind address route) where
     fits : Fits kind address route
     fits =
-        let low = route-small z (g .ranged) _ (g .lent .in-force) (reg s clockRow cyclePlace) c in
+        let low = route-small z (g .ranged) _ (g .paired .in-force) (reg s clockRow cyclePlace) c in
         let k = g .kind-fits c inside some in
         let a = g .address-fits c inside some in
         record { kind-fits = omega arith; address-fits = omega arith; route-fits = omega arith }
@@ -64,7 +64,7 @@ module _ (s z : List ℕ) (g : Sendable s z) (c : ℕ) (inside : c < circuits z)
         ap (λ (x : ℕ). headerWord x address route) (p .kind-read)
         ∙ ap (λ (x : ℕ). headerWord (reg s kindRow c) x route) (p .address-read)
         ∙ ap (headerWord (reg s kindRow c) (reg s writeRow c))
-        (p .route-read ∙ ap (λ (l : List ℕ). slotRoute l (reg s clockRow schedulePlace) (reg s clockRow cyclePlace) c) (g .lent .own))
+        (p .route-read ∙ ap (λ (l : List ℕ). slotRoute l (reg s clockRow schedulePlace) (reg s clockRow cyclePlace) c) (g .paired .own))
 
     module _ (b : Built) (e : b ≡ builtOf (headerNumber kind address route) (headerWord kind address route)) where
       made : b ≡ Made (record { 0 = headerWord kind address route })
@@ -82,7 +82,7 @@ module _ (s z : List ℕ) (g : Sendable s z) (c : ℕ) (inside : c < circuits z)
 pub place-fits : (a b : ℕ) → a < 4294967296 → b < 4294967296 → a * b ≤ 18446744065119617025
 place-fits a b p q = mul-le-mul {n₁ = a} {m₁ = b} {n₂ = 4294967295} {m₂ = 4294967295} (omega arith) (omega arith)
 
-pub read-is : (s z m : List ℕ) → Lent s z → (c : ℕ) (x : Circuit) (r a v : ℕ) → x ≡ circuitAt z c → r ≡ memoryWords z
+pub read-is : (s z m : List ℕ) → Paired s z → (c : ℕ) (x : Circuit) (r a v : ℕ) → x ≡ circuitAt z c → r ≡ memoryWords z
     → a ≡ reg s readRow c → v ≡ word m (x .read .node * r + a) → v ≡ readIn s m c
 read-is s z m g c x r a v e f h q =
     q ∙ ap (λ (n : ℕ). word m (n * r + a)) (source-read s z g c c x e)

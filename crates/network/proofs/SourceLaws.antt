@@ -14,11 +14,11 @@ use Rattle.sheet.specs.Slots.{slotLength, sourceOf}
 use Rattle.network.specs.Cycle.{Move, rests, opens, sends, moveOf}
 use Rattle.network.specs.Registers.{reg, sheetIn, clockRow, cyclePlace, schedulePlace, leftRow, toGoRow}
 use Rattle.network.specs.Machine.{slotIn, moveIn, markOf, sentMark, ownMark, firstMark, sourceMark}
-use Rattle.network.specs.Lent.{Lent}
+use Rattle.network.specs.Paired.{Paired}
 use Rattle.network.proofs.FirstLaws.{first-found}
 
 -- the slot that begins now
-pub slot-is : (s z : List ℕ) → Lent s z → (j cycle c v : ℕ) → j ≡ reg s clockRow schedulePlace → cycle ≡ reg s clockRow cyclePlace
+pub slot-is : (s z : List ℕ) → Paired s z → (j cycle c v : ℕ) → j ≡ reg s clockRow schedulePlace → cycle ≡ reg s clockRow cyclePlace
     → v ≡ slotLength z j cycle c → v ≡ slotIn s c
 unfolding slotIn
 slot-is s z g j cycle c v a b e =
@@ -85,7 +85,7 @@ module _ (s : List ℕ) (c : ℕ) (o : Bool) (e : o ≡ opening s c) where
     mark-more some ne = ap (λ (x : Bool). pick {A = ℕ} x 3 2) (sym (no= ne)) ∙ mark-by true (going some)
 
 -- a circuit's mark at a node, from the circuit that was read
-module _ (s z : List ℕ) (g : Lent s z) (node c : ℕ) (x : Circuit) (e : x ≡ circuitAt z c) where
+module _ (s z : List ℕ) (g : Paired s z) (node c : ℕ) (x : Circuit) (e : x ≡ circuitAt z c) where
   pub source-read : x .read .node ≡ sourceOf (sheetIn s) c
   source-read = ap (λ (y : Circuit). y .read .node) (e ∙ ap (λ (l : List ℕ). circuitAt l c) (g .own))
 
@@ -96,7 +96,7 @@ module _ (s z : List ℕ) (g : Lent s z) (node c : ℕ) (x : Circuit) (e : x ≡
   no-mark ne = rw (no= (λ h. ne (source-read ∙ h)))
 
 -- the wire's mark, from the loop over the circuits
-module _ (s z : List ℕ) (g : Lent s z) (node k : ℕ) (h : firstMark k (ownMark s node) ≡ 0) where
+module _ (s z : List ℕ) (g : Paired s z) (node k : ℕ) (h : firstMark k (ownMark s node) ≡ 0) where
   same-count : circuits z ≡ circuits (sheetIn s)
   same-count = ap circuits (g .own)
 

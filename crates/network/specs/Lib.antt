@@ -3,4 +3,4 @@ pub mod Cycle
 pub mod Registers
 pub mod Machine
 pub mod Seen
-pub mod Lent
+pub mod Paired

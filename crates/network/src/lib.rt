@@ -10,7 +10,7 @@ ghost use Rattle.sheet.specs.Slots.{entryBeginning, slotLength, slotRoute, sour
 ghost use Rattle.network.specs.Cycle.{outputFor};
 ghost use Rattle.network.specs.Registers.{reg as regOf, sheetIn, room, clockRow, cyclePlace, schedulePlace, latchRow, linkMark, linkWord, leftRow, readRow, writeRow, kindRow};
 ghost use Rattle.network.specs.Machine.{nextHeadWord, nextLatch, slotIn, sentMark, sentWord, ownMark, sourceMark, sourceWord};
-ghost use Rattle.network.specs.Lent.{Lent, Sendable};
+ghost use Rattle.network.specs.Paired.{Paired, Sendable};
 use packet::Built;
 use packet::Header;
 use sheet::Circuit;
@@ -161,7 +161,7 @@ fn slot_route(z: &[u32], j: u32, cycle: u32, circuit: u32) -> u32
 
 // The length of circuit c's slot that begins in this cycle; the call that found the state sound lends its sheet, here and below.
 fn slot_now(s: &[u32], z: &[u32], c: u32) -> u32
-    requires { ⌜ Lent (now s) (now z) ⌝ }
+    requires { ⌜ Paired (now s) (now z) ⌝ }
     ensures { λ r. ⌜ r ≡ slotIn (now (s .entry)) c ⌝ }
 {
     slot_length(
@@ -174,7 +174,7 @@ fn slot_now(s: &[u32], z: &[u32], c: u32) -> u32
 
 // Circuit c opens a packet in this cycle: it has words left, and a slot of it begins.
 fn does_open(s: &[u32], z: &[u32], c: u32) -> bool
-    requires { ⌜ Lent (now s) (now z) ⌝ }
+    requires { ⌜ Paired (now s) (now z) ⌝ }
     ensures { λ r. ⌜ r ≡ (1 ≤? regOf (now (s .entry)) leftRow c and 1 ≤? slotIn (now (s .entry)) c) ⌝ }
 {
     if reg(s, LEFT_ROW, c) == 0 {
@@ -185,7 +185,7 @@ fn does_open(s: &[u32], z: &[u32], c: u32) -> bool
 
 // The mark that circuit c puts on its source's wire.
 fn sent_mark(s: &[u32], z: &[u32], c: u32) -> u32
-    requires { ⌜ Lent (now s) (now z) ⌝ }
+    requires { ⌜ Paired (now s) (now z) ⌝ }
     ensures { λ r. ⌜ r ≡ sentMark (now (s .entry)) c ⌝ }
 {
     if does_open(s, z, c) {
@@ -203,7 +203,7 @@ fn sent_mark(s: &[u32], z: &[u32], c: u32) -> u32
 
 // The same at its own source, 0 at any other node.
 fn own_mark(s: &[u32], z: &[u32], node: u32, c: u32) -> u32
-    requires { ⌜ Lent (now s) (now z) ⌝ }
+    requires { ⌜ Paired (now s) (now z) ⌝ }
     ensures { λ r. ⌜ r ≡ ownMark (now (s .entry)) node c ⌝ }
 {
     let circuit = Circuit::at(z, c);
@@ -216,7 +216,7 @@ fn own_mark(s: &[u32], z: &[u32], node: u32, c: u32) -> u32
 
 // The mark on a node's source wire: that of the first of its circuits that puts one there.
 pub fn source_mark(s: &[u32], z: &[u32], node: u32) -> u32
-    requires { ⌜ Lent (now s) (now z) ⌝ }
+    requires { ⌜ Paired (now s) (now z) ⌝ }
     ensures { λ r. ⌜ r ≡ sourceMark (now (s .entry)) node ⌝ }
 {
     let count = words::get(z, 3);
@@ -251,7 +251,7 @@ fn head_now(s: &[u32], z: &[u32], c: u32) -> u32
 
 // The word that circuit c reads next, in its source's part of the memories.
 fn read_now(s: &[u32], z: &[u32], m: &[u32], c: u32) -> u32
-    requires { ⌜ Lent (now s) (now z) ⌝ }
+    requires { ⌜ Paired (now s) (now z) ⌝ }
     ensures { λ r. ⌜ r ≡ wordAt (now (m .entry)) (sourceOf (sheetIn (now (s .entry))) c * room (now (s .entry)) + regOf (now (s .entry)) readRow c) ⌝ }
 {
     let circuit = Circuit::at(z, c);

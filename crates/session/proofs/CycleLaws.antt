@@ -28,7 +28,8 @@ use Rattle.network.proofs.RowLaws.{router-after, node-after, sender-after, cloc
 use Rattle.session.specs.Sound.{kindTravels}
 use Rattle.session.proofs.NumberLaws.{Lies}
 use Rattle.session.proofs.SoundLaws.{travels-small, CellParts, cell-none, TransferParts, RouterParts, NodeParts, SoundParts}
-use Rattle.session.proofs.SheetLaws.{SheetBounds, period-some, circuit-bounds, route-small}
+use Rattle.session.proofs.SheetLaws.{SheetBounds, period-some, circuit-bounds}
+use Rattle.network.proofs.SlotLaws.{route-small}
 
 -- cells: a payload word, a header whose kind travels
 cell-body : (mark w : ℕ) → 2 ≤ mark → mark ≤ 3 → CellParts mark w
@@ -163,7 +164,7 @@ module _ (s m : List ℕ) (b : SheetBounds (sheetIn s)) (x : SoundParts (sheetIn
       let rest = x .transfers c l .writes live in
       let memory = circuit-bounds sheet b c l .receive-ends in (
         omega (arith, rest .high, b .small-memory),
-        route-small sheet b (reg s clockRow schedulePlace) (x .schedule-inside) (reg s clockRow cyclePlace) c,
+        route-small sheet (b .ranged) (reg s clockRow schedulePlace) (x .schedule-inside) (reg s clockRow cyclePlace) c,
       )
 
   header-travels : (c : ℕ) → c < circuits sheet → 1 ≤ reg s leftRow c → kindTravels (kindOf (headOf c)) ≡ true

@@ -4,3 +4,4 @@ pub mod SheetLaws
 pub mod RegisterLaws
 pub mod CycleLaws
 pub mod KeptLaws
+pub mod PairedLaws

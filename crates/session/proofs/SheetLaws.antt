@@ -1,22 +1,17 @@
--- What a sheet that passes settles for a session, in numbers: its length, the grid, the regions, the periods and the routes.
+-- What a sheet that passes settles for a session, in numbers: its length, the grid, the regions and the periods.
 -- Assumes nothing.
-use Prim.Native.Nat.{ℕ, zero, suc, _+_, _-_, _*_, _≤_, _<_}
-use mathlib.Core.Bool.{Bool, true, false, false≢true}
+use Prim.Native.Nat.{ℕ, zero, suc, _+_, _*_, _≤_, _<_}
 use mathlib.Core.List.{List}
-use mathlib.Core.Path.{_≡_, refl, sym, _∙_}
+use mathlib.Core.Path.{_≡_}
 use native.Mathlib.Omega.{arith}
 use native.Mathlib.Nat.{mul-le-mul}
 use lib.ListN.{length}
-use Rattle.words.specs.Tests.{_=?_}
-use Rattle.words.specs.Words.{pick}
-use Rattle.words.proofs.TestLaws.{and-right, is=, yes=}
-use Rattle.words.proofs.WordLaws.{lastOf-le}
-use Rattle.sheet.specs.Sheet.{memoryWords, circuits, schedules, nodes, circuitAt, schedulePlace, period, entriesOf, entryCount, entryAt}
+use Rattle.words.proofs.TestLaws.{and-right, is=}
+use Rattle.sheet.specs.Sheet.{memoryWords, circuits, schedules, nodes, circuitAt, schedulePlace, period}
 use Rattle.sheet.specs.Rules.{rule3, verdict}
 use Rattle.sheet.specs.Passed.{Framed, Ranged, CircuitSmall}
-use Rattle.sheet.proofs.PassedLaws.{placed, circuit-small, period-range, entry-small}
+use Rattle.sheet.proofs.PassedLaws.{placed, circuit-small, period-range}
 use Rattle.sheet.proofs.VerdictLaws.{routed}
-use Rattle.sheet.specs.Slots.{beginsAt, entryBeginning, slotRoute}
 
 -- the bounds of a sheet that passes
 pub record SheetBounds (z : List ℕ) : Type 0 where
@@ -58,26 +53,3 @@ period-some z b j l = omega (arith, period-range z (b .ranged) j l .0)
 -- a circuit's regions end within the memory
 pub circuit-bounds : (z : List ℕ) → SheetBounds z → (c : ℕ) → c < circuits z → CircuitSmall (nodes z) (memoryWords z) (circuitAt z c)
 circuit-bounds z b c l = circuit-small z (b .ranged .circuits-fit) c l
-
--- a test against 0 that fails
-not-zero : (n : ℕ) → (n =? 0) ≡ false → 1 ≤ n
-not-zero zero e = absurd (false≢true (sym e ∙ yes= refl))
-not-zero (suc n) e = omega arith
-
--- the entry that begins in a cycle is one of the schedule's
-begin-most : (z : List ℕ) (j cycle circuit : ℕ) → entryBeginning z j cycle circuit ≤ entryCount (entriesOf z j)
-unfolding entryBeginning
-begin-most z j cycle circuit = lastOf-le (beginsAt z j cycle circuit) (entryCount (entriesOf z j))
-
--- a slot's route fits its field
-pub route-small : (z : List ℕ) → SheetBounds z → (j : ℕ) → j < schedules z → (cycle circuit : ℕ) → slotRoute z j cycle circuit < 65536
-unfolding slotRoute
-route-small z b j l cycle circuit = go (entryBeginning z j cycle circuit =? 0) refl
-  where
-    go : (t : Bool) → (entryBeginning z j cycle circuit =? 0) ≡ t
-        → pick t 0 (entryAt (entriesOf z j) (entryBeginning z j cycle circuit - 1) .route) < 65536
-    go true e = omega arith
-    go false e =
-        let low = not-zero (entryBeginning z j cycle circuit) e in
-        let most = begin-most z j cycle circuit in
-        omega (arith, entry-small z (b .ranged) j l (entryBeginning z j cycle circuit - 1) (omega arith) .route-high)

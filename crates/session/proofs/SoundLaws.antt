@@ -7,7 +7,7 @@ use mathlib.Core.Path.{_≡_, refl, sym, _∙_, subst}
 use native.Mathlib.Omega.{arith}
 use native.Mathlib.Decide.{ℕ-discrete}
 use Rattle.words.specs.Tests.{all, _and_, _or_, _≤?_, _=?_, _≠?_}
-use Rattle.words.proofs.TestLaws.{and-left, and-right, and-both, or-yes, or-skip, is≤, is<, is=, yes≤, yes<, yes=, yes≠, no≠}
+use Rattle.words.proofs.TestLaws.{and-left, and-right, and-both, or-yes, or-skip, or-cases, is≤, is<, is=, yes≤, yes<, yes=, yes≠, no≠}
 use Rattle.words.proofs.AllLaws.{all-at}
 use Rattle.packet.specs.Header.{kindOf}
 use Rattle.sheet.specs.declared.circuits.Region.{Region}
@@ -19,12 +19,6 @@ use Rattle.network.specs.Registers.{reg, sheetLength, sheetIn, sheetWords, cloc
 use Rattle.network.specs.Machine.{senderIn}
 use Rattle.session.specs.Sound.{sheetSound, clockSound, orderSound, kindTravels, liesIn, transferSound, cellSound, routerSound, nodeSound, sound}
 use Rattle.session.proofs.NumberLaws.{Lies, lies}
-
--- one of two tests holds
-pub or-cases : (a b : Bool) {A : Type 0} → a or b ≡ true → (a ≡ true → A) → (b ≡ true → A) → A
-unfolding _or_
-or-cases true b e f g = f refl
-or-cases false b e f g = g e
 
 -- a test that holds of each number below n
 pub all-of : (n : ℕ) (test : ℕ → Bool) → ((k : ℕ) → k < n → test k ≡ true) → all n test ≡ true

@@ -8,7 +8,7 @@ use native.Mathlib.Nat.{mul-le-mul, le-refl, mod-le}
 use lib.Dec.{T, eqb, ltb, eqb→eq, ltb→lt}
 use Rattle.words.specs.Words.{pick}
 use Rattle.words.proofs.Below.{every, every-at}
-use Rattle.torus.specs.Torus.{InGrid, neighbourOf}
+use Rattle.torus.specs.Torus.{InGrid, neighbourOf, oppositeOf}
 
 -- the test passes at every node of every grid
 abbrev pub everyNode : (ℕ → ℕ → ℕ → Bool) → Bool
@@ -106,3 +106,25 @@ module _ {cols rows node : ℕ} (g : InGrid cols rows node) where
   pub neighbour-inside : (side : ℕ) → neighbourOf cols rows node side < cols * rows
   neighbour-inside side =
       ltb→lt _ _ (at-node (λ c r n. ltb (neighbourOf c r n side) (c * r)) (all-inside side) cols rows node g)
+
+-- the opposite of a side is a side, and the opposite of that is the first
+pub opposite-side : (side : ℕ) → oppositeOf side < 4
+opposite-side side = omega arith
+
+pub opposite-back : (side : ℕ) → side < 4 → oppositeOf (oppositeOf side) ≡ side
+opposite-back side l = omega arith
+
+all-back : (side : ℕ) → side < 4 → T (everyNode (λ c r n. eqb (neighbourOf c r (neighbourOf c r n side) (oppositeOf side)) n))
+unfolding neighbourOf
+all-back zero l = tt
+all-back (suc zero) l = tt
+all-back (suc (suc zero)) l = tt
+all-back (suc (suc (suc zero))) l = tt
+all-back (suc (suc (suc (suc side)))) l = absurd (omega arith)
+
+-- a step by a side and a step by its opposite lead back
+pub neighbour-back : {cols rows node : ℕ} → InGrid cols rows node → (side : ℕ) → side < 4
+    → neighbourOf cols rows (neighbourOf cols rows node side) (oppositeOf side) ≡ node
+neighbour-back {cols} {rows} {node} g side l =
+    eqb→eq _ _
+    (at-node (λ c r n. eqb (neighbourOf c r (neighbourOf c r n side) (oppositeOf side)) n) (all-back side l) cols rows node g)

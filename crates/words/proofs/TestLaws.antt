@@ -107,3 +107,9 @@ is< a b h = ltb-true a b h
 pub is= : (a b : ℕ) → (a =? b) ≡ true → a ≡ b
 unfolding _=?_
 is= a b h = eqb-true a b h
+
+-- one of two tests holds
+pub or-cases : (a b : Bool) {A : Type 0} → a or b ≡ true → (a ≡ true → A) → (b ≡ true → A) → A
+unfolding _or_
+or-cases true b e f g = f refl
+or-cases false b e f g = g e

@@ -13,7 +13,7 @@ reg-requires-2 : tie.Need-reg-requires-2
 reg-requires-2 c κs = search needs
 
 slot-route-requires : tie.Need-slot-route-requires
-slot-route-requires c κs = (c .before .before .before .before .pre .0 .lent .framed, omega (arith, c .before .before .before .before .pre .0 .lent .in-force))
+slot-route-requires c κs = (c .before .before .before .before .pre .0 .paired .framed, omega (arith, c .before .before .before .before .pre .0 .paired .in-force))
 
 reg-requires-3 : tie.Need-reg-requires-3
 reg-requires-3 c κs = search needs

@@ -6,7 +6,7 @@ use Rattle.network.proofs.sent_word.Statement.{statement}
 use Rattle.network.proofs.sent_word.Tie as tie
 
 does-open-requires : tie.Need-does-open-requires
-does-open-requires c κs = c .before .before .before .pre .0 .lent
+does-open-requires c κs = c .before .before .before .pre .0 .paired
 
 head-now-requires : tie.Need-head-now-requires
 head-now-requires c κs = (c .before .before .before .before .before .pre .0, c .before .before .before .before .before .pre .1, opens-left _ _ _ (c .before .does-open .ensures) (c .if1 .taken))
@@ -21,7 +21,7 @@ returns-2 : tie.Need-returns-2
 returns-2 c = word-rests _ _ _ (c .before .before .before .does-open .ensures) _ (c .before .before .if1 .left) _ (c .before .reg .ensures) (c .if2 .taken)
 
 read-now-requires : tie.Need-read-now-requires
-read-now-requires c κs = c .before .before .before .before .before .before .before .pre .0 .lent
+read-now-requires c κs = c .before .before .before .before .before .before .before .pre .0 .paired
 
 returns-3 : tie.Need-returns-3
 returns-3 c = word-sends _ _ _ (c .before .before .before .before .does-open .ensures) _ (c .before .before .before .if1 .left) _ (c .before .before .reg .ensures) _ (c .read-now .ensures) (c .before .if2 .left)

@@ -23,13 +23,13 @@ loop-holds : tie.Need-loop-holds Inv-loop μ-loop
 loop-holds c = (c .get .ensures, omega arith, first-none _)
 
 own-mark-requires : tie.Need-own-mark-requires Inv-loop μ-loop
-own-mark-requires c κs = c .before .before .before .before .before .before .pre .lent
+own-mark-requires c κs = c .before .before .before .before .before .before .pre .paired
 
 sent-word-requires : tie.Need-sent-word-requires Inv-loop μ-loop
 sent-word-requires c κs = (c .before .before .before .before .before .before .before .before .pre, omega arith)
 
 returns : tie.Need-returns Inv-loop μ-loop
-returns c = wire-found _ _ _ (c .before .before .before .before .before .before .before .before .before .pre .lent .own) _ _ (c .before .before .before .before .loop .inv .2) _ (c .sent-word .ensures) _ (c .before .before .own-mark .ensures) (c .before .if1 .taken) (omega arith)
+returns c = wire-found _ _ _ (c .before .before .before .before .before .before .before .before .before .pre .paired .own) _ _ (c .before .before .before .before .loop .inv .2) _ (c .sent-word .ensures) _ (c .before .before .own-mark .ensures) (c .before .if1 .taken) (omega arith)
 
 add-c : tie.Need-add-c Inv-loop μ-loop
 add-c c = omega arith
@@ -41,7 +41,7 @@ loop-again : tie.Need-loop-again Inv-loop μ-loop
 loop-again c = (c .before .before .before .loop .inv .0, omega arith, first-more _ _ _ (c .before .before .before .loop .inv .2) (c .before .own-mark .ensures) (omega arith))
 
 returns-2 : tie.Need-returns-2 Inv-loop μ-loop
-returns-2 c = wire-none _ _ _ (c .before .before .before .before .before .before .pre .lent .own) _ _ (c .before .loop .inv .2) (omega arith)
+returns-2 c = wire-none _ _ _ (c .before .before .before .before .before .before .pre .paired .own) _ _ (c .before .loop .inv .2) (omega arith)
 
 pub source-word-spec : {M : Type 1} → statement M
 source-word-spec =

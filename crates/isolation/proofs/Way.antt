@@ -1,0 +1,356 @@
+-- Along a route that leads somewhere, router by router: node, input and output there, the wire and delay of each use, and the header.
+-- Assumes nothing.
+use Prim.Native.Nat.{ℕ, zero, suc, _+_, _*_, _/_, _%_, _<_, _≤_}
+use mathlib.Core.Bool.{Bool, true, false}
+use mathlib.Core.List.{List, [], _∷_}
+use mathlib.Core.Path.{_≡_, refl, sym, _∙_, ap, ap₂, subst}
+use native.Mathlib.Numerals.{add-one}
+use native.Mathlib.Omega.{arith}
+use native.Mathlib.Decide.{decLt}
+use lib.ListN.{length}
+use Rattle.words.specs.Tests.{_=?_}
+use Rattle.words.specs.Words.{pick}
+use Rattle.words.proofs.TestLaws.{yes=, no=}
+use Rattle.packet.specs.Header.{kindOf, addressOf, routeOf, firstCode, laterCodes, shiftedWord}
+use Rattle.torus.specs.Torus.{InGrid, neighbourOf, oppositeOf}
+use Rattle.torus.specs.Route.{Wire, source, side, memory, Use, Route, leads, nowhere, exitOf, ending, overSide, fromSource, follow, routeFrom, routerCycles, codes, noSide}
+use Rattle.torus.proofs.NeighbourLaws.{neighbour-inside, neighbour-back, opposite-side, opposite-back}
+use Rattle.network.specs.View.{sourceInput, memoryOutput}
+use Rattle.network.specs.Cycle.{outputFor}
+
+-- the wire of use k of a list of uses, and its delay: 0 past the end
+unfoldable pub wireAt : List Use → ℕ → Wire
+wireAt [] k = source 0
+wireAt (u ∷ uses) zero = u .wire
+wireAt (u ∷ uses) (suc k) = wireAt uses k
+
+unfoldable pub delayAt : List Use → ℕ → ℕ
+delayAt [] k = 0
+delayAt (u ∷ uses) zero = u .delay
+delayAt (u ∷ uses) (suc k) = delayAt uses k
+
+-- the wire of a router's output
+unfoldable pub outputWire : ℕ → ℕ → Wire
+outputWire node output = pick (output =? memoryOutput) (memory node) (side node output)
+
+-- a packet at a router: the node, the input that it comes in by, and the codes that are left of its route
+pub record Stop : Type 0 where
+  pub node : ℕ
+  pub input : ℕ
+  pub codes : ℕ
+
+-- the output that it leaves by
+unfoldable pub outputOf : Stop → ℕ
+outputOf stop = pick (stop .input =? firstCode (stop .codes)) memoryOutput (firstCode (stop .codes))
+
+-- the next router, by a side output
+abbrev pub onward : ℕ → ℕ → Stop → Stop
+onward cols rows stop = record {
+  node = neighbourOf cols rows (stop .node) (outputOf stop);
+  input = oppositeOf (outputOf stop);
+  codes = laterCodes (stop .codes);
+}
+
+-- the router after k steps
+unfoldable pub stopAfter : ℕ → ℕ → Stop → ℕ → Stop
+stopAfter cols rows stop zero = stop
+stopAfter cols rows stop (suc k) = onward cols rows (stopAfter cols rows stop k)
+
+-- a header word after k routers
+unfoldable pub headerAfter : ℕ → ℕ → ℕ
+headerAfter zero word = word
+headerAfter (suc k) word = shiftedWord (headerAfter k word)
+
+pub header-first : (word : ℕ) → headerAfter 0 word ≡ word
+unfolding headerAfter
+header-first word = refl
+
+pub header-next : (k word : ℕ) → headerAfter (suc k) word ≡ shiftedWord (headerAfter k word)
+unfolding headerAfter
+header-next k word = refl
+
+-- it keeps its kind and its address
+shifted-kind : (word : ℕ) → kindOf (shiftedWord word) ≡ kindOf word
+shifted-kind word = omega arith
+
+shifted-address : (word : ℕ) → addressOf (shiftedWord word) ≡ addressOf word
+shifted-address word =
+    let q : shiftedWord word / 65536 ≡ kindOf word * 16384 + addressOf word = omega arith in
+    ap (λ (n : ℕ). n % 16384) q ∙ back (kindOf word) (addressOf word) (omega arith)
+  where
+    back : (kind address : ℕ) → address < 16384 → (kind * 16384 + address) % 16384 ≡ address
+    back kind address l = omega arith
+
+pub header-kind : (k word : ℕ) → kindOf (headerAfter k word) ≡ kindOf word
+unfolding headerAfter
+header-kind zero word = refl
+header-kind (suc k) word = shifted-kind (headerAfter k word) ∙ header-kind k word
+
+pub header-address : (k word : ℕ) → addressOf (headerAfter k word) ≡ addressOf word
+unfolding headerAfter
+header-address zero word = refl
+header-address (suc k) word = shifted-address (headerAfter k word) ∙ header-address k word
+
+output-memory : (stop : Stop) → (stop .input =? firstCode (stop .codes)) ≡ true → outputOf stop ≡ memoryOutput
+unfolding outputOf
+output-memory stop q = rw q refl
+
+output-side : (stop : Stop) → (stop .input =? firstCode (stop .codes)) ≡ false → outputOf stop ≡ firstCode (stop .codes)
+unfolding outputOf
+output-side stop q = rw q refl
+
+-- the wire of an output: to the memory, or by a side
+pub wire-memory : (node output : ℕ) → output ≡ memoryOutput → outputWire node output ≡ memory node
+unfolding outputWire
+wire-memory node output e = rw (yes= e, outputWire) refl
+
+pub wire-side : (node output : ℕ) → output < 4 → outputWire node output ≡ side node output
+unfolding outputWire
+wire-side node output l = rw (no= {a = output} {b = 4} (λ e. let z : ⊥ = omega arith in z), outputWire) refl
+
+module _ (cols rows : ℕ) where
+  -- the first step may be taken first
+  step-first : (stop : Stop) (k : ℕ) → stopAfter cols rows (onward cols rows stop) k ≡ stopAfter cols rows stop (suc k)
+  unfolding stopAfter
+  step-first stop zero = refl
+  step-first stop (suc k) = ap (onward cols rows) (step-first stop k)
+
+  -- what holds from a router on, whose output has the given delay
+  record Led (stop : Stop) (delay : ℕ) (uses : List Use) (end hops : ℕ) : Type 0 where
+    counted : length uses ≡ hops + 1
+    sides : (k : ℕ) → k < hops → outputOf (stopAfter cols rows stop k) < 4
+    last-out : outputOf (stopAfter cols rows stop hops) ≡ memoryOutput
+    arrives : stopAfter cols rows stop hops .node ≡ end
+    wires : (k : ℕ) → k ≤ hops
+        → wireAt uses k ≡ outputWire (stopAfter cols rows stop k .node) (outputOf (stopAfter cols rows stop k))
+    delays : (k : ℕ) → k ≤ hops → delayAt uses k ≡ delay + routerCycles * k
+
+  -- and nothing where the route leads nowhere
+  abbrev Followed : Stop → ℕ → Route → Type 0
+  Followed stop delay (leads uses end hops) = Led stop delay uses end hops
+  Followed stop delay nowhere = Unit {0}
+
+  followed-out : (stop : Stop) (delay : ℕ) → outputOf stop ≡ memoryOutput → (b : Bool)
+      → Followed stop delay (ending b (stop .node) delay)
+  unfolding stopAfter wireAt delayAt
+  followed-out stop delay e true = record {
+    counted = refl;
+    sides = λ k l. absurd (omega arith);
+    last-out = e;
+    arrives = refl;
+    wires = wires;
+    delays = delays;
+  }
+    where
+      wires : (k : ℕ) → k ≤ 0 → wireAt (record { wire = memory (stop .node); delay = delay } ∷ []) k
+          ≡ outputWire (stopAfter cols rows stop k .node) (outputOf (stopAfter cols rows stop k))
+      wires zero l = sym (wire-memory (stop .node) (outputOf stop) e)
+      wires (suc k) l = absurd (omega arith)
+
+      delays : (k : ℕ) → k ≤ 0 → delayAt (record { wire = memory (stop .node); delay = delay } ∷ []) k ≡ delay + 3 * k
+      delays zero l = omega arith
+      delays (suc k) l = absurd (omega arith)
+  followed-out stop delay e false = tt
+
+  followed-on : (stop : Stop) (delay : ℕ) → outputOf stop < 4 → (r : Route) → Followed (onward cols rows stop) (delay + routerCycles) r
+      → Followed stop delay (overSide (record { wire = side (stop .node) (outputOf stop); delay = delay }) r)
+  unfolding stopAfter wireAt delayAt
+  followed-on stop delay l (leads uses end hops) f = record {
+    counted = omega (arith, f .counted);
+    sides = sides;
+    last-out = rw add-one (ap outputOf (sym (step-first stop hops)) ∙ f .last-out);
+    arrives = rw add-one (ap (λ (s : Stop). s .node) (sym (step-first stop hops)) ∙ f .arrives);
+    wires = wires;
+    delays = delays;
+  }
+    where
+      sides : (k : ℕ) → k < hops + 1 → outputOf (stopAfter cols rows stop k) < 4
+      sides zero h = l
+      sides (suc k) h = subst (λ (s : Stop). outputOf s < 4) (step-first stop k) (f .sides k (omega arith))
+
+      wires : (k : ℕ) → k ≤ hops + 1 → wireAt (record { wire = side (stop .node) (outputOf stop); delay = delay } ∷ uses) k
+          ≡ outputWire (stopAfter cols rows stop k .node) (outputOf (stopAfter cols rows stop k))
+      wires zero h = sym (wire-side (stop .node) (outputOf stop) l)
+      wires (suc k) h = f .wires k (omega arith) ∙ ap (λ (s : Stop). outputWire (s .node) (outputOf s)) (step-first stop k)
+
+      delays : (k : ℕ) → k ≤ hops + 1
+          → delayAt (record { wire = side (stop .node) (outputOf stop); delay = delay } ∷ uses) k ≡ delay + routerCycles * k
+      delays zero h = omega arith
+      delays (suc k) h = omega (arith, f .delays k (omega arith))
+  followed-on stop delay l nowhere f = tt
+
+  abbrev followAt : ℕ → Stop → ℕ → Route
+  followAt left stop delay = follow left cols rows (stop .node) (stop .input) delay (stop .codes)
+
+  follow-side : (left : ℕ) (stop : Stop) (delay : ℕ) → (stop .input =? firstCode (stop .codes)) ≡ false
+      → overSide (record { wire = side (stop .node) (outputOf stop); delay = delay })
+      (followAt left (onward cols rows stop) (delay + routerCycles)) ≡ followAt (suc left) stop delay
+  unfolding follow exitOf
+  follow-side left stop delay q = rw (output-side stop q, q, follow, exitOf) refl
+
+  follow-memory : (left : ℕ) (stop : Stop) (delay : ℕ) → (stop .input =? firstCode (stop .codes)) ≡ true
+      → ending (laterCodes (stop .codes) =? 0) (stop .node) delay ≡ followAt (suc left) stop delay
+  unfolding follow exitOf
+  follow-memory left stop delay q = rw (q, follow, exitOf) refl
+
+  followed : (left : ℕ) (stop : Stop) (delay : ℕ) → Followed stop delay (followAt left stop delay)
+  unfolding follow
+  followed zero stop delay = tt
+  followed (suc left) stop delay =
+      go (stop .input =? firstCode (stop .codes)) refl (followed left (onward cols rows stop) (delay + routerCycles))
+    where
+      go : (b : Bool) → (stop .input =? firstCode (stop .codes)) ≡ b
+          → Followed (onward cols rows stop) (delay + routerCycles) (followAt left (onward cols rows stop) (delay + routerCycles))
+          → Followed stop delay (followAt (suc left) stop delay)
+      go true q r =
+          subst (Followed stop delay) (follow-memory left stop delay q)
+          (followed-out stop delay (output-memory stop q) (laterCodes (stop .codes) =? 0))
+      go false q r =
+          subst (Followed stop delay) (follow-side left stop delay q)
+          (followed-on stop delay (omega (arith, output-side stop q))
+          (followAt left (onward cols rows stop) (delay + routerCycles)) r)
+
+-- a packet at its first router, which it enters from the source
+abbrev pub startOf : ℕ → ℕ → Stop
+startOf from route = record { node = from; input = sourceInput; codes = route }
+
+-- the way of a route from a node: node, input and output of router k
+unfoldable pub wayNode : ℕ → ℕ → ℕ → ℕ → ℕ → ℕ
+wayNode cols rows from route k = stopAfter cols rows (startOf from route) k .node
+
+unfoldable pub wayInput : ℕ → ℕ → ℕ → ℕ → ℕ → ℕ
+wayInput cols rows from route k = stopAfter cols rows (startOf from route) k .input
+
+unfoldable pub wayOutput : ℕ → ℕ → ℕ → ℕ → ℕ → ℕ
+wayOutput cols rows from route k = outputOf (stopAfter cols rows (startOf from route) k)
+
+-- the uses of a route along its way, and where it ends
+pub record Way (cols rows from route : ℕ) (uses : List Use) (end hops : ℕ) : Type 0 where
+  pub counted : length uses ≡ hops + 2
+  pub source-wire : wireAt uses 0 ≡ source from
+  pub source-delay : delayAt uses 0 ≡ 0
+  pub output-wire : (k : ℕ) → k ≤ hops
+      → wireAt uses (suc k) ≡ outputWire (wayNode cols rows from route k) (wayOutput cols rows from route k)
+  pub output-delay : (k : ℕ) → k ≤ hops → delayAt uses (suc k) ≡ delayAt uses k + routerCycles
+  pub side-output : (k : ℕ) → k < hops → wayOutput cols rows from route k < 4
+  pub memory-output : wayOutput cols rows from route hops ≡ memoryOutput
+  pub arrives : wayNode cols rows from route hops ≡ end
+
+module _ (cols rows from route : ℕ) where
+  -- the way begins at the source
+  pub node-first : wayNode cols rows from route 0 ≡ from
+  unfolding wayNode stopAfter
+  node-first = refl
+
+  pub input-first : wayInput cols rows from route 0 ≡ sourceInput
+  unfolding wayInput stopAfter
+  input-first = refl
+
+  -- and goes on by the outputs
+  pub node-next : (k : ℕ) → wayNode cols rows from route (suc k)
+      ≡ neighbourOf cols rows (wayNode cols rows from route k) (wayOutput cols rows from route k)
+  unfolding wayNode wayOutput stopAfter
+  node-next k = refl
+
+  pub input-next : (k : ℕ) → wayInput cols rows from route (suc k) ≡ oppositeOf (wayOutput cols rows from route k)
+  unfolding wayInput wayOutput stopAfter
+  input-next k = refl
+
+  -- over nodes of the grid
+  pub way-inside : InGrid cols rows from → (k : ℕ) → InGrid cols rows (wayNode cols rows from route k)
+  unfolding wayNode wayOutput stopAfter
+  way-inside g zero = g
+  way-inside g (suc k) =
+      let h = way-inside g k in
+      record {
+        cols-low = h .cols-low;
+        cols-high = h .cols-high;
+        rows-low = h .rows-low;
+        rows-high = h .rows-high;
+        inside = neighbour-inside h (wayOutput cols rows from route k);
+      }
+
+  -- the codes that a header holds after k routers
+  header-codes : (word : ℕ) → routeOf word ≡ route → (k : ℕ)
+      → routeOf (headerAfter k word) ≡ stopAfter cols rows (startOf from route) k .codes
+  unfolding headerAfter stopAfter
+  header-codes word e zero = e
+  header-codes word e (suc k) = omega (arith, header-codes word e k)
+
+  -- the header asks for the output of each router
+  pub header-output : (word : ℕ) → routeOf word ≡ route → (k : ℕ)
+      → outputFor (wayInput cols rows from route k) (headerAfter k word) ≡ wayOutput cols rows from route k
+  unfolding outputFor wayInput wayOutput outputOf
+  header-output word e k =
+      ap (λ (c : ℕ). pick (stopAfter cols rows (startOf from route) k .input =? firstCode c) memoryOutput (firstCode c))
+      (header-codes word e k)
+
+  -- where a route leads, that is its way
+  abbrev Leading : Route → Type 0
+  Leading (leads uses end hops) = Way cols rows from route uses end hops
+  Leading nowhere = Unit {0}
+
+  leading : (r : Route) → Followed cols rows (startOf from route) routerCycles r
+      → Leading (fromSource (record { wire = source from; delay = 0 }) r)
+  unfolding wayNode wayOutput wireAt delayAt
+  leading (leads uses end hops) f = record {
+    counted = omega (arith, f .counted);
+    source-wire = refl;
+    source-delay = refl;
+    output-wire = f .wires;
+    output-delay = delays;
+    side-output = f .sides;
+    memory-output = f .last-out;
+    arrives = f .arrives;
+  }
+    where
+      delays : (k : ℕ) → k ≤ hops → delayAt uses k ≡ delayAt (record { wire = source from; delay = 0 } ∷ uses) k + routerCycles
+      delays zero l = omega (arith, f .delays 0 l)
+      delays (suc k) l = omega (arith, f .delays (suc k) l, f .delays k (omega arith))
+  leading nowhere f = tt
+
+  -- a route that leads somewhere leads along its way
+  pub way : (uses : List Use) (end hops : ℕ) → routeFrom cols rows from route ≡ leads uses end hops
+      → Way cols rows from route uses end hops
+  unfolding routeFrom
+  way uses end hops e =
+      subst Leading e
+      (leading (follow codes cols rows from noSide routerCycles route) (followed cols rows codes (startOf from route) routerCycles))
+
+module _ {cols rows from route : ℕ} {uses : List Use} {end hops : ℕ} (w : Way cols rows from route uses end hops) where
+  -- a side output for each hop
+  pub side-wire : (k : ℕ) → k < hops
+      → wireAt uses (suc k) ≡ side (wayNode cols rows from route k) (wayOutput cols rows from route k)
+  side-wire k l = w .output-wire k (omega arith) ∙ wire-side _ _ (w .side-output k l)
+
+  -- and the memory output at the end
+  pub memory-wire : wireAt uses (suc hops) ≡ memory end
+  memory-wire = w .output-wire hops (omega arith) ∙ wire-memory _ _ (w .memory-output) ∙ ap memory (w .arrives)
+
+  -- three cycles a router
+  pub delay-is : (k : ℕ) → k ≤ hops + 1 → delayAt uses k ≡ routerCycles * k
+  delay-is zero l = omega (arith, w .source-delay)
+  delay-is (suc k) l = omega (arith, w .output-delay k (omega arith), delay-is k (omega arith))
+
+  -- a packet leaves its source's node, where its end is another
+  pub hops-some : (from ≡ end → ⊥) → 1 ≤ hops
+  hops-some ne = go (decLt 0 hops)
+    where
+      go : Dec (0 < hops) → 1 ≤ hops
+      go (yes l) = omega arith
+      go (no l) =
+          absurd (ne (sym (node-first cols rows from route)
+          ∙ ap (wayNode cols rows from route) (let z : 0 ≡ hops = omega arith in z) ∙ w .arrives))
+
+  -- behind router k the input is a side, and its link leads back to router k's output
+  pub input-side : (k : ℕ) → wayInput cols rows from route (suc k) < 4
+  input-side k = subst (λ (n : ℕ). n < 4) (sym (input-next cols rows from route k)) (opposite-side (wayOutput cols rows from route k))
+
+  pub node-back : InGrid cols rows from → (k : ℕ) → k < hops
+      → neighbourOf cols rows (wayNode cols rows from route (suc k)) (wayInput cols rows from route (suc k)) ≡ wayNode cols rows from route k
+  node-back g k l =
+      ap₂ (neighbourOf cols rows) (node-next cols rows from route k) (input-next cols rows from route k)
+      ∙ neighbour-back (way-inside cols rows from route g k) (wayOutput cols rows from route k) (w .side-output k l)
+
+  pub output-back : (k : ℕ) → k < hops → oppositeOf (wayInput cols rows from route (suc k)) ≡ wayOutput cols rows from route k
+  output-back k l = ap oppositeOf (input-next cols rows from route k) ∙ opposite-back _ (w .side-output k l)
