@@ -64,8 +64,8 @@ module _ (z : List ℕ) (F : Flights) (P : Paths z F) (begins long : ℕ → ℕ
       go (yes e) (no ne′) = omega (arith, o, P .last-output f k e, P .side-output f′ k′ (omega (arith, ne′, s′ .on-way)))
 
   -- so no two of them clash
-  pub slots-apart : NoClash F
-  slots-apart T f f′ k k′ j j′ s s′ n o = go (decLt (S .period f) (S .period f′)) (decLt (S .period f′) (S .period f))
+  pub flights-apart : NoClash F
+  flights-apart T f f′ k k′ j j′ s s′ n o = go (decLt (S .period f) (S .period f′)) (decLt (S .period f′) (S .period f))
     where
       go : Dec (S .period f < S .period f′) → Dec (S .period f′ < S .period f) → F .input f k ≡ F .input f′ k′
       go (yes l) d = absurd (apart T f f′ k k′ j j′ l s s′ o)
