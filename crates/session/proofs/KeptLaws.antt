@@ -18,7 +18,7 @@ use Rattle.network.specs.Machine.{senderIn, nextState}
 use Rattle.network.proofs.RowLaws.{sender-same, sheet-kept}
 use Rattle.network.proofs.StepLaws.{state-length, memory-length}
 use Rattle.session.specs.Sound.{sound}
-use Rattle.session.specs.Calls.{loadNumber, startNumber, orderNumber, cycleNumber, loaded, started, ordered, stored, Lent, Call, load, start, store, fetch, left, periodNumber, landed, order, cycle, number, does, after}
+use Rattle.session.specs.Calls.{loadNumber, startNumber, orderNumber, cycleNumber, loaded, started, ordered, stored, Lent, Call, load, start, store, fetch, left, periodNumber, landed, order, cycle, number, does, after, isLoad}
 use Rattle.session.proofs.NumberLaws.{state-passed, load-passed, StartPassed, start-passed, place-passed, left-passed, landed-passed, OrderPassed, order-passed, cycle-passed}
 use Rattle.session.proofs.SoundLaws.{beside, cell-none, TransferParts, RouterParts, NodeParts, SoundParts, sound-parts, sound-on}
 use Rattle.session.proofs.SheetLaws.{SheetBounds, sheet-bounds, period-some}
@@ -270,17 +270,6 @@ memory-length-kept (order schedule period) w = refl
 memory-length-kept cycle w = memory-length (w .state) (w .memory)
 
 -- the sheet changes by a load alone
-abbrev pub isLoad : Call → Bool
-isLoad (load z) = true
-isLoad (start circuit readAddress writeAddress count kind) = false
-isLoad (store node address new) = false
-isLoad (fetch node address) = false
-isLoad (left circuit) = false
-isLoad periodNumber = false
-isLoad (landed node) = false
-isLoad (order schedule period) = false
-isLoad cycle = false
-
 pub sheet-same : (x : Call) (w : Lent) → isLoad x ≡ false → number x w ≡ 0 → sheetIn (does x w .state) ≡ sheetIn (w .state)
 sheet-same (load z) w n e = absurd (false≢true (sym n))
 sheet-same (start circuit readAddress writeAddress count kind) w n e =

@@ -1,7 +1,7 @@
 -- The calls of a session on any lent words: the number that each answers (document 01, "Refusals, in checking order"), its value, and the
 -- words afterwards.
 use Prim.Native.Nat.{ℕ, _+_, _-_, _*_, _%_}
-use mathlib.Core.Bool.{Bool, not}
+use mathlib.Core.Bool.{Bool, true, false, not}
 use mathlib.Core.List.{List, _∷_, _++_}
 use lib.ListN.{length, drop, set}
 use Rattle.words.specs.Tests.{_and_, _or_, _≤?_, _<?_, _=?_}
@@ -133,6 +133,18 @@ pub data Call : Type 0 where
   landed : ℕ → Call
   order : ℕ → ℕ → Call
   cycle : Call
+
+-- a load gives the session another sheet; no other call does
+abbrev pub isLoad : Call → Bool
+isLoad (load z) = true
+isLoad (start circuit readAddress writeAddress count kind) = false
+isLoad (store node address new) = false
+isLoad (fetch node address) = false
+isLoad (left circuit) = false
+isLoad periodNumber = false
+isLoad (landed node) = false
+isLoad (order schedule period) = false
+isLoad cycle = false
 
 -- the number that a call answers: 0 where it is carried out
 abbrev pub number : Call → Lent → ℕ

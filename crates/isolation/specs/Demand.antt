@@ -1,0 +1,163 @@
+-- Demand 3: nothing that other circuits, routes or switch orders do can shift or alter one word that a circuit delivers, while its slots
+-- and the period lengths stay the same. Stated over the calls' own answers and the reckoning alone: no register, no network.
+use Prim.Native.Nat.{ℕ, zero, suc, _+_, _≤_, _<_}
+use mathlib.Core.Bool.{Bool, true, false}
+use mathlib.Core.List.{List, [], _∷_, _++_}
+use mathlib.Core.Path.{_≡_}
+use lib.ListN.{length, take, getD}
+use Rattle.words.specs.Tests.{_and_, _≤?_, _<?_, _=?_}
+use Rattle.words.specs.Words.{pick}
+use Rattle.sheet.specs.declared.circuits.Region.{Region}
+use Rattle.sheet.specs.declared.circuits.Circuit.{Circuit}
+use Rattle.sheet.specs.Sheet.{columns, rows, circuits, circuitAt, period}
+use Rattle.sheet.specs.Slots.{slotLength, sourceOf, destinationOf}
+use Rattle.session.specs.declared.Found.{Found}
+use Rattle.session.specs.declared.Found.the-variants.{Word as FoundWord}
+use Rattle.session.specs.declared.Landed.{Landed}
+use Rattle.session.specs.declared.Landed.the-variants.{Nothing, Word as LandedWord, Refused}
+use Rattle.session.specs.Answers.{foundOf, landedOf}
+use Rattle.session.specs.Calls.{Lent, Call, cycle, number, stateNumber, leftNumber, placeNumber, landedNumber, periodNumberIn, wordsLeft, fetched, lastLanding}
+use Rattle.isolation.specs.Sessions.{Session, isCycle, opened, standing, Event, started, wrote, ordered, cycled, eventsBefore}
+use Rattle.isolation.specs.Reckoning.{Calendar, Item, none, item, Reckoned, owed, landingIn, reckon}
+
+-- the answers of words left, fetch, the period number and what landed
+abbrev pub leftAnswer : Lent → ℕ → Found
+leftAnswer w circuit = foundOf (leftNumber (w .state) circuit) (wordsLeft (w .state) circuit)
+
+abbrev pub fetchAnswer : Lent → ℕ → ℕ → Found
+fetchAnswer w node address = foundOf (placeNumber (w .state) (w .memory) node address) (fetched (w .state) (w .memory) node address)
+
+abbrev pub periodAnswer : Lent → Found
+periodAnswer w = foundOf (stateNumber (w .state)) (periodNumberIn (w .state))
+
+abbrev pub landedAnswer : Lent → ℕ → Landed
+landedAnswer w node = landedOf (landedNumber (w .state) node) (lastLanding (w .state) node)
+
+-- an address of a region
+abbrev pub inRegion : Region → ℕ → Bool
+inRegion r address = r .offset ≤? address and address <? r .offset + r .size
+
+-- what landed, as far as it falls into a region
+abbrev pub landedIn : Region → Landed → Item
+landedIn r Nothing = none
+landedIn r (LandedWord kind address w) = pick (inRegion r address) (item kind address w) none
+landedIn r (Refused n) = none
+
+-- the circuit of a session, and its reckoning after the session's first k calls
+abbrev pub itsRecord : Session → ℕ → Circuit
+itsRecord l circuit = circuitAt (l .sheet) circuit
+
+abbrev pub reckonedAt : Session → ℕ → ℕ → Reckoned
+reckonedAt l circuit k = reckon (l .sheet) circuit (l .lent .memory) (eventsBefore l k)
+
+-- call k of the session is a cycle
+abbrev pub CycleAt : Session → ℕ → Type 0
+CycleAt l k = (k < length (l .calls)) × (isCycle (getD (l .calls) k cycle) ≡ true)
+
+-- what lands of the circuit in a cycle that is call k, as the session answers directly after it
+abbrev pub landingAt : Session → ℕ → ℕ → Item
+landingAt l circuit k =
+    landedIn (itsRecord l circuit .receive) (landedAnswer (standing l (suc k)) (destinationOf (l .sheet) circuit))
+
+-- in every session, for every circuit of its sheet: what the session answers is what is reckoned
+pub record AsReckoned (l : Session) (circuit : ℕ) : Type 0 where
+  -- no cycle is refused
+  pub cycles-carried-out : (k : ℕ) → CycleAt l k → number cycle (standing l k) ≡ 0
+  -- at every point words left answers the owed words
+  pub words-left : (k : ℕ) → k ≤ length (l .calls) → leftAnswer (standing l k) circuit ≡ FoundWord (owed (reckonedAt l circuit k))
+  -- directly after a cycle, what landed at the destination in its receive region is what left so many cycles before, or nothing
+  pub landings : (k : ℕ) → CycleAt l k
+      → landingAt l circuit k ≡ landingIn (l .sheet) circuit (reckonedAt l circuit k) (reckonedAt l circuit k .cycles)
+  -- its regions' words are those at load, changed only by stores and these landings
+  pub read-region : (k address : ℕ) → k ≤ length (l .calls) → inRegion (itsRecord l circuit .read) address ≡ true
+      → fetchAnswer (standing l k) (sourceOf (l .sheet) circuit) address ≡ FoundWord (reckonedAt l circuit k .readWords address)
+  pub receive-region : (k address : ℕ) → k ≤ length (l .calls) → inRegion (itsRecord l circuit .receive) address ≡ true
+      → fetchAnswer (standing l k) (destinationOf (l .sheet) circuit) address ≡ FoundWord (reckonedAt l circuit k .receiveWords address)
+  -- the period number answered is the reckoned one
+  pub period-number : (k : ℕ) → k ≤ length (l .calls) → periodAnswer (standing l k) ≡ FoundWord (reckonedAt l circuit k .calendar .number)
+
+-- the call that is cycle t of a list (the first is cycle 0), the list's length where there is none; and the number of its cycles
+abbrev pub cycleCall : List Call → ℕ → ℕ
+cycleCall [] t = 0
+cycleCall (x ∷ calls) zero = pick (isCycle x) 0 (suc (cycleCall calls zero))
+cycleCall (x ∷ calls) (suc t) = suc (cycleCall calls (pick (isCycle x) t (suc t)))
+
+abbrev pub cycleCount : List Call → ℕ
+cycleCount [] = 0
+cycleCount (x ∷ calls) = pick (isCycle x) (suc (cycleCount calls)) (cycleCount calls)
+
+-- the point directly after n cycles: directly after the load for none
+abbrev pub pointAfter : Session → ℕ → ℕ
+pointAfter l zero = 0
+pointAfter l (suc t) = suc (cycleCall (l .calls) t)
+
+-- what of a session's events concerns a circuit: its starts, and stores into its regions
+pub data Act : Type 0 where
+  began : ℕ → ℕ → ℕ → ℕ → Act
+  readStored : ℕ → ℕ → Act
+  receiveStored : ℕ → ℕ → Act
+
+abbrev pub actOf : List ℕ → ℕ → Event → List Act
+actOf z circuit (started c readAddress writeAddress count kind) =
+    pick (c =? circuit) (began readAddress writeAddress count kind ∷ []) []
+actOf z circuit (wrote node address new) =
+    pick (node =? sourceOf z circuit and inRegion (circuitAt z circuit .read) address) (readStored address new ∷ []) []
+    ++ pick (node =? destinationOf z circuit and inRegion (circuitAt z circuit .receive) address) (receiveStored address new ∷ []) []
+actOf z circuit (ordered schedule periodNumber) = []
+actOf z circuit cycled = []
+
+-- its acts after t cycles and before the next
+abbrev pub actsAfter : List ℕ → ℕ → List Event → ℕ → List Act
+actsAfter z circuit [] t = []
+actsAfter z circuit (cycled ∷ es) zero = []
+actsAfter z circuit (cycled ∷ es) (suc t) = actsAfter z circuit es t
+actsAfter z circuit (started c readAddress writeAddress count kind ∷ es) zero =
+    actOf z circuit (started c readAddress writeAddress count kind) ++ actsAfter z circuit es zero
+actsAfter z circuit (started c readAddress writeAddress count kind ∷ es) (suc t) = actsAfter z circuit es (suc t)
+actsAfter z circuit (wrote node address new ∷ es) zero = actOf z circuit (wrote node address new) ++ actsAfter z circuit es zero
+actsAfter z circuit (wrote node address new ∷ es) (suc t) = actsAfter z circuit es (suc t)
+actsAfter z circuit (ordered schedule periodNumber ∷ es) zero = actsAfter z circuit es zero
+actsAfter z circuit (ordered schedule periodNumber ∷ es) (suc t) = actsAfter z circuit es (suc t)
+
+-- the reckoned calendar in cycle t
+abbrev pub calendarIn : Session → ℕ → ℕ → Calendar
+calendarIn l circuit t = reckonedAt l circuit (cycleCall (l .calls) t) .calendar
+
+-- what two sessions have in common for a circuit of each, up to n cycles
+pub record Alike (a b : Session) (c d n : ℕ) : Type 0 where
+  pub same-columns : columns (a .sheet) ≡ columns (b .sheet)
+  pub same-rows : rows (a .sheet) ≡ rows (b .sheet)
+  -- the six words of the circuit; its number may differ
+  pub same-record : itsRecord a c ≡ itsRecord b d
+  -- its regions' words at load
+  pub same-read : (address : ℕ) → inRegion (itsRecord a c .read) address ≡ true
+      → fetchAnswer (opened a) (sourceOf (a .sheet) c) address ≡ fetchAnswer (opened b) (sourceOf (b .sheet) d) address
+  pub same-receive : (address : ℕ) → inRegion (itsRecord a c .receive) address ≡ true
+      → fetchAnswer (opened a) (destinationOf (a .sheet) c) address ≡ fetchAnswer (opened b) (destinationOf (b .sheet) d) address
+  -- its starts and the stores into its regions, in order, each after the same number of cycles, before the last of the n
+  pub same-acts : (t : ℕ) → t < n
+      → actsAfter (a .sheet) c (eventsBefore a (length (a .calls))) t ≡ actsAfter (b .sheet) d (eventsBefore b (length (b .calls))) t
+  -- in the periods in which the n cycles lie: the same lengths, and its slots (offsets and lengths; routes may differ)
+  pub same-lengths : (t : ℕ) → t < n → period (a .sheet) (calendarIn a c t .schedule) ≡ period (b .sheet) (calendarIn b d t .schedule)
+  pub same-slots : (t offset : ℕ) → t < n
+      → slotLength (a .sheet) (calendarIn a c t .schedule) offset c ≡ slotLength (b .sheet) (calendarIn b d t .schedule) offset d
+
+-- then nobody can tell the two apart by what the circuit delivers
+pub record Undisturbed (a b : Session) (c d n : ℕ) : Type 0 where
+  -- its landings so far, by cycle
+  pub landings : (t : ℕ) → t < n → landingAt a c (cycleCall (a .calls) t) ≡ landingAt b d (cycleCall (b .calls) t)
+  -- its words left
+  pub words-left : leftAnswer (standing a (pointAfter a n)) c ≡ leftAnswer (standing b (pointAfter b n)) d
+  -- its regions' words
+  pub read-region : (address : ℕ) → inRegion (itsRecord a c .read) address ≡ true
+      → fetchAnswer (standing a (pointAfter a n)) (sourceOf (a .sheet) c) address
+      ≡ fetchAnswer (standing b (pointAfter b n)) (sourceOf (b .sheet) d) address
+  pub receive-region : (address : ℕ) → inRegion (itsRecord a c .receive) address ≡ true
+      → fetchAnswer (standing a (pointAfter a n)) (destinationOf (a .sheet) c) address
+      ≡ fetchAnswer (standing b (pointAfter b n)) (destinationOf (b .sheet) d) address
+
+-- demand 3, one claim over lists of calls
+pub record Demand3 : Type 0 where
+  pub as-reckoned : (l : Session) (circuit : ℕ) → circuit < circuits (l .sheet) → AsReckoned l circuit
+  pub undisturbed : (a b : Session) (c d n : ℕ) → c < circuits (a .sheet) → d < circuits (b .sheet)
+      → n ≤ cycleCount (a .calls) → n ≤ cycleCount (b .calls) → Alike a b c d n → Undisturbed a b c d n

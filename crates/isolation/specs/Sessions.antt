@@ -1,0 +1,72 @@
+-- Sessions (document 01, "The lists of demand 3"): a load that is carried out on any lent words, and any calls after it, the loads among
+-- them refused. What a call does is what its contract says (`after`, session/specs/Calls.antt).
+use Prim.Native.Nat.{ℕ, zero, suc, _+_}
+use mathlib.Core.Bool.{Bool, true, false}
+use mathlib.Core.List.{List, [], _∷_, _++_}
+use mathlib.Core.Path.{_≡_}
+use lib.ListN.{take, length}
+use Rattle.words.specs.Tests.{_=?_}
+use Rattle.words.specs.Words.{pick}
+use Rattle.session.specs.Calls.{Lent, Call, load, start, store, fetch, left, periodNumber, landed, order, cycle, isLoad, number, does, after}
+
+abbrev pub isCycle : Call → Bool
+isCycle (load z) = false
+isCycle (start circuit readAddress writeAddress count kind) = false
+isCycle (store node address new) = false
+isCycle (fetch node address) = false
+isCycle (left circuit) = false
+isCycle periodNumber = false
+isCycle (landed node) = false
+isCycle (order schedule period) = false
+isCycle cycle = true
+
+-- the lent words after some calls
+abbrev pub run : List Call → Lent → Lent
+run [] w = w
+run (x ∷ calls) w = run calls (after x w)
+
+-- every load among the calls is refused where it stands
+abbrev pub LoadsRefused : List Call → Lent → Type 0
+LoadsRefused [] w = Unit {0}
+LoadsRefused (x ∷ calls) w = (isLoad x ≡ true → number x w ≡ 0 → ⊥) × LoadsRefused calls (after x w)
+
+pub record Session : Type 0 where
+  pub lent : Lent
+  pub sheet : List ℕ
+  pub calls : List Call
+  pub carried-out : number (load sheet) lent ≡ 0
+  pub loads-refused : LoadsRefused calls (does (load sheet) lent)
+
+-- the lent words directly after the load, and after the first k calls behind it
+abbrev pub opened : Session → Lent
+opened l = does (load (l .sheet)) (l .lent)
+
+abbrev pub standing : Session → ℕ → Lent
+standing l k = run (take k (l .calls)) (opened l)
+
+-- what calls that are carried out tell: a transfer started, a word stored, a switch ordered, a cycle
+pub data Event : Type 0 where
+  started : ℕ → ℕ → ℕ → ℕ → ℕ → Event
+  wrote : ℕ → ℕ → ℕ → Event
+  ordered : ℕ → ℕ → Event
+  cycled : Event
+
+abbrev pub eventOf : Call → List Event
+eventOf (load z) = []
+eventOf (start circuit readAddress writeAddress count kind) = started circuit readAddress writeAddress count kind ∷ []
+eventOf (store node address new) = wrote node address new ∷ []
+eventOf (fetch node address) = []
+eventOf (left circuit) = []
+eventOf periodNumber = []
+eventOf (landed node) = []
+eventOf (order schedule period) = ordered schedule period ∷ []
+eventOf cycle = cycled ∷ []
+
+-- the events of some calls: those that answer 0
+abbrev pub events : List Call → Lent → List Event
+events [] w = []
+events (x ∷ calls) w = pick (number x w =? 0) (eventOf x) [] ++ events calls (after x w)
+
+-- the events of a session's first k calls
+abbrev pub eventsBefore : Session → ℕ → List Event
+eventsBefore l k = events (take k (l .calls)) (opened l)
