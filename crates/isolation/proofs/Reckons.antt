@@ -1,11 +1,12 @@
 -- The answers of a session are what is reckoned: the first half of demand 3.
 -- Assumes nothing.
 use Prim.Native.Nat.{ℕ, zero, suc, _+_, _*_, _≤_, _<_}
-use mathlib.Core.Bool.{Bool, true, false}
+use mathlib.Core.Bool.{Bool, true, false, false≢true}
 use mathlib.Core.List.{List, [], _∷_}
 use mathlib.Core.Path.{_≡_, refl, sym, _∙_, ap, ap₂, subst}
 use native.Mathlib.Omega.{arith}
 use native.Mathlib.Nat.{not-suc-le-zero}
+use native.Mathlib.Decide.{ℕ-discrete}
 use lib.ListN.{length, take, drop, getD}
 use Rattle.words.specs.Words.{pick, word}
 use Rattle.words.proofs.TestLaws.{and-both, yes≤, yes<, yes=}
@@ -23,11 +24,11 @@ use Rattle.sheet.specs.Passed.{CircuitSmall}
 use Rattle.session.proofs.SheetLaws.{SheetBounds, sheet-bounds, circuit-bounds}
 use Rattle.session.proofs.RegisterLaws.{loaded-register}
 use Rattle.isolation.specs.Sessions.{isCycle, run, Session, opened, standing, eventsBefore}
-use Rattle.isolation.specs.Reckoning.{Item, none, item, Reckoned, owed, landingIn, atLoad}
+use Rattle.isolation.specs.Reckoning.{Item, none, item, Reckoned, owed, landingIn, leavesIn, atLoad}
 use Rattle.isolation.specs.Demand.{leftAnswer, fetchAnswer, periodAnswer, landedAnswer, inRegion, landedIn, reckonedAt, CycleAt, landingAt, AsReckoned}
-use Rattle.isolation.proofs.Follow.{dated-load, sends-load}
-use Rattle.isolation.proofs.Regions.{in-high, itemIn}
-use Rattle.isolation.proofs.Stream.{seen, Fine, fine-bounds, fine-opened, after-done, is-cycle, machineAt, session-passes, session-trajectory, cycle-seen, fine-cycle}
+use Rattle.isolation.proofs.Follow.{dated-load, sends-load, leaves-no}
+use Rattle.isolation.proofs.Regions.{in-high, in-region, itemIn}
+use Rattle.isolation.proofs.Stream.{seen, Fine, fine-parts, fine-bounds, fine-opened, after-done, is-cycle, machineAt, session-passes, session-trajectory, cycle-seen, fine-cycle}
 use Rattle.isolation.proofs.Shows.{wordAt, seen-memory, At, cycle-done, landing-here, points}
 
 -- the numbers of the asking calls on a session's words
@@ -177,3 +178,21 @@ module _ (l : Session) (circuit : ℕ) (inside : circuit < circuits (l .sheet)) 
         let a = at-point k in
         period-answer (standing l k) (a .fine) ∙ ap FoundWord (sym (a .now .dated .number-is));
   }
+
+  -- a word that is reckoned to leave is read in the read region
+  pub reading : (k : ℕ) → leavesIn (reckonedAt l circuit k) (reckonedAt l circuit k .cycles) ≡ true
+      → inRegion (circuitAt z circuit .read) (reckonedAt l circuit k .readAddress + reckonedAt l circuit k .gone) ≡ true
+  reading k e = go (ℕ-discrete (seen (standing l k) .sender circuit .toGo) 0)
+    where
+      a : At z circuit S (drop k (l .calls)) (standing l k) (reckonedAt l circuit k)
+      a = at-point k
+
+      go : Dec (seen (standing l k) .sender circuit .toGo ≡ 0)
+          → inRegion (circuitAt z circuit .read) (reckonedAt l circuit k .readAddress + reckonedAt l circuit k .gone) ≡ true
+      go (yes over) = absurd (false≢true (sym (leaves-no (reckonedAt l circuit k) (seen (standing l k) .sender circuit) (a .now .sending) over) ∙ e))
+      go (no ne) =
+          let t = fine-parts z (standing l k) (a .fine) .transfers circuit inside in
+          let some : 0 < seen (standing l k) .sender circuit .left = omega (arith, ne, t .to-go) in
+          let lies = t .reads some in
+          subst (λ (address : ℕ). inRegion (circuitAt z circuit .read) address ≡ true) (sym (a .now .sending .read-at some))
+          (in-region (circuitAt z circuit .read) (seen (standing l k) .sender circuit .readAddress) (lies .low) (omega (arith, lies .high)))
