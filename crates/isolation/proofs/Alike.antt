@@ -1,10 +1,9 @@
 -- Two reckonings of a circuit that agree in what matters stay so: through its acts, through what does not concern it, through cycles.
 -- Assumes nothing.
-use Prim.Native.Nat.{ℕ, zero, suc, _+_, _-_, _*_, _≤_, _<_, min}
+use Prim.Native.Nat.{ℕ, zero, suc, _+_, _-_, _≤_, min}
 use mathlib.Core.Bool.{Bool, true, false, false≢true}
 use mathlib.Core.List.{List, [], _∷_, _++_}
 use mathlib.Core.Path.{_≡_, refl, sym, _∙_, ap, ap₂, subst}
-use native.Mathlib.Omega.{arith}
 use Rattle.words.specs.Tests.{_and_, _or_, _≤?_, _=?_, any}
 use Rattle.words.specs.Words.{pick}
 use Rattle.words.proofs.TestLaws.{is=}
@@ -126,18 +125,6 @@ words-same reads receives reads′ receives′ h f g = record {
   same-readWords = f;
   same-receiveWords = g;
 }
-
--- an act on both, and some acts
-act-same : {m : Circuit} {r q : Reckoned} (x : Act) → Same m r q → Same m (actOn x r) (actOn x q)
-act-same (began readAddress writeAddress count kind) h = start-same readAddress writeAddress count kind h
-act-same {r} {q} (readStored address new) h =
-    words-same _ _ _ _ h (λ at i. ap (λ (w : ℕ). pick (at =? address) new w) (h .same-readWords at i)) (h .same-receiveWords)
-act-same {r} {q} (receiveStored address new) h =
-    words-same _ _ _ _ h (h .same-readWords) (λ at i. ap (λ (w : ℕ). pick (at =? address) new w) (h .same-receiveWords at i))
-
-pub acts-same : {m : Circuit} {r q : Reckoned} (xs : List Act) → Same m r q → Same m (actAll xs r) (actAll xs q)
-acts-same [] h = h
-acts-same (x ∷ xs) h = acts-same xs (act-same x h)
 
 -- a store's word at an address of the region: it is the store's only where the store is an act
 store-word : (here : Bool) (region : Region) (address new at x y : ℕ) → inRegion region at ≡ true → x ≡ y

@@ -1,6 +1,6 @@
 -- The points of a session's list of calls: the events before each cycle, and the reckoning from one cycle to the next.
 -- Assumes nothing.
-use Prim.Native.Nat.{ℕ, zero, suc, _≤_, _<_}
+use Prim.Native.Nat.{ℕ, zero, suc, _<_}
 use mathlib.Core.Bool.{Bool, true, false, false≢true}
 use mathlib.Core.List.{List, [], _∷_, _++_}
 use mathlib.Core.Path.{_≡_, refl, sym, _∙_, ap, subst}
@@ -10,9 +10,9 @@ use Rattle.words.specs.Tests.{_=?_}
 use Rattle.words.specs.Words.{pick}
 use Rattle.words.proofs.TestLaws.{yes=}
 use Rattle.session.specs.Calls.{Lent, Call, load, start, store, fetch, left, periodNumber, landed, order, cycle, number, after}
-use Rattle.isolation.specs.Sessions.{Session, isCycle, run, opened, standing, Event, started, wrote, ordered, cycled, eventOf, events, eventsBefore}
+use Rattle.isolation.specs.Sessions.{Session, isCycle, run, opened, Event, started, wrote, ordered, cycled, eventOf, events}
 use Rattle.isolation.specs.Reckoning.{Reckoned, cycleOn, reckonEvent, reckonAll}
-use Rattle.isolation.specs.Demand.{cycleCall, cycleCount, CycleAt, AsReckoned}
+use Rattle.isolation.specs.Demand.{cycleCall, cycleCount, AsReckoned}
 
 -- the events before cycle t of a list
 abbrev pub upTo : List Event → ℕ → List Event
@@ -113,7 +113,8 @@ pub record Split (calls : List Call) (w : Lent) (t : ℕ) : Type 0 where
   pub inside : cycleCall calls t < length calls
   pub is-cycle : isCycle (getD calls (cycleCall calls t) cycle) ≡ true
 
-append-assoc : (xs ys zs : List Event) → (xs ++ ys) ++ zs ≡ xs ++ (ys ++ zs)
+-- lists of events joined
+pub append-assoc : (xs ys zs : List Event) → (xs ++ ys) ++ zs ≡ xs ++ (ys ++ zs)
 append-assoc [] ys zs = refl
 append-assoc (x ∷ xs) ys zs = ap {B = List Event} (λ r. x ∷ r) (append-assoc xs ys zs)
 

@@ -1,25 +1,22 @@
 -- The second half of demand 3 from the first: two sessions alike for a circuit of each answer alike for it.
 -- Assumes nothing.
 use Prim.Native.Nat.{ℕ, zero, suc, _+_, _-_, _*_, _≤_, _<_}
-use mathlib.Core.Bool.{Bool, true, false}
-use mathlib.Core.List.{List, [], _∷_, _++_}
+use mathlib.Core.Bool.{true}
+use mathlib.Core.List.{List, [], _∷_}
 use mathlib.Core.Path.{_≡_, refl, sym, _∙_, ap, ap₂, subst}
 use native.Mathlib.Omega.{arith}
-use lib.ListN.{length, take, getD}
-use Rattle.words.specs.Tests.{_=?_}
+use lib.ListN.{length, take}
 use Rattle.sheet.specs.declared.circuits.Circuit.{Circuit}
-use Rattle.sheet.specs.Sheet.{columns, rows, circuits, circuitAt}
-use Rattle.sheet.specs.Slots.{sourceOf, destinationOf}
 use Rattle.torus.specs.Torus.{distanceOf}
 use Rattle.torus.specs.Route.{routerCycles}
 use Rattle.session.specs.declared.Found.{Found}
 use Rattle.session.specs.declared.Found.the-variants.{Word as FoundWord, Refused as FoundRefused}
-use Rattle.session.specs.Calls.{Call, Lent}
-use Rattle.isolation.specs.Sessions.{Session, opened, standing, Event, cycled, events, eventsBefore}
-use Rattle.isolation.specs.Reckoning.{Calendar, Reckoned, owed, landingIn, flightCycles, leavesIn, cycleOn, atLoad, reckonAll}
-use Rattle.isolation.specs.Demand.{leftAnswer, fetchAnswer, inRegion, itsRecord, reckonedAt, CycleAt, landingAt, AsReckoned, cycleCall, cycleCount, pointAfter, actsAfter, calendarIn, Alike, Undisturbed}
-use Rattle.isolation.proofs.Points.{upTo, stretch, cyclesIn, Split, split, carried-session, reckon-last, reckon-first, reckon-next}
-use Rattle.isolation.proofs.Alike.{Same, same-sym, same-trans, same-refl, actAll, acts-same, stretch-acts, Sheets, landing-same, cycle-same}
+use Rattle.session.specs.Calls.{Call}
+use Rattle.isolation.specs.Sessions.{Session, opened, Event, cycled, events, eventsBefore}
+use Rattle.isolation.specs.Reckoning.{Reckoned, landingIn, leavesIn, cycleOn, atLoad, reckonAll}
+use Rattle.isolation.specs.Demand.{inRegion, itsRecord, reckonedAt, CycleAt, landingAt, AsReckoned, cycleCall, cycleCount, pointAfter, actsAfter, calendarIn, Alike, Undisturbed}
+use Rattle.isolation.proofs.Points.{upTo, stretch, Split, split, carried-session, reckon-last, reckon-first, reckon-next}
+use Rattle.isolation.proofs.Alike.{Same, same-sym, same-trans, same-refl, actAll, stretch-acts, Sheets, landing-same, cycle-same}
 
 -- whenever a word of the circuit leaves in a cycle, its read address lies in the read region
 abbrev pub Reading : Session → ℕ → Type 0
@@ -111,10 +108,10 @@ module _ (a b : Session) (c d n : ℕ) (ha : AsReckoned a c) (hb : AsReckoned b 
       (acts-equal t i) (stretch-acts (a .sheet) c (eventsOf a) t r q h) in
       same-trans middle (same-sym right)
 
-  hops-equal : (z : List ℕ) (m m′ : Circuit) (k l k′ l′ : ℕ) → k ≡ k′ → l ≡ l′ → m ≡ m′
+  hops-equal : (m m′ : Circuit) (k l k′ l′ : ℕ) → k ≡ k′ → l ≡ l′ → m ≡ m′
       → routerCycles * (distanceOf k l (m .read .node) (m .receive .node) + 1)
       ≡ routerCycles * (distanceOf k′ l′ (m′ .read .node) (m′ .receive .node) + 1)
-  hops-equal z m m′ k l k′ l′ e f g =
+  hops-equal m m′ k l k′ l′ e f g =
       ap (λ (m : Circuit). routerCycles * (distanceOf k l (m .read .node) (m .receive .node) + 1)) g
       ∙ ap₂ (λ (k l : ℕ). routerCycles * (distanceOf k l (m′ .read .node) (m′ .receive .node) + 1)) e f
 
@@ -123,7 +120,7 @@ module _ (a b : Session) (c d n : ℕ) (ha : AsReckoned a c) (hb : AsReckoned b 
   sheets-at t i =
       let first : Sheets (a .sheet) (b .sheet) c d (calendarIn a c t) (calendarIn b d t) = record {
         same-circuit = x .same-record;
-        same-flight = hops-equal [] _ _ _ _ _ _ (x .same-columns) (x .same-rows) (x .same-record);
+        same-flight = hops-equal _ _ _ _ _ _ (x .same-columns) (x .same-rows) (x .same-record);
         same-length = x .same-lengths t i;
         same-slot = λ offset. x .same-slots t offset i;
       } in

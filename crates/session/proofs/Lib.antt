@@ -5,3 +5,5 @@ pub mod RegisterLaws
 pub mod CycleLaws
 pub mod KeptLaws
 pub mod PairedLaws
+pub mod SoundnessLaws
+pub mod ReadingLaws

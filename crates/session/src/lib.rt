@@ -1,4 +1,15 @@
-// The session: the answers of its calls.
+// The session: its calls and their answers.
+mod reading;
+mod soundness;
+
+pub use reading::fetch;
+pub use reading::memory_number;
+pub use reading::period_number;
+pub use reading::state_number;
+pub use reading::what_landed;
+pub use reading::words_left;
+pub use soundness::is_sound;
+pub use soundness::kind_travels;
 
 // A call that has no value: carried out, or refused with a number of document 01.
 pub enum Answer {

@@ -1,0 +1,105 @@
+-- The numbers of the calls from the tests that the code makes in turn, and the answers from their numbers.
+-- Assumes nothing.
+use Prim.Native.Nat.{ℕ, zero, suc, _+_, _*_, _≤_, _<_}
+use mathlib.Core.Bool.{Bool, true, false}
+use mathlib.Core.List.{List}
+use mathlib.Core.Path.{_≡_, refl, sym, _∙_, ap, ap₂}
+use native.Mathlib.Omega.{arith}
+use native.Mathlib.Nat.{mul-le-mul}
+use Rattle.words.specs.Words.{word, pick}
+use Rattle.words.proofs.TestLaws.{yes=, no=}
+use Rattle.sheet.specs.Sheet.{columns, rows, memoryWords, nodes}
+use Rattle.network.specs.Registers.{sheetIn, room}
+use Rattle.network.specs.Seen.{landingIn}
+use Rattle.network.specs.View.{Landing}
+use Rattle.session.specs.declared.Found.the-variants.{Word as FoundWord, Refused as FoundRefused}
+use Rattle.session.specs.declared.Landed.{Landed}
+use Rattle.session.specs.declared.Landed.the-variants.{Nothing, Word as LandedWord, Refused as LandedRefused}
+use Rattle.session.specs.Calls.{unless, _then_, stateNumber, memoryNumber, fetched}
+use Rattle.session.specs.Answers.{foundOf, landedOf}
+use Rattle.session.proofs.NumberLaws.{then-zero, zero-unless, state-passed}
+use Rattle.session.proofs.SoundLaws.{sound-parts}
+use Rattle.session.proofs.SheetLaws.{SheetBounds, sheet-bounds}
+
+-- the first number applies
+pub then-first : {n a : ℕ} (b : ℕ) → n ≡ a → (n ≡ 0 → ⊥) → n ≡ (a then b)
+unfolding _then_
+then-first {n} {a} b e ne = e ∙ sym (ap (λ (t : Bool). pick t b a) (no= (λ z. ne (e ∙ z))))
+
+-- it does not, and the rest decides
+pub then-next : {a b v : ℕ} → a ≡ 0 → v ≡ b → v ≡ (a then b)
+unfolding _then_
+then-next {a} {b} e r = r ∙ sym (ap (λ (t : Bool). pick t b a) (yes= e))
+
+-- a number whose test does not hold
+pub unless-no : (number : ℕ) {test : Bool} → test ≡ false → number ≡ unless number test
+unfolding unless
+unless-no number e = sym (ap (λ (t : Bool). pick t 0 number) e)
+
+-- one whose test holds
+pub unless-yes : (number : ℕ) {test : Bool} → test ≡ true → 0 ≡ unless number test
+unless-yes number e = sym (zero-unless number e)
+
+-- what the sheet of a state that passed 12 and 13 settles
+pub state-bounds : (s : List ℕ) → stateNumber s ≡ 0 → SheetBounds (sheetIn s)
+state-bounds s e = sheet-bounds (sheetIn s) (sound-parts s (state-passed s e .is-sound) .sheet-passes)
+
+-- what passed 12 to 14 passed 12 and 13
+pub memory-state : (s m : List ℕ) → memoryNumber s m ≡ 0 → stateNumber s ≡ 0
+unfolding memoryNumber
+memory-state s m e = then-zero _ _ e .0
+
+-- the nodes, from the first two words of the state's sheet
+pub nodes-are : {a b : ℕ} {z y : List ℕ} → a ≡ columns z → b ≡ rows z → z ≡ y → a * b ≡ nodes y
+nodes-are e f g = ap₂ _*_ e f ∙ ap nodes g
+
+-- the memory words of all nodes are few
+pub few-words : (z : List ℕ) → SheetBounds z → nodes z * memoryWords z ≤ 262144
+few-words z b = mul-le-mul (b .few-nodes) (b .small-memory)
+
+-- a product of two words fits in 64 bits, and so does a word more
+pub product-small : (a b : ℕ) → a < 4294967296 → b < 4294967296 → a * b ≤ 18446744065119617025
+product-small a b la lb = mul-le-mul {n₁ = a} {m₁ = b} {n₂ = 4294967295} {m₂ = 4294967295} (omega arith) (omega arith)
+
+-- the answers, from a number and a value
+pub found-word : (n w : ℕ) → n ≡ 0 → FoundWord w ≡ foundOf n w
+found-word zero w e = refl
+found-word (suc n) w e = absurd (let z : ⊥ = omega arith in z)
+
+pub found-refused : (n w : ℕ) → (n ≡ 0 → ⊥) → FoundRefused n ≡ foundOf n w
+found-refused zero w ne = absurd (ne refl)
+found-refused (suc n) w ne = refl
+
+pub landed-refused : {n : ℕ} (number : ℕ) (landing : Landing) → n ≡ number → (n ≡ 0 → ⊥) → LandedRefused n ≡ landedOf number landing
+landed-refused zero landing e ne = absurd (ne e)
+landed-refused (suc number) landing e ne = ap LandedRefused e
+
+pub landed-value : {n : ℕ} (number : ℕ) (landing : Landing) {r : Landed}
+    → n ≡ number
+    → n ≡ 0
+    → r ≡ landedOf 0 landing
+    → r ≡ landedOf number landing
+landed-value number landing e z r = r ∙ ap (λ k. landedOf k landing) (sym z ∙ e)
+
+-- the word that is fetched
+pub fetched-is : (s m : List ℕ) (node address : ℕ) {w r : ℕ}
+    → w ≡ word m (node * r + address)
+    → r ≡ room s
+    → w ≡ fetched s m node address
+unfolding fetched
+fetched-is s m node address e f = e ∙ ap (λ x. word m (node * x + address)) f
+
+-- what a landing's registers hold
+pub landing-nothing : (mark kind address w : ℕ) → mark ≡ 0 → Nothing ≡ landedOf 0 (landingIn mark kind address w)
+landing-nothing zero kind address w e = refl
+landing-nothing (suc mark) kind address w e = absurd (let z : ⊥ = omega arith in z)
+
+pub landing-word : (mark : ℕ) {k a w : ℕ} (kind address payload : ℕ)
+    → (mark ≡ 0 → ⊥)
+    → k ≡ kind
+    → a ≡ address
+    → w ≡ payload
+    → LandedWord k a w ≡ landedOf 0 (landingIn mark kind address payload)
+landing-word zero kind address payload ne e f g = absurd (ne refl)
+landing-word (suc mark) {k} {a} {w} kind address payload ne e f g =
+    ap (λ x. LandedWord x a w) e ∙ ap (λ x. LandedWord kind x w) f ∙ ap (λ x. LandedWord kind address x) g

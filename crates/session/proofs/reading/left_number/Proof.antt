@@ -1,0 +1,37 @@
+-- `session::reading::left_number` meets its contract: the state's number first, then 15 by the circuit.
+-- Assumes nothing.
+use native.Mathlib.Omega.{arith}
+use mathlib.Core.Path.{sym, _∙_, ap}
+use Rattle.words.proofs.TestLaws.{yes<, no<}
+use Rattle.sheet.specs.Sheet.{circuits}
+use Rattle.session.specs.Calls.{leftNumber}
+use Rattle.session.proofs.ReadingLaws.{then-first, then-next, unless-no, unless-yes}
+use borrow.Author.Needs.{needs}
+use Rattle.session.proofs.reading.left_number.Statement.{statement}
+use Rattle.session.proofs.reading.left_number.Tie as tie
+
+state-number-requires : tie.Need-state-number-requires
+state-number-requires c κs = search needs
+
+returns : tie.Need-returns
+unfolding leftNumber
+returns c = then-first _ (c .before .state-number .ensures) (c .if1 .taken)
+
+sheet-of-requires : tie.Need-sheet-of-requires
+sheet-of-requires c κs = search needs
+
+get-requires : tie.Need-get-requires
+get-requires c κs = search needs
+
+returns-2 : tie.Need-returns-2
+unfolding leftNumber
+returns-2 c = then-next (sym (c .before .before .before .before .state-number .ensures) ∙ c .before .before .before .if1 .left) (unless-yes 15 (yes< (omega (arith, c .before .get .ensures ∙ ap circuits (c .before .before .sheet-of .ensures)))))
+
+returns-3 : tie.Need-returns-3
+unfolding leftNumber
+returns-3 c = then-next (sym (c .before .before .before .before .state-number .ensures) ∙ c .before .before .before .if1 .left) (unless-no 15 (no< (omega (arith, c .before .get .ensures ∙ ap circuits (c .before .before .sheet-of .ensures)))))
+
+pub left-number-spec : {M : Type 1} → statement M
+left-number-spec =
+    tie.close
+    (tie.spec state-number-requires returns sheet-of-requires get-requires returns-2 returns-3)

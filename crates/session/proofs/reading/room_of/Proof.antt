@@ -1,0 +1,19 @@
+-- `session::reading::room_of` meets its contract: the third word of the state's sheet.
+-- Assumes nothing.
+use mathlib.Core.Path.{_∙_, ap}
+use Rattle.sheet.specs.Sheet.{memoryWords}
+use borrow.Author.Needs.{needs}
+use Rattle.session.proofs.reading.room_of.Statement.{statement}
+use Rattle.session.proofs.reading.room_of.Tie as tie
+
+sheet-of-requires : tie.Need-sheet-of-requires
+sheet-of-requires c κs = search needs
+
+get-requires : tie.Need-get-requires
+get-requires c κs = search needs
+
+returns : tie.Need-returns
+returns c = c .get .ensures ∙ ap memoryWords (c .before .sheet-of .ensures)
+
+pub room-of-spec : {M : Type 1} → statement M
+room-of-spec = tie.close (tie.spec sheet-of-requires get-requires returns)

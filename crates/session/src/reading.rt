@@ -1,0 +1,184 @@
+// The calls that only read, and the numbers 12 to 15 that they share with the others (document 01, "Refusals, in checking order").
+ghost use mathlib.Core.Path.{_≡_};
+ghost use Prim.Native.Nat.{_*_};
+ghost use Rattle.sheet.specs.Sheet.{nodes};
+ghost use Rattle.network.specs.Registers.{sheetIn, room};
+ghost use Rattle.session.specs.Calls.{stateNumber, memoryNumber, placeNumber, leftNumber, landedNumber, fetched, wordsLeft, periodNumberIn, lastLanding};
+ghost use Rattle.session.specs.Answers.{foundOf, landedOf};
+use crate::Found;
+use crate::Landed;
+
+// The published length of the state, and registers that the network's code names nowhere.
+const STATE_WORDS: usize = 10278;
+
+const NUMBER_PLACE: u32 = 1;
+
+const LANDING_MARK: u32 = 12;
+
+const LANDING_KIND: u32 = 13;
+
+const LANDING_ADDRESS: u32 = 14;
+
+const LANDING_WORD: u32 = 15;
+
+// 12 or 13, which every call but load tests first; 0 where neither applies.
+pub fn state_number(s: &[u32]) -> u32
+    ensures { λ r. ⌜ r ≡ stateNumber (now (s .entry)) ⌝ }
+{
+    if s.len() < STATE_WORDS {
+        return 12;
+    }
+    if crate::soundness::is_sound(s) {
+        return 0;
+    }
+    13
+}
+
+// How many nodes the sheet of a state has that passed 12 and 13.
+fn nodes_of(s: &[u32]) -> u32
+    requires { ⌜ stateNumber (now s) ≡ 0 ⌝ }
+    ensures { λ r. ⌜ r ≡ nodes (sheetIn (now (s .entry))) ⌝ }
+{
+    let z = network::sheet_of(s);
+    words::get(z, 0) * words::get(z, 1)
+}
+
+// Memory words of a node.
+pub fn room_of(s: &[u32]) -> u32
+    ensures { λ r. ⌜ r ≡ room (now (s .entry)) ⌝ }
+{
+    words::get(network::sheet_of(s), 2)
+}
+
+// Memory words of all nodes.
+fn memory_words(s: &[u32]) -> u32
+    requires { ⌜ stateNumber (now s) ≡ 0 ⌝ }
+    ensures { λ r. ⌜ r ≡ nodes (sheetIn (now (s .entry))) * room (now (s .entry)) ⌝ }
+{
+    nodes_of(s) * room_of(s)
+}
+
+// 12 to 14, where memory is lent too.
+pub fn memory_number(s: &[u32], m: &[u32]) -> u32
+    ensures { λ r. ⌜ r ≡ memoryNumber (now (s .entry)) (now (m .entry)) ⌝ }
+{
+    let number = state_number(s);
+    if number != 0 {
+        return number;
+    }
+    if m.len() == memory_words(s) as usize {
+        return 0;
+    }
+    14
+}
+
+// 12 to 14, and 15 where the node or the address does not exist.
+pub fn place_number(s: &[u32], m: &[u32], node: u32, address: u32) -> u32
+    ensures { λ r. ⌜ r ≡ placeNumber (now (s .entry)) (now (m .entry)) node address ⌝ }
+{
+    let number = memory_number(s, m);
+    if number != 0 {
+        return number;
+    }
+    if node >= nodes_of(s) {
+        return 15;
+    }
+    if address < room_of(s) {
+        return 0;
+    }
+    15
+}
+
+// 12, 13, and 15 where the circuit does not exist.
+fn left_number(s: &[u32], circuit: u32) -> u32
+    ensures { λ r. ⌜ r ≡ leftNumber (now (s .entry)) circuit ⌝ }
+{
+    let number = state_number(s);
+    if number != 0 {
+        return number;
+    }
+    if circuit < words::get(network::sheet_of(s), 3) {
+        return 0;
+    }
+    15
+}
+
+// 12, 13, and 15 where the node does not exist.
+fn landed_number(s: &[u32], node: u32) -> u32
+    ensures { λ r. ⌜ r ≡ landedNumber (now (s .entry)) node ⌝ }
+{
+    let number = state_number(s);
+    if number != 0 {
+        return number;
+    }
+    if node < nodes_of(s) {
+        return 0;
+    }
+    15
+}
+
+// The answer of a number and a word.
+fn found_of(number: u32, word: u32) -> Found
+    ensures { λ r. ⌜ r ≡ foundOf number word ⌝ }
+{
+    if number == 0 {
+        return Found::Word(word);
+    }
+    Found::Refused(number)
+}
+
+// How many words of a circuit's transfer are left.
+pub fn words_left(s: &[u32], circuit: u32) -> Found
+    ensures { λ r. ⌜ r ≡ foundOf (leftNumber (now (s .entry)) circuit) (wordsLeft (now (s .entry)) circuit) ⌝ }
+{
+    found_of(
+        left_number(s, circuit),
+        network::reg(s, network::LEFT_ROW, circuit),
+    )
+}
+
+// The number of the present period.
+pub fn period_number(s: &[u32]) -> Found
+    ensures { λ r. ⌜ r ≡ foundOf (stateNumber (now (s .entry))) (periodNumberIn (now (s .entry))) ⌝ }
+{
+    found_of(
+        state_number(s),
+        network::reg(s, network::CLOCK_ROW, NUMBER_PLACE),
+    )
+}
+
+// The landing that a node's registers hold.
+fn landing_at(s: &[u32], node: u32) -> Landed
+    ensures { λ r. ⌜ r ≡ landedOf 0 (lastLanding (now (s .entry)) node) ⌝ }
+{
+    if network::reg(s, LANDING_MARK, node) == 0 {
+        return Landed::Nothing;
+    }
+    let kind = network::reg(s, LANDING_KIND, node);
+    let address = network::reg(s, LANDING_ADDRESS, node);
+    let word = network::reg(s, LANDING_WORD, node);
+    Landed::Word {
+        kind,
+        address,
+        word,
+    }
+}
+
+// What landed at a node in the last cycle.
+pub fn what_landed(s: &[u32], node: u32) -> Landed
+    ensures { λ r. ⌜ r ≡ landedOf (landedNumber (now (s .entry)) node) (lastLanding (now (s .entry)) node) ⌝ }
+{
+    let number = landed_number(s, node);
+    if number != 0 {
+        return Landed::Refused(number);
+    }
+    landing_at(s, node)
+}
+
+// The word at a node's address. Two words' product fits, so the place is reckoned before it is tested.
+pub fn fetch(s: &[u32], m: &[u32], node: u32, address: u32) -> Found
+    ensures { λ r. ⌜ r ≡ foundOf (placeNumber (now (s .entry)) (now (m .entry)) node address) (fetched (now (s .entry)) (now (m .entry)) node address) ⌝ }
+{
+    let place = (node as usize) * (room_of(s) as usize) + (address as usize);
+    found_of(place_number(s, m, node, address), words::get(m, place))
+}
