@@ -26,14 +26,14 @@ use Rattle.session.proofs.RegisterLaws.{loaded-register}
 use Rattle.isolation.specs.Sessions.{isCycle, run, Session, opened, standing, eventsBefore}
 use Rattle.isolation.specs.Reckoning.{Item, none, item, Reckoned, owed, landingIn, leavesIn, atLoad}
 use Rattle.isolation.specs.Demand.{leftAnswer, fetchAnswer, periodAnswer, landedAnswer, inRegion, landedIn, reckonedAt, CycleAt, landingAt, AsReckoned}
-use Rattle.isolation.proofs.Follow.{dated-load, sends-load, leaves-no}
+use Rattle.isolation.proofs.Follow.{Dated, dated-load, sends-load, leaves-no}
 use Rattle.isolation.proofs.Regions.{in-high, in-region, itemIn}
 use Rattle.isolation.proofs.Stream.{seen, Fine, fine-parts, fine-bounds, fine-opened, after-done, is-cycle, machineAt, session-passes, session-trajectory, cycle-seen, fine-cycle}
 use Rattle.isolation.proofs.Shows.{wordAt, seen-memory, At, cycle-done, landing-here, points}
 
 -- the numbers of the asking calls on a session's words
 module _ (z : List ℕ) (w : Lent) (f : Fine z w) where
-  state-zero : stateNumber (w .state) ≡ 0
+  pub state-zero : stateNumber (w .state) ≡ 0
   unfolding stateNumber
   state-zero = zero-then (zero-unless 12 (yes≤ (f .long))) (zero-unless 13 (f .is-sound))
 
@@ -196,3 +196,7 @@ module _ (l : Session) (circuit : ℕ) (inside : circuit < circuits (l .sheet)) 
           let lies = t .reads some in
           subst (λ (address : ℕ). inRegion (circuitAt z circuit .read) address ≡ true) (sym (a .now .sending .read-at some))
           (in-region (circuitAt z circuit .read) (seen (standing l k) .sender circuit .readAddress) (lies .low) (omega (arith, lies .high)))
+
+  -- the reckoned calendar is the session's own: cycle within the period, period number, schedule in force, pending order
+  pub calendar-is : (k : ℕ) → Dated (reckonedAt l circuit k .calendar) (seen (standing l k))
+  calendar-is k = at-point k .now .dated

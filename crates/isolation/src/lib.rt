@@ -1,1 +1,1 @@
-// No code: the table of examples, and later the theorem over lists of calls.
+// No code: demand 3 over lists of calls, its proof, and the examples.
