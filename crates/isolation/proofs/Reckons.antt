@@ -45,7 +45,7 @@ module _ (z : List ℕ) (w : Lent) (f : Fine z w) where
   unfolding landedNumber
   landed-zero node l = zero-then state-zero (zero-unless 15 (yes< (omega (arith, ap nodes (f .sheet-is)))))
 
-  place-zero : (node address : ℕ) → node < nodes z → address < memoryWords z → placeNumber (w .state) (w .memory) node address ≡ 0
+  pub place-zero : (node address : ℕ) → node < nodes z → address < memoryWords z → placeNumber (w .state) (w .memory) node address ≡ 0
   unfolding placeNumber memoryNumber
   place-zero node address n l =
       zero-then
