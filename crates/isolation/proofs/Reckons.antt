@@ -156,6 +156,7 @@ module _ (l : Session) (circuit : ℕ) (inside : circuit < circuits (l .sheet)) 
     words-left = λ k p.
         let a = at-point k in
         left-answer (standing l k) (a .fine) ∙ ap FoundWord (sym (a .now .sending .left-is));
+    landed-answered = λ k p. landed-zero z (standing l k) (at-point k .fine) (destinationOf z circuit) (small .destination-inside);
     landings = λ k c.
         let a = at-point k in
         let f = fine-cycle z (standing l k) (a .fine) in

@@ -16,7 +16,7 @@ use Rattle.session.specs.declared.Found.the-variants.{Word as FoundWord}
 use Rattle.session.specs.declared.Landed.{Landed}
 use Rattle.session.specs.declared.Landed.the-variants.{Nothing, Word as LandedWord, Refused}
 use Rattle.session.specs.Answers.{foundOf, landedOf}
-use Rattle.session.specs.Calls.{Lent, Call, cycle, number, stateNumber, leftNumber, placeNumber, landedNumber, periodNumberIn, wordsLeft, fetched, lastLanding}
+use Rattle.session.specs.Calls.{Lent, Call, landed, cycle, number, stateNumber, leftNumber, placeNumber, landedNumber, periodNumberIn, wordsLeft, fetched, lastLanding}
 use Rattle.isolation.specs.Sessions.{Session, isCycle, opened, standing, Event, started, wrote, ordered, cycled, eventsBefore}
 use Rattle.isolation.specs.Reckoning.{Calendar, Item, none, item, Reckoned, owed, landingIn, reckon}
 
@@ -65,6 +65,8 @@ pub record AsReckoned (l : Session) (circuit : ℕ) : Type 0 where
   pub cycles-carried-out : (k : ℕ) → CycleAt l k → number cycle (standing l k) ≡ 0
   -- at every point words left answers the owed words
   pub words-left : (k : ℕ) → k ≤ length (l .calls) → leftAnswer (standing l k) circuit ≡ FoundWord (owed (reckonedAt l circuit k))
+  -- at every point what landed at the destination is answered
+  pub landed-answered : (k : ℕ) → k ≤ length (l .calls) → number (landed (destinationOf (l .sheet) circuit)) (standing l k) ≡ 0
   -- directly after a cycle, what landed at the destination in its receive region is what left so many cycles before, or nothing
   pub landings : (k : ℕ) → CycleAt l k
       → landingAt l circuit k ≡ landingIn (l .sheet) circuit (reckonedAt l circuit k) (reckonedAt l circuit k .cycles)
