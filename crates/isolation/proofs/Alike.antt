@@ -1,12 +1,13 @@
 -- Two reckonings of a circuit that agree in what matters stay so: through its acts, through what does not concern it, through cycles.
 -- Assumes nothing.
-use Prim.Native.Nat.{ℕ, zero, suc, _+_, _-_, _≤_, min}
+use Prim.Native.Nat.{ℕ, zero, suc, _+_, _-_, min}
 use mathlib.Core.Bool.{Bool, true, false, false≢true}
 use mathlib.Core.List.{List, [], _∷_, _++_}
 use mathlib.Core.Path.{_≡_, refl, sym, _∙_, ap, ap₂, subst}
-use Rattle.words.specs.Tests.{_and_, _or_, _≤?_, _=?_, any}
+use Rattle.words.specs.Tests.{_and_, _≤?_, _=?_, any}
 use Rattle.words.specs.Words.{pick}
 use Rattle.words.proofs.TestLaws.{is=}
+use Rattle.words.proofs.AllLaws.{any-same}
 use Rattle.sheet.specs.declared.circuits.Region.{Region}
 use Rattle.sheet.specs.declared.circuits.Circuit.{Circuit}
 use Rattle.sheet.specs.Sheet.{circuitAt, period}
@@ -234,16 +235,10 @@ same-refl r = record {
   same-receiveWords = λ at i. refl;
 }
 
--- two tests that agree everywhere
-any-same : (n : ℕ) (p q : ℕ → Bool) → ((k : ℕ) → p k ≡ q k) → any n p ≡ any n q
-unfolding any
-any-same zero p q h = refl
-any-same (suc n) p q h = ap₂ _or_ (any-same n p q h) (h n)
-
 leaves-same : {m : Circuit} {r q : Reckoned} → Same m r q → leavesIn r (r .cycles) ≡ leavesIn q (q .cycles)
 unfolding leavesIn
 leaves-same {r} {q} h =
-    any-same (r .cycles) _ (λ s. r .cycles ≤? s + q .opened s) (λ s. ap (λ (k : ℕ). r .cycles ≤? s + k) (h .same-opened s))
+    any-same (r .cycles) _ (λ s. r .cycles ≤? s + q .opened s) (λ s l. ap (λ (k : ℕ). r .cycles ≤? s + k) (h .same-opened s))
     ∙ ap (λ (t : ℕ). any t (λ s. t ≤? s + q .opened s)) (h .same-cycles)
 
 -- a function set at one place

@@ -1,34 +1,31 @@
 -- The answers of a session are what is reckoned: the first half of demand 3.
 -- Assumes nothing.
-use Prim.Native.Nat.{ℕ, zero, suc, _+_, _*_, _≤_, _<_}
-use mathlib.Core.Bool.{Bool, true, false, false≢true}
+use Prim.Native.Nat.{ℕ, zero, suc, _+_, _*_, _<_}
+use mathlib.Core.Bool.{true, false≢true}
 use mathlib.Core.List.{List, [], _∷_}
-use mathlib.Core.Path.{_≡_, refl, sym, _∙_, ap, ap₂, subst}
+use mathlib.Core.Path.{_≡_, refl, sym, _∙_, ap, subst}
 use native.Mathlib.Omega.{arith}
 use native.Mathlib.Nat.{not-suc-le-zero}
 use native.Mathlib.Decide.{ℕ-discrete}
 use lib.ListN.{length, take, drop, getD}
-use Rattle.words.specs.Words.{pick, word}
 use Rattle.words.proofs.TestLaws.{and-both, yes≤, yes<, yes=}
 use Rattle.sheet.specs.Sheet.{memoryWords, circuits, nodes, circuitAt}
 use Rattle.sheet.specs.Slots.{sourceOf, destinationOf}
-use Rattle.network.specs.View.{View, Landing, nothing, landed as landing, noOrder}
-use Rattle.network.specs.Cycle.{tick}
-use Rattle.network.specs.Registers.{reg, sheetIn, room, clockRow, cyclePlace, numberPlace, schedulePlace, orderMarkPlace, leftRow, toGoRow}
-use Rattle.session.specs.declared.Found.{Found}
+use Rattle.network.specs.View.{View, Landing, nothing, landed as landing}
+use Rattle.network.specs.Registers.{reg, clockRow, cyclePlace, numberPlace, schedulePlace, orderMarkPlace, leftRow, toGoRow}
 use Rattle.session.specs.declared.Found.the-variants.{Word as FoundWord}
 use Rattle.session.specs.Answers.{foundOf, landedOf}
-use Rattle.session.specs.Calls.{Lent, Call, load, cycle, number, does, after, stateNumber, memoryNumber, placeNumber, leftNumber, landedNumber, fetched, wordsLeft, periodNumberIn, lastLanding}
+use Rattle.session.specs.Calls.{Lent, Call, cycle, number, does, after, stateNumber, memoryNumber, placeNumber, leftNumber, landedNumber, fetched, wordsLeft, periodNumberIn, lastLanding}
 use Rattle.session.proofs.NumberLaws.{zero-then, zero-unless}
 use Rattle.sheet.specs.Passed.{CircuitSmall}
 use Rattle.session.proofs.SheetLaws.{SheetBounds, sheet-bounds, circuit-bounds}
 use Rattle.session.proofs.RegisterLaws.{loaded-register}
-use Rattle.isolation.specs.Sessions.{isCycle, run, Session, opened, standing, eventsBefore}
-use Rattle.isolation.specs.Reckoning.{Item, none, item, Reckoned, owed, landingIn, leavesIn, atLoad}
-use Rattle.isolation.specs.Demand.{leftAnswer, fetchAnswer, periodAnswer, landedAnswer, inRegion, landedIn, reckonedAt, CycleAt, landingAt, AsReckoned}
+use Rattle.isolation.specs.Sessions.{run, Session, opened, standing}
+use Rattle.isolation.specs.Reckoning.{leavesIn, atLoad}
+use Rattle.isolation.specs.Demand.{leftAnswer, fetchAnswer, periodAnswer, landedAnswer, inRegion, landedIn, reckonedAt, CycleAt, AsReckoned}
 use Rattle.isolation.proofs.Follow.{Dated, dated-load, sends-load, leaves-no}
 use Rattle.isolation.proofs.Regions.{in-high, in-region, itemIn}
-use Rattle.isolation.proofs.Stream.{seen, Fine, fine-parts, fine-bounds, fine-opened, after-done, is-cycle, machineAt, session-passes, session-trajectory, cycle-seen, fine-cycle}
+use Rattle.isolation.proofs.Stream.{seen, Fine, fine-parts, fine-opened, after-done, is-cycle, machineAt, session-passes, session-trajectory, cycle-seen, fine-cycle}
 use Rattle.isolation.proofs.Shows.{wordAt, seen-memory, At, cycle-done, landing-here, points}
 
 -- the numbers of the asking calls on a session's words

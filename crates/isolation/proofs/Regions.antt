@@ -1,14 +1,14 @@
 -- What lands in a circuit's regions: by number 6 only its own words land in its receive region, and none in its read region.
 -- Assumes nothing.
-use Prim.Native.Nat.{ℕ, _+_, _-_, _*_, _≤_, _<_}
+use Prim.Native.Nat.{ℕ, _+_, _-_, _≤_, _<_}
 use mathlib.Core.Bool.{Bool, true, false, false≢true}
 use mathlib.Core.List.{List}
 use mathlib.Core.Path.{_≡_, refl, sym, _∙_, ap, subst}
 use native.Mathlib.Omega.{arith}
-use native.Mathlib.Decide.{ℕ-discrete, decLt}
-use Rattle.words.specs.Tests.{all, _and_, _or_, _≤?_, _<?_, _=?_, _≠?_}
+use native.Mathlib.Decide.{decLt}
+use Rattle.words.specs.Tests.{all, _≤?_, _=?_, _≠?_}
 use Rattle.words.specs.Words.{pick}
-use Rattle.words.proofs.TestLaws.{and-left, and-right, and-both, or-cases, is≤, is<, is=, yes≤, yes<, no≤, yes=, no=, no≠}
+use Rattle.words.proofs.TestLaws.{and-left, and-right, and-both, or-cases, is≤, is<, is=, yes≤, yes<, no≤, no=, no≠}
 use Rattle.words.proofs.AllLaws.{all-at}
 use Rattle.sheet.specs.declared.circuits.Region.{Region}
 use Rattle.sheet.specs.Sheet.{circuits, nodes, circuitAt}
@@ -18,7 +18,7 @@ use Rattle.sheet.proofs.VerdictLaws.{passed}
 use Rattle.network.specs.View.{View, Landing, nothing, landed}
 use Rattle.network.specs.Cycle.{tick, storedBy}
 use Rattle.session.proofs.NumberLaws.{Lies}
-use Rattle.session.proofs.SheetLaws.{SheetBounds, sheet-bounds, circuit-bounds}
+use Rattle.session.proofs.SheetLaws.{sheet-bounds, circuit-bounds}
 use Rattle.isolation.specs.Reckoning.{Item, none, item, storedBy as storedItem}
 use Rattle.isolation.specs.Demand.{inRegion}
 use Rattle.isolation.proofs.SheetWays.{travelOf, ways-of, travel-is}

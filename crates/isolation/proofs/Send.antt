@@ -6,7 +6,8 @@ use mathlib.Core.List.{List}
 use mathlib.Core.Path.{_≡_, refl, sym, _∙_, ap}
 use native.Mathlib.Decide.{ℕ-discrete, decLt}
 use native.Mathlib.Omega.{arith}
-use Rattle.words.specs.Tests.{any, _and_, _or_, _=?_}
+use Rattle.words.specs.Tests.{_and_, _or_, _=?_}
+use Rattle.words.proofs.AllLaws.{any-none}
 use Rattle.words.specs.Words.{pick}
 use Rattle.words.proofs.TestLaws.{and-left, and-right, is≤, is=, no≤, yes=, no=}
 use Rattle.packet.specs.Header.{headerWord, routeOf, routes}
@@ -62,11 +63,6 @@ pub record UnderWay (z : List ℕ) (W : Ways z) (S : ℕ → View) (T circuit : 
 or-none : {a b : Bool} → a ≡ false → b ≡ false → a or b ≡ false
 unfolding _or_
 or-none {a} {b} p q = ap (λ t. t or b) p ∙ q
-
-any-none : (n : ℕ) (test : ℕ → Bool) → ((k : ℕ) → k < n → test k ≡ false) → any n test ≡ false
-unfolding any
-any-none zero test h = refl
-any-none (suc n) test h = or-none (any-none n test (λ k l. h k (omega arith))) (h n (omega arith))
 
 -- a header gives its route back
 built-route : (kind address route : ℕ) → route < routes → routeOf (headerWord kind address route) ≡ route

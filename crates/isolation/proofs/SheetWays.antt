@@ -1,47 +1,22 @@
 -- A sheet that passes gives its slots their ways: by shortest routes, so that all slots of a circuit have as many routers.
 -- Assumes nothing.
-use Prim.Native.Nat.{ℕ, zero, suc, _+_, _*_, _≤_, _<_}
+use Prim.Native.Nat.{ℕ, suc, _+_, _*_, _<_}
 use mathlib.Core.Bool.{true}
 use mathlib.Core.List.{List}
-use mathlib.Core.Path.{_≡_, refl, _∙_, ap, subst}
-use native.Mathlib.Decide.{decLt}
+use mathlib.Core.Path.{_≡_, refl, _∙_, ap}
 use native.Mathlib.Omega.{arith}
-use Rattle.words.proofs.TestLaws.{yes=}
-use Rattle.words.proofs.AllLaws.{any-at}
-use Rattle.words.proofs.WordLaws.{leastFrom-least, leastFrom-most}
-use Rattle.torus.specs.Torus.{neighbourOf, walks, distanceOf}
-use Rattle.torus.specs.Route.{Use, routerCycles}
+use Rattle.torus.proofs.WalkLaws.{distance-least}
+use Rattle.torus.specs.Torus.{distanceOf}
+use Rattle.torus.specs.Route.{routerCycles}
 use Rattle.sheet.specs.Sheet.{columns, rows}
 use Rattle.sheet.specs.Slots.{slotLength, slotRoute, sourceOf, destinationOf}
 use Rattle.sheet.specs.Rules.{rule11, verdict}
 use Rattle.sheet.specs.Passed.{Routed}
 use Rattle.sheet.proofs.VerdictLaws.{passed, routed}
-use Rattle.isolation.proofs.Way.{wayNode, wayInput, wayOutput, Way, node-first, input-first, node-next, input-next, way-inside, header-output, delay-is}
+use Rattle.isolation.proofs.Way.{wayNode, wayInput, wayOutput, node-first, input-first, node-next, input-next, way-inside, header-output, delay-is}
 use Rattle.isolation.proofs.Apart.{entryHops, shared-output, shared-source}
 use Rattle.isolation.proofs.Slotted.{slotEntry, slot-small, slot-way, slot-ends, slot-far, slots-apart}
 use Rattle.isolation.proofs.Ways.{Slot, Course, Leads, Ways}
-
-module _ (cols rows from route : ℕ) (uses : List Use) (end hops : ℕ) (w : Way cols rows from route uses end hops) where
-  -- the way from router k on is a walk
-  walk-behind : (left k : ℕ) → k + left ≡ hops → walks cols rows left (wayNode cols rows from route k) end ≡ true
-  unfolding walks
-  walk-behind zero k e = yes= (ap (wayNode cols rows from route) (let q : k ≡ hops = omega arith in q) ∙ w .arrives)
-  walk-behind (suc left) k e =
-      any-at 4 (λ side. walks cols rows left (neighbourOf cols rows (wayNode cols rows from route k) side) end)
-      (wayOutput cols rows from route k) (w .side-output k (omega arith))
-      (subst (λ n. walks cols rows left n end ≡ true) (node-next cols rows from route k) (walk-behind left (suc k) (omega arith)))
-
-  -- so it has no fewer hops than the distance
-  distance-least : distanceOf cols rows from end ≤ hops
-  unfolding distanceOf
-  distance-least = go (decLt hops (cols * rows))
-    where
-      walk : walks cols rows hops from end ≡ true
-      walk = subst (λ n. walks cols rows hops n end ≡ true) (node-first cols rows from route) (walk-behind hops 0 (omega arith))
-
-      go : Dec (hops < cols * rows) → distanceOf cols rows from end ≤ hops
-      go (yes l) = leastFrom-least (λ steps. walks cols rows steps from end) (cols * rows) 0 hops (omega arith) (omega arith) walk
-      go (no l) = omega (arith, leastFrom-most (λ steps. walks cols rows steps from end) (cols * rows) 0)
 
 -- the routers of a circuit, one more than its hops, and the cycles from its source's wire to the wire of its destination's memory
 abbrev pub routersOf : List ℕ → ℕ → ℕ
@@ -66,7 +41,7 @@ module _ (z : List ℕ) (g : Routed z) where
   unfolding slotEntry
   slot-hops schedule cycle circuit s =
       let w = slot-way z g schedule (s .schedule-inside) cycle circuit (s .begins) in
-      omega (arith, w .short, distance-least (columns z) (rows z) _ _ _ _ _ (w .along))
+      omega (arith, w .short, distance-least (columns z) (rows z) _ _ _ _ _ (w .leading))
 
   slot-leads : (schedule cycle circuit : ℕ) → Slot z schedule cycle circuit
       → Leads z schedule cycle circuit (routersOf z circuit) (travelOf z circuit) (courseAt z schedule cycle circuit)

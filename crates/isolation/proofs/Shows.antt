@@ -7,34 +7,34 @@ use mathlib.Core.Path.{_≡_, refl, sym, _∙_, ap, ap₂, subst}
 use native.Mathlib.Omega.{arith}
 use native.Mathlib.Decide.{ℕ-discrete, decLt}
 use native.Mathlib.Nat.{mul-le-mul, le-refl, add-zero}
-use lib.ListN.{length, take, drop, getD, set}
+use lib.ListN.{length, take, drop, set}
 use lib.Seq.{getD-set-same, getD-set-other}
 use Rattle.words.specs.Tests.{_and_, _≤?_, _=?_}
 use Rattle.words.specs.Words.{pick, word}
-use Rattle.words.proofs.TestLaws.{is=, yes=, no=, no≤, and-both, and-no, and-no-right}
+use Rattle.words.proofs.TestLaws.{yes=, no=, no≤, and-both, and-no, and-no-right}
 use Rattle.sheet.specs.Sheet.{memoryWords, circuits, nodes, circuitAt}
 use Rattle.sheet.specs.Slots.{sourceOf, destinationOf}
 use Rattle.sheet.specs.Rules.{verdict}
-use Rattle.network.specs.View.{View, Sender, pending}
+use Rattle.network.specs.View.{View, Sender}
 use Rattle.network.specs.Cycle.{tick, faulty, reopens, storedBy}
-use Rattle.network.specs.Registers.{reg, sheetIn, room, clockRow, cyclePlace, numberPlace, schedulePlace, orderMarkPlace, orderSchedulePlace, orderPeriodPlace, leftRow, readRow, writeRow, kindRow, toGoRow}
+use Rattle.network.specs.Registers.{reg, room, clockRow, cyclePlace, numberPlace, schedulePlace, orderMarkPlace, orderSchedulePlace, orderPeriodPlace, leftRow, readRow, writeRow, kindRow, toGoRow}
 use Rattle.network.specs.Machine.{senderIn}
 use Rattle.network.proofs.RowLaws.{sender-same}
 use Rattle.session.specs.Calls.{Lent, Call, load, start, store, fetch, left, periodNumber, landed, order, cycle, isLoad, number, does, after, started, ordered, stored}
-use Rattle.session.proofs.NumberLaws.{StartPassed, start-passed, order-passed, place-passed}
+use Rattle.session.proofs.NumberLaws.{StartPassed, start-passed, place-passed}
 use Rattle.session.proofs.SheetLaws.{SheetBounds, sheet-bounds, circuit-bounds}
 use Rattle.session.proofs.RegisterLaws.{started-other, started-sender, ordered-other, ordered-mark, ordered-schedule, ordered-period}
-use Rattle.isolation.specs.Sessions.{isCycle, LoadsRefused, Session, opened, Event, started as startedEvent, wrote, ordered as orderedEvent, cycled, eventOf, events, run}
-use Rattle.isolation.specs.Reckoning.{Item, none, item, Reckoned, owed, landingIn, cycleOn, startOn, storeOn, orderOn, reckonEvent, reckonAll, storedBy as storedItem, flightCycles}
+use Rattle.isolation.specs.Sessions.{isCycle, LoadsRefused, Event, started as startedEvent, cycled, eventOf, events, run}
+use Rattle.isolation.specs.Reckoning.{Item, none, Reckoned, landingIn, cycleOn, startOn, storeOn, orderOn, reckonEvent, reckonAll, storedBy as storedItem, flightCycles}
 use Rattle.isolation.specs.Demand.{inRegion}
-use Rattle.isolation.proofs.SheetWays.{travelOf, ways-of}
+use Rattle.isolation.proofs.SheetWays.{ways-of}
 use Rattle.isolation.proofs.Trajectory.{Trajectory}
 use Rattle.isolation.proofs.Send.{none-reopens}
 use Rattle.isolation.proofs.Deliver.{leavingNow}
 use Rattle.isolation.proofs.Calm.{never-faulty}
 use Rattle.isolation.proofs.Follow.{Dated, SameClock, dated-cycle, dated-order, dated-same, Sends, Followed, sends-cycle, sends-start, sends-same, sends-store, sends-order, itemOf, leaving-is, leaving-before}
-use Rattle.isolation.proofs.Regions.{in-low, in-high, in-region, itemIn, stored-inside, sentBefore, lands-inside, read-kept}
-use Rattle.isolation.proofs.Stream.{seen, Fine, fine-parts, fine-bounds, fine-does, fine-after, after-done, after-refused, is-cycle, idle, cycleThen, stream, cycle-seen, cycle-goes, fine-cycle}
+use Rattle.isolation.proofs.Regions.{in-high, in-region, itemIn, stored-inside, sentBefore, lands-inside, read-kept}
+use Rattle.isolation.proofs.Stream.{seen, Fine, fine-parts, fine-bounds, fine-after, after-done, after-refused, is-cycle, idle, cycleThen, stream, cycle-seen, cycle-goes, fine-cycle}
 
 -- the memory word at a node's address
 abbrev pub wordAt : List ℕ → List ℕ → ℕ → ℕ → ℕ

@@ -1,6 +1,6 @@
 -- A session as a trajectory: its words directly before each cycle, with idle cycles behind the end of its list.
 -- Assumes nothing.
-use Prim.Native.Nat.{ℕ, zero, suc, _+_, _*_, _≤_, _<_}
+use Prim.Native.Nat.{ℕ, zero, suc, _*_, _≤_, _<_}
 use mathlib.Core.Bool.{Bool, true, false, false≢true}
 use mathlib.Core.List.{List, [], _∷_}
 use mathlib.Core.Path.{_≡_, refl, sym, _∙_, ap, ap₂, subst}
@@ -14,22 +14,21 @@ use Rattle.sheet.specs.Sheet.{memoryWords, circuits, schedules, nodes, circuitA
 use Rattle.sheet.specs.Rules.{verdict}
 use Rattle.network.specs.View.{View, empty, Order, noOrder, pending}
 use Rattle.network.specs.Cycle.{tick, faulty}
-use Rattle.network.specs.Registers.{reg, sheetIn, room, stateWords, clockRow, cyclePlace, numberPlace, schedulePlace, orderMarkPlace, orderSchedulePlace, orderPeriodPlace, linkMark, linkWord, headMark, headWord, choiceRow, latchRow, outMark, outWord, receiveMark, receiveKind, receiveAddress, leftRow, readRow, writeRow, kindRow, toGoRow}
-use Rattle.network.specs.Machine.{at, senderIn, faultyIn}
-use Rattle.network.specs.Seen.{cell, output, marked, orderIn, view, Agree}
+use Rattle.network.specs.Registers.{reg, sheetIn, stateWords, clockRow, cyclePlace, numberPlace, schedulePlace, orderMarkPlace, orderSchedulePlace, orderPeriodPlace, linkMark, linkWord, headMark, headWord, choiceRow, latchRow, outMark, outWord, receiveMark, receiveKind, receiveAddress, leftRow, readRow, writeRow, kindRow, toGoRow}
+use Rattle.network.specs.Machine.{at, senderIn}
+use Rattle.network.specs.Seen.{cell, output, view, Agree}
 use Rattle.network.proofs.RowLaws.{sheet-kept, sender-same}
 use Rattle.network.proofs.StepLaws.{state-length, memory-length}
 use Rattle.network.proofs.ViewLaws.{cycle-agrees}
 use Rattle.network.proofs.FaultLaws.{faulty-is}
 use Rattle.session.specs.Sound.{sound}
-use Rattle.session.specs.Calls.{Lent, Call, load, start, store, fetch, left, periodNumber, landed, order, cycle, isLoad, number, does, after, started, ordered, stored, loaded}
-use Rattle.session.proofs.NumberLaws.{StartPassed, start-passed, OrderPassed, order-passed, LoadPassed, load-passed, CyclePassed, cycle-zero}
+use Rattle.session.specs.Calls.{Lent, Call, load, start, store, fetch, left, periodNumber, landed, order, cycle, isLoad, number, does, after, started, ordered, stored}
+use Rattle.session.proofs.NumberLaws.{start-passed, order-passed, load-passed, cycle-zero}
 use Rattle.session.proofs.SheetLaws.{SheetBounds, sheet-bounds}
 use Rattle.session.proofs.SoundLaws.{TransferParts, SoundParts, sound-parts}
-use Rattle.session.proofs.RegisterLaws.{loaded-sheet, loaded-register, started-other, started-sender, ordered-other, ordered-mark, ordered-schedule, ordered-period}
+use Rattle.session.proofs.RegisterLaws.{loaded-sheet, loaded-register, started-other, ordered-other, ordered-mark, ordered-schedule, ordered-period}
 use Rattle.session.proofs.KeptLaws.{sound-next, sound-kept, state-length-kept, memory-length-kept, sheet-same}
 use Rattle.isolation.proofs.Flight.{ports}
-use Rattle.isolation.proofs.Run.{SameRouters, NoWords}
 use Rattle.isolation.proofs.Trajectory.{OrderInside, Between, between-agree, between-then, Trajectory}
 use Rattle.isolation.specs.Sessions.{isCycle, LoadsRefused, Session, opened}
 

@@ -8,6 +8,7 @@ use native.Mathlib.Omega.{arith}
 use Rattle.words.specs.Tests.{any, _and_, _or_, _≤?_, _=?_}
 use Rattle.words.specs.Words.{pick, countOf}
 use Rattle.words.proofs.TestLaws.{yes≤, no≤, yes=, no=}
+use Rattle.words.proofs.AllLaws.{any-same}
 use Rattle.sheet.specs.Sheet.{circuits, nodes}
 use Rattle.sheet.specs.Slots.{sourceOf}
 use Rattle.network.specs.View.{noOutput}
@@ -18,11 +19,6 @@ use Rattle.network.specs.Seen.{cell, output, marked, view}
 use Rattle.network.proofs.ViewLaws.{asked-same, sent-same}
 
 -- two tests that agree at each number below n
-any-same : (n : ℕ) (p q : ℕ → Bool) → ((k : ℕ) → k < n → p k ≡ q k) → any n p ≡ any n q
-unfolding any
-any-same zero p q h = refl
-any-same (suc n) p q h = ap₂ _or_ (any-same n p q (λ k l. h k (omega arith))) (h n (omega arith))
-
 count-same : (n : ℕ) (p q : ℕ → Bool) → ((k : ℕ) → k < n → p k ≡ q k) → countOf n p ≡ countOf n q
 unfolding countOf
 count-same zero p q h = refl

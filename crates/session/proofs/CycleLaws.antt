@@ -1,6 +1,6 @@
 -- A cycle keeps a sound state sound: its cells, choices and latches, its senders, receive units and clock.
 -- Assumes nothing.
-use Prim.Native.Nat.{ℕ, zero, suc, _+_, _-_, _*_, _/_, _%_, _≤_, _<_}
+use Prim.Native.Nat.{ℕ, zero, suc, _+_, _*_, _/_, _%_, _≤_, _<_}
 use mathlib.Core.Bool.{Bool, true, false, false≢true}
 use mathlib.Core.List.{List, _++_}
 use mathlib.Core.Path.{_≡_, refl, sym, _∙_, ap, subst}
@@ -15,19 +15,17 @@ use Rattle.words.proofs.TestLaws.{and-left, and-right, is≤, yes=, no=}
 use Rattle.words.proofs.WordLaws.{length-tab}
 use Rattle.packet.specs.Header.{headerWord, kindOf, shiftedWord, routeOf, firstCode}
 use Rattle.torus.proofs.NeighbourLaws.{neighbour-inside}
-use Rattle.sheet.specs.declared.circuits.Region.{Region}
-use Rattle.sheet.specs.declared.circuits.Circuit.{Circuit}
 use Rattle.sheet.specs.Sheet.{circuits, schedules, nodes, circuitAt, period}
 use Rattle.sheet.proofs.PassedLaws.{in-grid}
 use Rattle.sheet.specs.Slots.{slotRoute, sourceOf}
-use Rattle.network.specs.View.{Sender, sourceInput, memoryOutput}
-use Rattle.network.specs.Cycle.{outputFor, Move, rests, opens, sends, moveOf, move, stepSender}
+use Rattle.network.specs.View.{sourceInput, memoryOutput}
+use Rattle.network.specs.Cycle.{outputFor, Move, rests, opens, sends}
 use Rattle.network.specs.Registers.{reg, sheetIn, sheetLength, room, movingWords, clockRow, cyclePlace, schedulePlace, orderMarkPlace, orderSchedulePlace, headWord, choiceRow, receiveMark, receiveKind, leftRow, readRow, writeRow, kindRow, toGoRow}
 use Rattle.network.specs.Machine.{at, firstMark, firstWord, senderIn, slotIn, moveIn, markOf, wordOf, sentMark, sentWord, ownMark, sourceMark, sourceWord, neighbourPlace, nextLinkMark, nextLinkWord, nextHeadWord, nextChoice, nextLatch, askedMark, nextOutMark, nextOutWord, memoryMark, memoryWord, nextReceiveMark, nextReceiveKind, nextLandingMark, turns, isDue, nextWord, nextState}
 use Rattle.network.proofs.RowLaws.{router-after, node-after, sender-after, clock-after}
 use Rattle.session.specs.Sound.{kindTravels}
-use Rattle.session.proofs.NumberLaws.{Lies}
 use Rattle.session.proofs.SoundLaws.{travels-small, CellParts, cell-none, TransferParts, RouterParts, NodeParts, SoundParts}
+use Rattle.session.proofs.MoveLaws.{move-opens, transfer-step}
 use Rattle.session.proofs.SheetLaws.{SheetBounds, period-some, circuit-bounds}
 use Rattle.network.proofs.SlotLaws.{route-small}
 
@@ -93,47 +91,6 @@ latch-high : (input latch mark w : ℕ) → latch ≤ 5 → nextLatch input latc
 unfolding nextLatch
 latch-high input latch mark w l = pick-high (mark =? 1) 5 (output-high input w) (pick-high (3 ≤? mark) 5 (omega arith) l)
 
--- what a sender's move shows
-move-opens : (slot : ℕ) (x : Sender) → move slot x ≡ opens → 1 ≤ x .left
-move-opens slot x e = go (1 ≤? slot) (1 ≤? x .left) (1 ≤? x .toGo) refl e
-  where
-    go : (a b c : Bool) → (1 ≤? x .left) ≡ b → moveOf a b c ≡ opens → 1 ≤ x .left
-    go a true c q m = is≤ 1 _ q
-    go true false true q m = absurd (let z : _≡_ {A = ℕ} 0 1 = cc in omega arith)
-    go true false false q m = absurd (let z : _≡_ {A = ℕ} 0 1 = cc in omega arith)
-    go false false true q m = absurd (let z : _≡_ {A = ℕ} 0 1 = cc in omega arith)
-    go false false false q m = absurd (let z : _≡_ {A = ℕ} 0 1 = cc in omega arith)
-
-move-sends : (slot : ℕ) (x : Sender) → move slot x ≡ sends → 1 ≤ x .toGo
-move-sends slot x e = go (1 ≤? slot) (1 ≤? x .left) (1 ≤? x .toGo) refl e
-  where
-    go : (a b c : Bool) → (1 ≤? x .toGo) ≡ c → moveOf a b c ≡ sends → 1 ≤ x .toGo
-    go a b true q m = is≤ 1 _ q
-    go true true false q m = absurd (let z : _≡_ {A = ℕ} 0 1 = cc in omega arith)
-    go true false false q m = absurd (let z : _≡_ {A = ℕ} 0 1 = cc in omega arith)
-    go false b false q m = absurd (let z : _≡_ {A = ℕ} 0 1 = cc in omega arith)
-
--- one word less, from one address further on, lies in the region too
-lies-on : {r : Region} {address count : ℕ} → 1 ≤ count → Lies r address count → Lies r (address + 1) (count - 1)
-lies-on l x = record { low = omega (arith, x .low); high = omega (arith, x .high) }
-
--- a sender's step: a packet that it opens has at most the words left, and a word that it sends is one of them
-transfer-step : (circuit : Circuit) (slot : ℕ) (x : Sender) (d : Move) → move slot x ≡ d
-    → TransferParts circuit x → TransferParts circuit (stepSender d slot x)
-transfer-step circuit slot x rests e f = f
-transfer-step circuit slot x opens e f =
-    record { to-go = omega arith; travels = f .travels; single = f .single; reads = f .reads; writes = f .writes }
-transfer-step circuit slot x sends e f =
-    let going = move-sends slot x e in
-    let live : 1 ≤ x .left = omega (arith, f .to-go) in
-    record {
-      to-go = omega (arith, f .to-go);
-      travels = λ l. f .travels live;
-      single = λ l k. omega (arith, f .single live k);
-      reads = λ l. lies-on live (f .reads live);
-      writes = λ l. lies-on live (f .writes live);
-    }
-
 -- the sheet's stored length stays
 sheet-length-kept : (s m : List ℕ) → sheetLength (nextState s m) ≡ sheetLength s
 unfolding sheetLength nextState
@@ -187,7 +144,7 @@ module _ (s m : List ℕ) (b : SheetBounds (sheetIn s)) (x : SoundParts (sheetIn
           → CellParts (markOf d (reg s toGoRow c))
           (wordOf d (headOf c) (word m (sourceOf sheet c * room s + reg s readRow c)))
       go rests e = cell-none 0
-      go opens e = cell-header _ (header-travels c l (move-opens (slotIn s c) (senderIn s c) e))
+      go opens e = cell-header _ (header-travels c l (move-opens (slotIn s c) (senderIn s c) e .1))
       go sends e = body (reg s toGoRow c =? 1) _
 
   -- so the words that a source sends are below 2^32, where the memory's are
@@ -198,7 +155,7 @@ module _ (s m : List ℕ) (b : SheetBounds (sheetIn s)) (x : SoundParts (sheetIn
       go : (d : Move) → moveIn s c ≡ d → wordOf d (headOf c) (word m (sourceOf sheet c * room s + reg s readRow c)) < 4294967296
       go rests e = omega arith
       go opens e =
-          let live = move-opens (slotIn s c) (senderIn s c) e in
+          let live = move-opens (slotIn s c) (senderIn s c) e .1 in
           let fits = header-fits c l live in
           omega (arith, fits .0, fits .1, travels-small _ (x .transfers c l .travels live))
       go sends e = small _

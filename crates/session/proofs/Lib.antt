@@ -2,6 +2,7 @@ pub mod NumberLaws
 pub mod SoundLaws
 pub mod SheetLaws
 pub mod RegisterLaws
+pub mod MoveLaws
 pub mod CycleLaws
 pub mod KeptLaws
 pub mod PairedLaws

@@ -1,4 +1,4 @@
--- The laws of `all`: how a loop that tests each number goes on, fails and ends, and what holds of each number then.
+-- The laws of `all` and `any`: how a loop that tests each number goes on, fails and ends, and what holds of each number then.
 -- Assumes nothing.
 use Prim.Native.Nat.{ℕ, zero, suc, _+_, _<_, _≤_}
 use mathlib.Core.Bool.{Bool, true, false}
@@ -8,7 +8,7 @@ use native.Mathlib.Numerals.{add-one}
 use native.Mathlib.Decide.{ℕ-discrete}
 use native.Mathlib.Nat.{not-suc-le-zero}
 use Rattle.words.specs.Tests.{all, any, _and_, _or_}
-use Rattle.words.proofs.TestLaws.{and-no, and-both, and-left, and-right, and-no-right, or-yes, or-skip}
+use Rattle.words.proofs.TestLaws.{and-no, and-both, and-left, and-right, and-no-right, or-yes, or-on, or-skip}
 
 module _ (p : ℕ → Bool) where
   pub all-none : true ≡ all 0 p
@@ -58,3 +58,14 @@ any-at (suc n) p k l e = go (ℕ-discrete k n) (any-at n p k)
     go : Dec (k ≡ n) → (k < n → p k ≡ true → any n p ≡ true) → any n p or p n ≡ true
     go (yes q) r = sym (or-skip (any n p) (sym (ap p (sym q) ∙ e)))
     go (no ne) r = sym (or-yes (p n) (r (omega (arith, ne)) e))
+
+-- a test that fails at each number below n holds of none
+pub any-none : (n : ℕ) (p : ℕ → Bool) → ((k : ℕ) → k < n → p k ≡ false) → any n p ≡ false
+unfolding any
+any-none zero p h = refl
+any-none (suc n) p h = sym (or-on (any-none n p (λ k l. h k (omega arith))) (sym (h n (omega arith))))
+
+pub any-same : (n : ℕ) (p q : ℕ → Bool) → ((k : ℕ) → k < n → p k ≡ q k) → any n p ≡ any n q
+unfolding any
+any-same zero p q h = refl
+any-same (suc n) p q h = ap₂ _or_ (any-same n p q (λ k l. h k (omega arith))) (h n (omega arith))
