@@ -8,3 +8,4 @@ pub mod KeptLaws
 pub mod PairedLaws
 pub mod SoundnessLaws
 pub mod ReadingLaws
+pub mod WritingLaws

@@ -1,6 +1,7 @@
 // The session: its calls and their answers.
 mod reading;
 mod soundness;
+mod writing;
 
 pub use reading::fetch;
 pub use reading::memory_number;
@@ -10,6 +11,9 @@ pub use reading::what_landed;
 pub use reading::words_left;
 pub use soundness::is_sound;
 pub use soundness::kind_travels;
+pub use writing::order;
+pub use writing::start;
+pub use writing::store;
 
 // A call that has no value: carried out, or refused with a number of document 01.
 pub enum Answer {

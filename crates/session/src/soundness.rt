@@ -59,7 +59,7 @@ pub fn lies_in(region: Region, address: u32, count: u32) -> bool
 }
 
 // What is tested only beside a mark, or a count, that is not 0.
-fn holds_beside(mark: u32, test: bool) -> bool
+pub fn holds_beside(mark: u32, test: bool) -> bool
     ensures { λ r. ⌜ r ≡ (mark =? 0 or test) ⌝ }
 {
     if mark == 0 {

@@ -1,0 +1,122 @@
+-- The answers and the lent words of the calls that write, from their numbers and from what was written.
+-- Assumes nothing.
+use Prim.Native.Nat.{ℕ, zero, suc, _+_, _-_, _*_, _%_, _<_, _≤_}
+use mathlib.Core.Bool.{Bool, true, false, not}
+use mathlib.Core.List.{List}
+use mathlib.Core.Path.{_≡_, sym, _∙_, ap}
+use native.Mathlib.Omega.{arith}
+use lib.ListN.{set}
+use Rattle.words.specs.Tests.{_and_, _≤?_, _<?_, _=?_}
+use Rattle.words.specs.Words.{pick}
+use Rattle.words.proofs.TestLaws.{and-no, and-both, and-no-right, yes≤, no≤, yes<, no<, yes=, no=}
+use Rattle.sheet.specs.declared.circuits.Circuit.{Circuit}
+use Rattle.sheet.specs.Sheet.{circuitAt}
+use Rattle.network.specs.Registers.{reg, sheetIn, room, clockRow, numberPlace, orderMarkPlace, orderSchedulePlace, orderPeriodPlace, leftRow, readRow, writeRow, kindRow}
+use Rattle.session.specs.declared.Answer.the-variants.{Done, Refused}
+use Rattle.session.specs.Sound.{liesIn}
+use Rattle.session.specs.Calls.{unless, _then_, ahead, put, started, ordered, stored}
+use Rattle.session.specs.Answers.{answerOf}
+use Rattle.session.proofs.NumberLaws.{zero-unless}
+use Rattle.session.proofs.ReadingLaws.{then-first, then-next, unless-no}
+
+-- the answers, from a number
+pub answer-done : {n : ℕ} (number : ℕ) → n ≡ number → n ≡ 0 → Done ≡ answerOf number
+answer-done number e z = ap answerOf (sym z ∙ e)
+
+pub answer-refused : {n : ℕ} (number : ℕ) → n ≡ number → (n ≡ 0 → ⊥) → Refused n ≡ answerOf number
+answer-refused zero e ne = absurd (ne e)
+answer-refused (suc number) e ne = ap Refused e
+
+-- the words afterwards: as they were, or as they were written
+pub words-kept : {n : ℕ} (number : ℕ) (new old : List ℕ) → n ≡ number → (n ≡ 0 → ⊥) → old ≡ pick (number =? 0) new old
+words-kept number new old e ne = sym (ap (λ (t : Bool). pick t new old) (no= (λ z. ne (e ∙ z))))
+
+pub words-written : {n : ℕ} (number : ℕ) {w : List ℕ} (new old : List ℕ) → n ≡ number → n ≡ 0 → w ≡ new → w ≡ pick (number =? 0) new old
+words-written number new old e z f = f ∙ sym (ap (λ (t : Bool). pick t new old) (yes= (sym e ∙ z)))
+
+-- the memory with a word stored
+pub stored-is : (s m : List ℕ) (node address w : ℕ) {after : List ℕ} {r : ℕ}
+    → after ≡ set m (node * r + address) w
+    → r ≡ room s
+    → after ≡ stored s m node address w
+unfolding stored
+stored-is s m node address w e f = e ∙ ap (λ x. set m (node * x + address) w) f
+
+-- the state with an order, register by register
+pub ordered-is : (s : List ℕ) (schedule period : ℕ) {a b after : List ℕ}
+    → a ≡ put s clockRow orderMarkPlace 1
+    → b ≡ put a clockRow orderSchedulePlace schedule
+    → after ≡ put b clockRow orderPeriodPlace period
+    → after ≡ ordered s schedule period
+unfolding ordered
+ordered-is s schedule period e f g =
+    g
+    ∙ ap (λ (x : List ℕ). put x clockRow orderPeriodPlace period)
+    (f ∙ ap (λ (x : List ℕ). put x clockRow orderSchedulePlace schedule) e)
+
+-- the state with a transfer, register by register
+pub started-is : (s : List ℕ) (circuit read write count kind : ℕ) {a b d after : List ℕ}
+    → a ≡ put s leftRow circuit count
+    → b ≡ put a readRow circuit read
+    → d ≡ put b writeRow circuit write
+    → after ≡ put d kindRow circuit kind
+    → after ≡ started s circuit read write count kind
+unfolding started
+started-is s circuit read write count kind e f g h =
+    h
+    ∙ ap (λ (x : List ℕ). put x kindRow circuit kind)
+    (g ∙ ap (λ (x : List ℕ). put x writeRow circuit write) (f ∙ ap (λ (x : List ℕ). put x readRow circuit read) e))
+
+-- a number in the midst of others: its test does not hold, or it does and the rest decides
+pub then-stop : (number : ℕ) {test : Bool} (rest : ℕ) → 0 < number → test ≡ false → number ≡ (unless number test then rest)
+then-stop number rest l e = then-first rest (unless-no number e) (λ z. omega arith)
+
+pub then-on : (number : ℕ) {test : Bool} {rest v : ℕ} → test ≡ true → v ≡ rest → v ≡ (unless number test then rest)
+then-on number e r = then-next (zero-unless number e) r
+
+-- a register that is read as 0, or not
+pub none-there : {r x : ℕ} → r ≡ x → r ≡ 0 → not (1 ≤? x) ≡ true
+none-there e z = ap not (no≤ (omega arith))
+
+pub some-there : {r x : ℕ} → r ≡ x → (r ≡ 0 → ⊥) → not (1 ≤? x) ≡ false
+some-there e ne = ap not (yes≤ (omega (arith, ne)))
+
+-- how far ahead a period is
+wraps-back : (r b a : ℕ) → r < 4294967296 → b < 4294967296 → (r + b) % 4294967296 ≡ a → r ≡ (a + 4294967296 - b) % 4294967296
+wraps-back r b a l m e = omega arith
+
+pub ahead-is : (s : List ℕ) (period : ℕ) {r b : ℕ}
+    → r < 4294967296
+    → b < 4294967296
+    → (r + b) % 4294967296 ≡ period
+    → b ≡ reg s clockRow numberPlace
+    → r ≡ ahead s period
+unfolding ahead
+ahead-is s period {r} {b} l m e f = wraps-back r b period l m e ∙ ap (λ x. (period + 4294967296 - x) % 4294967296) f
+
+-- that it is far enough, and not behind
+pub too-near : {r x : ℕ} → r ≡ x → r < 3 → (3 ≤? x and x <? 2147483648) ≡ false
+too-near e l = sym (and-no _ (no≤ (omega arith)))
+
+pub in-reach : {r x : ℕ} → r ≡ x → 3 ≤ r → r < 2147483648 → (3 ≤? x and x <? 2147483648) ≡ true
+in-reach e l m = and-both (yes≤ (omega arith)) (yes< (omega arith))
+
+pub is-behind : {r x : ℕ} → r ≡ x → 2147483648 ≤ r → (3 ≤? x and x <? 2147483648) ≡ false
+is-behind e l = and-no-right _ _ (no< (omega arith))
+
+-- words of a circuit's regions
+pub reads-in : (s : List ℕ) (circuit address count : ℕ) {z : List ℕ} {k : Circuit} {b : Bool}
+    → k ≡ circuitAt z circuit
+    → z ≡ sheetIn s
+    → b ≡ liesIn (k .read) address count
+    → b ≡ liesIn (circuitAt (sheetIn s) circuit .read) address count
+reads-in s circuit address count e f g =
+    g ∙ ap (λ (k : Circuit). liesIn (k .read) address count) (e ∙ ap (λ (x : List ℕ). circuitAt x circuit) f)
+
+pub writes-in : (s : List ℕ) (circuit address count : ℕ) {z : List ℕ} {k : Circuit} {b : Bool}
+    → k ≡ circuitAt z circuit
+    → z ≡ sheetIn s
+    → b ≡ liesIn (k .receive) address count
+    → b ≡ liesIn (circuitAt (sheetIn s) circuit .receive) address count
+writes-in s circuit address count e f g =
+    g ∙ ap (λ (k : Circuit). liesIn (k .receive) address count) (e ∙ ap (λ (x : List ℕ). circuitAt x circuit) f)

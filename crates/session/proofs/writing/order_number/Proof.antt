@@ -1,0 +1,71 @@
+-- `session::writing::order_number` meets its contract: the state's number first, then 15, 18 and 19 one by one.
+-- Assumes nothing.
+use native.Mathlib.Omega.{arith}
+use mathlib.Core.Path.{sym, _∙_, ap}
+use Rattle.words.proofs.TestLaws.{yes<, no<}
+use Rattle.sheet.specs.Sheet.{schedules}
+use Rattle.session.specs.Calls.{orderNumber, isPending}
+use Rattle.session.proofs.ReadingLaws.{then-first, then-next, unless-no, unless-yes}
+use Rattle.session.proofs.WritingLaws.{then-stop, then-on, none-there, some-there, ahead-is, too-near, in-reach, is-behind}
+use borrow.Author.Needs.{needs}
+use Rattle.session.proofs.writing.order_number.Statement.{statement}
+use Rattle.session.proofs.writing.order_number.Tie as tie
+
+state-number-requires : tie.Need-state-number-requires
+state-number-requires c κs = search needs
+
+returns : tie.Need-returns
+unfolding orderNumber isPending
+returns c = then-first _ (c .before .state-number .ensures) (c .if1 .taken)
+
+sheet-of-requires : tie.Need-sheet-of-requires
+sheet-of-requires c κs = search needs
+
+get-requires : tie.Need-get-requires
+get-requires c κs = search needs
+
+returns-2 : tie.Need-returns-2
+unfolding orderNumber isPending
+returns-2 c = then-next (sym (c .before .before .before .before .state-number .ensures) ∙ c .before .before .before .if1 .left) (then-stop 15 _ (omega arith) (no< (omega (arith, c .before .get .ensures ∙ ap schedules (c .before .before .sheet-of .ensures)))))
+
+reg-requires : tie.Need-reg-requires
+reg-requires c κs = search needs
+
+returns-3 : tie.Need-returns-3
+unfolding orderNumber isPending
+returns-3 c = then-next (sym (c .before .before .before .before .before .before .state-number .ensures) ∙ c .before .before .before .before .before .if1 .left) (then-on 15 (yes< (omega (arith, c .before .before .before .get .ensures ∙ ap schedules (c .before .before .before .before .sheet-of .ensures)))) (then-stop 18 _ (omega arith) (some-there (c .before .reg .ensures) (c .if3 .taken))))
+
+reg-requires-2 : tie.Need-reg-requires-2
+reg-requires-2 c κs = search needs
+
+wrapping-sub-u32-requires : tie.Need-wrapping-sub-u32-requires
+wrapping-sub-u32-requires c κs = search needs
+
+returns-4 : tie.Need-returns-4
+unfolding orderNumber isPending
+returns-4 c = then-next (sym (c .before .before .before .before .before .before .before .before .before .state-number .ensures) ∙ c .before .before .before .before .before .before .before .before .if1 .left) (then-on 15 (yes< (omega (arith, c .before .before .before .before .before .before .get .ensures ∙ ap schedules (c .before .before .before .before .before .before .before .sheet-of .ensures)))) (then-on 18 (none-there (c .before .before .before .before .reg .ensures) (omega arith)) (unless-no 19 (too-near (ahead-is _ _ (omega arith) (omega arith) (c .before .wrapping-sub-u32 .ensures) (c .before .before .reg2 .ensures)) (omega arith)))))
+
+returns-5 : tie.Need-returns-5
+unfolding orderNumber isPending
+returns-5 c = then-next (sym (c .before .before .before .before .before .before .before .before .before .before .state-number .ensures) ∙ c .before .before .before .before .before .before .before .before .before .if1 .left) (then-on 15 (yes< (omega (arith, c .before .before .before .before .before .before .before .get .ensures ∙ ap schedules (c .before .before .before .before .before .before .before .before .sheet-of .ensures)))) (then-on 18 (none-there (c .before .before .before .before .before .reg .ensures) (omega arith)) (unless-yes 19 (in-reach (ahead-is _ _ (omega arith) (omega arith) (c .before .before .wrapping-sub-u32 .ensures) (c .before .before .before .reg2 .ensures)) (omega arith) (omega arith)))))
+
+returns-6 : tie.Need-returns-6
+unfolding orderNumber isPending
+returns-6 c = then-next (sym (c .before .before .before .before .before .before .before .before .before .before .state-number .ensures) ∙ c .before .before .before .before .before .before .before .before .before .if1 .left) (then-on 15 (yes< (omega (arith, c .before .before .before .before .before .before .before .get .ensures ∙ ap schedules (c .before .before .before .before .before .before .before .before .sheet-of .ensures)))) (then-on 18 (none-there (c .before .before .before .before .before .reg .ensures) (omega arith)) (unless-no 19 (is-behind (ahead-is _ _ (omega arith) (omega arith) (c .before .before .wrapping-sub-u32 .ensures) (c .before .before .before .reg2 .ensures)) (omega arith)))))
+
+pub order-number-spec : {M : Type 1} → statement M
+order-number-spec =
+    tie.close
+    (tie.spec
+    state-number-requires
+    returns
+    sheet-of-requires
+    get-requires
+    returns-2
+    reg-requires
+    returns-3
+    reg-requires-2
+    wrapping-sub-u32-requires
+    returns-4
+    returns-5
+    returns-6)

@@ -1,0 +1,35 @@
+-- `session::writing::put_start` meets its contract: the transfer's four registers are set in turn.
+-- Assumes nothing.
+use Rattle.session.proofs.WritingLaws.{started-is}
+use borrow.Author.Needs.{needs}
+use Rattle.session.proofs.writing.put_start.Statement.{statement}
+use Rattle.session.proofs.writing.put_start.Tie as tie
+
+put-reg-requires : tie.Need-put-reg-requires
+put-reg-requires c κs = search needs
+
+put-reg-requires-2 : tie.Need-put-reg-requires-2
+put-reg-requires-2 c κs = search needs
+
+put-reg-requires-3 : tie.Need-put-reg-requires-3
+put-reg-requires-3 c κs = search needs
+
+put-reg-requires-4 : tie.Need-put-reg-requires-4
+put-reg-requires-4 c κs = search needs
+
+same-length : tie.Need-same-length
+same-length c = search needs
+
+returns : tie.Need-returns
+returns c = started-is _ _ _ _ _ _ (c .before .before .before .before .before .before .before .before .before .before .before .before .before .before .put-reg .ensures) (c .before .before .before .before .before .before .before .before .before .before .put-reg2 .ensures) (c .before .before .before .before .before .before .put-reg3 .ensures) (c .before .before .put-reg4 .ensures)
+
+pub put-start-spec : {M : Type 1} → statement M
+put-start-spec =
+    tie.close
+    (tie.spec
+    put-reg-requires
+    put-reg-requires-2
+    put-reg-requires-3
+    put-reg-requires-4
+    same-length
+    returns)
