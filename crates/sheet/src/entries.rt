@@ -19,7 +19,7 @@ pub struct Entry {
 }
 
 impl Entry {
-    // Entry i of a schedule's entries, which lie in memory: four words each.
+    // Entry i of a schedule's entries, which lie in memory: four words each. Whoever stays below their count meets the requires.
     pub fn at(entries: &[u32], i: usize) -> Entry
         requires { ⌜ i < entryCount (now entries) ⌝ }
         ensures { λ r. ⌜ r ≡ entryAt (now (entries .entry)) i ⌝ }
