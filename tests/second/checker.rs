@@ -4,37 +4,37 @@
 
 use std::collections::{HashSet, VecDeque};
 
-struct Circuit {
-    source: u64,
-    destination: u64,
-    read_offset: u64,
-    read_length: u64,
-    receive_offset: u64,
-    receive_length: u64,
+pub struct Circuit {
+    pub source: u64,
+    pub destination: u64,
+    pub read_offset: u64,
+    pub read_length: u64,
+    pub receive_offset: u64,
+    pub receive_length: u64,
 }
 
-struct Entry {
-    offset: u64,
-    length: u64,
-    circuit: u64,
-    route: u64,
+pub struct Entry {
+    pub offset: u64,
+    pub length: u64,
+    pub circuit: u64,
+    pub route: u64,
 }
 
-struct Schedule {
-    period: u64,
-    entries: Vec<Entry>,
+pub struct Schedule {
+    pub period: u64,
+    pub entries: Vec<Entry>,
 }
 
-struct Sheet {
-    columns: u64,
-    rows: u64,
-    memory_words: u64,
-    circuits: Vec<Circuit>,
-    schedules: Vec<Schedule>,
+pub struct Sheet {
+    pub columns: u64,
+    pub rows: u64,
+    pub memory_words: u64,
+    pub circuits: Vec<Circuit>,
+    pub schedules: Vec<Schedule>,
 }
 
 #[derive(Clone, Copy, PartialEq, Eq)]
-enum Side {
+pub enum Side {
     North,
     East,
     South,
@@ -216,7 +216,7 @@ fn rule11(sheet: &Sheet) -> bool {
 
 /// The sheet read from the front; nothing where number 3 applies. The count of entries
 /// is tested before it is used (document 01, number 3).
-fn read(words: &[u32]) -> Option<Sheet> {
+pub fn read(words: &[u32]) -> Option<Sheet> {
     let mut rest = words.iter().map(|&word| u64::from(word));
     let columns = rest.next()?;
     let rows = rest.next()?;
@@ -286,7 +286,7 @@ fn opposite(side: Side) -> Side {
     }
 }
 
-fn neighbour(sheet: &Sheet, node: u64, side: Side) -> u64 {
+pub fn neighbour(sheet: &Sheet, node: u64, side: Side) -> u64 {
     let column = node % sheet.columns;
     let row = node / sheet.columns;
     let (new_column, new_row) = match side {
@@ -299,7 +299,7 @@ fn neighbour(sheet: &Sheet, node: u64, side: Side) -> u64 {
 }
 
 /// Fewest steps between two nodes, by a search in widening circles.
-fn distance(sheet: &Sheet, from: u64, to: u64) -> u64 {
+pub fn distance(sheet: &Sheet, from: u64, to: u64) -> u64 {
     let mut steps: Vec<Option<u64>> = vec![None; (sheet.columns * sheet.rows) as usize];
     steps[from as usize] = Some(0);
     let mut waiting = VecDeque::from([from]);

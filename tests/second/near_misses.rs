@@ -11,7 +11,7 @@ use super::sheets::{
     WEST,
 };
 
-const GRIDS: [(u32, u32); 9] =
+pub const GRIDS: [(u32, u32); 9] =
     [(2, 2), (3, 2), (4, 2), (2, 3), (3, 3), (4, 3), (2, 4), (3, 4), (4, 4)];
 
 const TWO_TO_16: u32 = 1 << 16;
@@ -1048,7 +1048,7 @@ fn add_clash(plan: &mut Plan, schedule: usize) -> bool {
 
 /// Puts a fault of the given number (2 to 11) into a sheet, at the stated schedule where
 /// it is one of a schedule.
-fn add_fault(random: &mut Random, plan: &mut Plan, number: u32, schedule: usize) -> bool {
+pub fn add_fault(random: &mut Random, plan: &mut Plan, number: u32, schedule: usize) -> bool {
     let last_circuit = plan.circuits.len() - 1;
     let entries = plan.schedules[schedule].entries.len();
     match number {

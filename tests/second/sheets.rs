@@ -417,7 +417,7 @@ pub fn last_offset(period: u32, length: u32, hops: u32) -> Option<u32> {
     (period + 2).checked_sub(length - 1 + 3 * hops)
 }
 
-fn some_schedule(random: &mut Random, plan: &Plan, period: u32, aim: u32, length: Option<u32>) -> Schedule {
+pub fn some_schedule(random: &mut Random, plan: &Plan, period: u32, aim: u32, length: Option<u32>) -> Schedule {
     let mut schedule = Schedule { period, entries: Vec::new() };
     if plan.circuits.is_empty() {
         return schedule;

@@ -1,6 +1,18 @@
-// Exported calls for tests, benchmarks and hosts in C or Rust: a slice is a pointer and then a length.
+// Exported calls for tests, benchmarks and hosts in C or Rust: a slice is a pointer and then a length. They have the session's answers as
+// numbers (specs/Packed.antt) and its contracts.
 ghost use mathlib.Core.Path.{_≡_};
+ghost use Prim.Native.Nat.{_*_, _<_};
+ghost use Rattle.words.specs.Tests.{_=?_};
+ghost use Rattle.words.specs.Words.{pick};
 ghost use Rattle.sheet.specs.Rules.{verdict};
+ghost use Rattle.network.specs.Registers.{stateWords};
+ghost use Rattle.network.specs.Machine.{nextState, nextMemory};
+ghost use Rattle.session.specs.Calls.{loadNumber, loaded, startNumber, started, placeNumber, stored, fetched, leftNumber, wordsLeft, stateNumber, periodNumberIn, landedNumber, lastLanding, orderNumber, ordered, cycleNumber};
+ghost use Rattle.session.specs.Answers.{answerOf, foundOf, landedOf};
+ghost use Rattle.exports.specs.Packed.{packed, chosen, fieldOf, numberOf, packedFound, packedLanded};
+use session::Answer;
+use session::Found;
+use session::Landed;
 
 // The verdict upon a sheet: 0 where it passes, else the number of its refusal.
 #[no_mangle]
@@ -8,4 +20,151 @@ pub extern "C" fn argo_verdict(sheet: &[u32]) -> u32
     ensures { λ r. ⌜ r ≡ verdict (now (sheet .entry)) ⌝ }
 {
     checker::verdict_number(sheet)
+}
+
+// The published length of the state.
+#[no_mangle]
+pub extern "C" fn argo_state_words() -> u32
+    ensures { λ r. ⌜ r ≡ stateWords ⌝ }
+{
+    network::STATE_WORDS as u32
+}
+
+// The number of an answer without a value.
+fn number_of(answer: Answer) -> u32
+    ensures { λ r. ⌜ r ≡ numberOf answer ⌝ }
+{
+    match answer {
+        Answer::Done => 0,
+        Answer::Refused(n) => n,
+    }
+}
+
+// A word, or a number above it.
+fn packed_found(found: Found) -> u64
+    ensures { λ r. ⌜ r ≡ packedFound found ⌝ }
+{
+    match found {
+        Found::Word(w) => w as u64,
+        Found::Refused(n) => n as u64 * 4294967296,
+    }
+}
+
+// A field of a landing that is there.
+fn chosen_field(field: u32, kind: u32, address: u32, word: u32) -> u32
+    ensures { λ r. ⌜ r ≡ chosen field kind address word ⌝ }
+{
+    match field {
+        0 => 1,
+        1 => kind,
+        2 => address,
+        3 => word,
+        _ => 0,
+    }
+}
+
+// A field of what landed, or a number above it.
+fn packed_landed(field: u32, what: Landed) -> u64
+    ensures { λ r. ⌜ r ≡ packedLanded field what ⌝ }
+{
+    match what {
+        Landed::Nothing => 0,
+        Landed::Word {
+            kind,
+            address,
+            word,
+        } => chosen_field(field, kind, address, word) as u64,
+        Landed::Refused(n) => n as u64 * 4294967296,
+    }
+}
+
+// Loads a sheet into a state, for a memory.
+#[no_mangle]
+pub extern "C" fn argo_load(sheet: &[u32], state: &mut [u32], memory: &[u32]) -> u32
+    ensures answer { λ r. ⌜ r ≡ loadNumber (now (sheet .entry)) (now (state .entry)) (now (memory .entry)) ⌝ }
+    ensures state { λ _. ⌜ now (state .exit) ≡ pick (loadNumber (now (sheet .entry)) (now (state .entry)) (now (memory .entry)) =? 0) (loaded (now (sheet .entry)) (now (state .entry))) (now (state .entry)) ⌝ }
+{
+    number_of(session::load(sheet, state, memory))
+}
+
+// Starts a transfer on a circuit.
+#[no_mangle]
+pub extern "C" fn argo_start(
+    state: &mut [u32],
+    circuit: u32,
+    read: u32,
+    write: u32,
+    count: u32,
+    kind: u32,
+) -> u32
+    ensures answer { λ r. ⌜ r ≡ startNumber (now (state .entry)) circuit read write count kind ⌝ }
+    ensures state { λ _. ⌜ now (state .exit) ≡ pick (startNumber (now (state .entry)) circuit read write count kind =? 0) (started (now (state .entry)) circuit read write count kind) (now (state .entry)) ⌝ }
+{
+    number_of(session::start(state, circuit, read, write, count, kind))
+}
+
+// Stores a word at a node's address.
+#[no_mangle]
+pub extern "C" fn argo_store(
+    state: &[u32],
+    memory: &mut [u32],
+    node: u32,
+    address: u32,
+    word: u32,
+) -> u32
+    ensures answer { λ r. ⌜ r ≡ placeNumber (now (state .entry)) (now (memory .entry)) node address ⌝ }
+    ensures memory { λ _. ⌜ now (memory .exit) ≡ pick (placeNumber (now (state .entry)) (now (memory .entry)) node address =? 0) (stored (now (state .entry)) (now (memory .entry)) node address word) (now (memory .entry)) ⌝ }
+{
+    number_of(session::store(state, memory, node, address, word))
+}
+
+// The word at a node's address.
+#[no_mangle]
+pub extern "C" fn argo_fetch(state: &[u32], memory: &[u32], node: u32, address: u32) -> u64
+    ensures { λ r. ⌜ r ≡ packed (placeNumber (now (state .entry)) (now (memory .entry)) node address) (fetched (now (state .entry)) (now (memory .entry)) node address) ⌝ }
+{
+    packed_found(session::fetch(state, memory, node, address))
+}
+
+// How many words of a circuit's transfer are left.
+#[no_mangle]
+pub extern "C" fn argo_words_left(state: &[u32], circuit: u32) -> u64
+    ensures { λ r. ⌜ r ≡ packed (leftNumber (now (state .entry)) circuit) (wordsLeft (now (state .entry)) circuit) ⌝ }
+{
+    packed_found(session::words_left(state, circuit))
+}
+
+// The number of the present period.
+#[no_mangle]
+pub extern "C" fn argo_period_number(state: &[u32]) -> u64
+    ensures { λ r. ⌜ r ≡ packed (stateNumber (now (state .entry))) (periodNumberIn (now (state .entry))) ⌝ }
+{
+    packed_found(session::period_number(state))
+}
+
+// A field of what landed at a node in the last cycle.
+#[no_mangle]
+pub extern "C" fn argo_landed(state: &[u32], node: u32, field: u32) -> u64
+    ensures { λ r. ⌜ r ≡ packed (landedNumber (now (state .entry)) node) (fieldOf field (lastLanding (now (state .entry)) node)) ⌝ }
+{
+    packed_landed(field, session::what_landed(state, node))
+}
+
+// Orders a schedule for a period.
+#[no_mangle]
+pub extern "C" fn argo_order(state: &mut [u32], schedule: u32, period: u32) -> u32
+    ensures answer { λ r. ⌜ r ≡ orderNumber (now (state .entry)) schedule period ⌝ }
+    ensures state { λ _. ⌜ now (state .exit) ≡ pick (orderNumber (now (state .entry)) schedule period =? 0) (ordered (now (state .entry)) schedule period) (now (state .entry)) ⌝ }
+{
+    number_of(session::order(state, schedule, period))
+}
+
+// One clock cycle.
+#[no_mangle]
+pub extern "C" fn argo_cycle(state: &mut [u32], memory: &mut [u32]) -> u32
+    ensures answer { λ r. ⌜ r ≡ cycleNumber (now (state .entry)) (now (memory .entry)) ⌝ }
+    ensures state { λ _. ⌜ now (state .exit) ≡ pick (cycleNumber (now (state .entry)) (now (memory .entry)) =? 0) (nextState (now (state .entry)) (now (memory .entry))) (now (state .entry)) ⌝ }
+    ensures memory { λ _. ⌜ now (memory .exit) ≡ pick (cycleNumber (now (state .entry)) (now (memory .entry)) =? 0) (nextMemory (now (state .entry)) (now (memory .entry))) (now (memory .entry)) ⌝ }
+{
+    number_of(session::cycle(state, memory))
 }

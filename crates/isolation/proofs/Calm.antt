@@ -9,7 +9,7 @@ use Rattle.sheet.specs.Slots.{destinationOf}
 use Rattle.sheet.specs.Rules.{verdict}
 use Rattle.network.specs.View.{View}
 use Rattle.network.specs.Cycle.{tick, faulty}
-use Rattle.session.proofs.SheetLaws.{sheet-bounds}
+use Rattle.soundness.proofs.SheetLaws.{sheet-bounds}
 use Rattle.isolation.proofs.SheetWays.{travelOf, ways-of, travel-is}
 use Rattle.isolation.proofs.Trajectory.{Trajectory}
 use Rattle.isolation.proofs.Deliver.{isLanded, leavingNow, delivered, Came, came-from, no-fault}

@@ -12,9 +12,8 @@ use Rattle.sheet.specs.Sheet.{memoryWords, circuits, nodes, circuitAt}
 use Rattle.sheet.specs.Slots.{slotRoute, destinationOf}
 use Rattle.network.specs.View.{Cell, empty, header, payload, memoryOutput, Sender, Receiver, Landing, nothing, landed, View}
 use Rattle.network.specs.Cycle.{Move, rests, opens, sends, slotNow, moveNow, headNow, readNow, landingOf, stepReceiver, tick, isPayload, strays, faulty}
-use Rattle.session.proofs.NumberLaws.{Lies}
-use Rattle.session.proofs.SoundLaws.{travels-small}
-use Rattle.session.proofs.SheetLaws.{SheetBounds, circuit-bounds}
+use Rattle.soundness.proofs.SoundLaws.{Lies, travels-small}
+use Rattle.soundness.proofs.SheetLaws.{SheetBounds, circuit-bounds}
 use Rattle.isolation.proofs.CellLaws.{payload-full}
 use Rattle.isolation.proofs.Flight.{Flights, wordAt, outStage, InStage}
 use Rattle.isolation.proofs.Run.{lands, lands-only}

@@ -10,7 +10,7 @@ use Rattle.words.specs.Tests.{all, any, between, _and_, _or_, _≤?_, _<?_, _=?
 use Rattle.torus.specs.Torus.{neighbourOf, walks, distanceOf}
 use Rattle.torus.specs.Route.{exitOf, follow, routeFrom}
 use Rattle.network.specs.Registers.{reg, sheetLength, sheetIn, stateWords, numberPlace}
-use Rattle.session.specs.Sound.{sheetSound, clockSound, orderSound, kindTravels, liesIn, transferSound, cellSound, routerSound, nodeSound, sound}
+use Rattle.soundness.specs.Sound.{sheetSound, clockSound, orderSound, kindTravels, liesIn, transferSound, cellSound, routerSound, nodeSound, sound}
 use Rattle.session.specs.Calls.{unless, _then_, stateNumber, isPending, ahead, orderNumber, loaded}
 use Rattle.sheet.specs.Sheet.{schedulePlace, circuitAt, entriesOf, entryAt}
 use Rattle.sheet.specs.Wires.{sameWire, same, during, occupied, member, meet}

@@ -18,7 +18,7 @@ use Rattle.session.specs.Answers.{foundOf, landedOf}
 use Rattle.session.specs.Calls.{Lent, Call, cycle, number, does, after, stateNumber, memoryNumber, placeNumber, leftNumber, landedNumber, fetched, wordsLeft, periodNumberIn, lastLanding}
 use Rattle.session.proofs.NumberLaws.{zero-then, zero-unless}
 use Rattle.sheet.specs.Passed.{CircuitSmall}
-use Rattle.session.proofs.SheetLaws.{SheetBounds, sheet-bounds, circuit-bounds}
+use Rattle.soundness.proofs.SheetLaws.{SheetBounds, sheet-bounds, circuit-bounds}
 use Rattle.session.proofs.RegisterLaws.{loaded-register}
 use Rattle.isolation.specs.Sessions.{run, Session, opened, standing}
 use Rattle.isolation.specs.Reckoning.{leavesIn, atLoad}

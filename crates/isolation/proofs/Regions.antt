@@ -17,8 +17,8 @@ use Rattle.sheet.specs.Rules.{apart, receiveApart, rule6, verdict}
 use Rattle.sheet.proofs.VerdictLaws.{passed}
 use Rattle.network.specs.View.{View, Landing, nothing, landed}
 use Rattle.network.specs.Cycle.{tick, storedBy}
-use Rattle.session.proofs.NumberLaws.{Lies}
-use Rattle.session.proofs.SheetLaws.{sheet-bounds, circuit-bounds}
+use Rattle.soundness.proofs.SoundLaws.{Lies}
+use Rattle.soundness.proofs.SheetLaws.{sheet-bounds, circuit-bounds}
 use Rattle.isolation.specs.Reckoning.{Item, none, item, storedBy as storedItem}
 use Rattle.isolation.specs.Demand.{inRegion}
 use Rattle.isolation.proofs.SheetWays.{travelOf, ways-of, travel-is}

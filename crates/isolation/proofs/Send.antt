@@ -15,7 +15,7 @@ use Rattle.sheet.specs.Sheet.{circuits, nodes, period}
 use Rattle.sheet.specs.Slots.{slotLength, sourceOf}
 use Rattle.network.specs.View.{Cell, empty, header, payload, View}
 use Rattle.network.specs.Cycle.{gather, Move, rests, opens, sends, sentCell, slotNow, moveNow, headNow, readNow, sentNow, sourceWire, isFull, crowds, reopens, strays, faulty}
-use Rattle.session.proofs.SheetLaws.{SheetBounds}
+use Rattle.soundness.proofs.SheetLaws.{SheetBounds}
 use Rattle.isolation.proofs.CellLaws.{not-full, pick-passes, pick-full, gather-one, gather-full, count-one}
 use Rattle.isolation.proofs.Flight.{Flights, wordAt, Paths, ports, Holds, Leaves, Emits, NoClash}
 use Rattle.isolation.proofs.Run.{Runs, run-holds}

@@ -22,7 +22,7 @@ use Rattle.network.specs.Machine.{senderIn}
 use Rattle.network.proofs.RowLaws.{sender-same}
 use Rattle.session.specs.Calls.{Lent, Call, load, start, store, fetch, left, periodNumber, landed, order, cycle, isLoad, number, does, after, started, ordered, stored}
 use Rattle.session.proofs.NumberLaws.{StartPassed, start-passed, place-passed}
-use Rattle.session.proofs.SheetLaws.{SheetBounds, sheet-bounds, circuit-bounds}
+use Rattle.soundness.proofs.SheetLaws.{SheetBounds, sheet-bounds, circuit-bounds}
 use Rattle.session.proofs.RegisterLaws.{started-other, started-sender, ordered-other, ordered-mark, ordered-schedule, ordered-period}
 use Rattle.isolation.specs.Sessions.{isCycle, LoadsRefused, Event, started as startedEvent, cycled, eventOf, events, run}
 use Rattle.isolation.specs.Reckoning.{Item, none, Reckoned, landingIn, cycleOn, startOn, storeOn, orderOn, reckonEvent, reckonAll, storedBy as storedItem, flightCycles}

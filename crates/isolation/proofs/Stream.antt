@@ -21,11 +21,11 @@ use Rattle.network.proofs.RowLaws.{sheet-kept, sender-same}
 use Rattle.network.proofs.StepLaws.{state-length, memory-length}
 use Rattle.network.proofs.ViewLaws.{cycle-agrees}
 use Rattle.network.proofs.FaultLaws.{faulty-is}
-use Rattle.session.specs.Sound.{sound}
+use Rattle.soundness.specs.Sound.{sound}
 use Rattle.session.specs.Calls.{Lent, Call, load, start, store, fetch, left, periodNumber, landed, order, cycle, isLoad, number, does, after, started, ordered, stored}
 use Rattle.session.proofs.NumberLaws.{start-passed, order-passed, load-passed, cycle-zero}
-use Rattle.session.proofs.SheetLaws.{SheetBounds, sheet-bounds}
-use Rattle.session.proofs.SoundLaws.{TransferParts, SoundParts, sound-parts}
+use Rattle.soundness.proofs.SheetLaws.{SheetBounds, sheet-bounds}
+use Rattle.soundness.proofs.SoundLaws.{TransferParts, SoundParts, sound-parts}
 use Rattle.session.proofs.RegisterLaws.{loaded-sheet, loaded-register, started-other, ordered-other, ordered-mark, ordered-schedule, ordered-period}
 use Rattle.session.proofs.KeptLaws.{sound-next, sound-kept, state-length-kept, memory-length-kept, sheet-same}
 use Rattle.isolation.proofs.Flight.{ports}

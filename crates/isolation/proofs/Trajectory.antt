@@ -14,8 +14,8 @@ use Rattle.network.specs.View.{Order, noOrder, pending, View}
 use Rattle.network.specs.Cycle.{Move, stepSender, slotNow, moveNow, nextNumber, scheduleAfter, orderAfter, periodEnds, tick}
 use Rattle.network.specs.Seen.{Agree}
 pub use Rattle.session.proofs.MoveLaws.{move-opens, move-sends, move-rests, transfer-step}
-use Rattle.session.proofs.SoundLaws.{TransferParts}
-use Rattle.session.proofs.SheetLaws.{SheetBounds, period-some}
+use Rattle.soundness.proofs.SoundLaws.{TransferParts}
+use Rattle.soundness.proofs.SheetLaws.{SheetBounds, period-some}
 use Rattle.isolation.proofs.Run.{SameRouters, NoWords}
 
 -- a pending order's schedule is one of the sheet's

@@ -5,7 +5,7 @@ use mathlib.Core.Path.{_≡_, refl, sym, _∙_, ap, ap₂}
 use mathlib.Core.Bool.{Bool, not}
 use mathlib.Core.List.{List}
 use native.Mathlib.Omega.{arith}
-use Rattle.words.specs.Tests.{any, _and_, _or_, _≤?_, _=?_}
+use Rattle.words.specs.Tests.{_and_, _or_, _≤?_, _=?_}
 use Rattle.words.specs.Words.{pick, countOf}
 use Rattle.words.proofs.TestLaws.{yes≤, no≤, yes=, no=}
 use Rattle.words.proofs.AllLaws.{any-same}

@@ -5,6 +5,6 @@ pub mod StepLaws
 pub mod StageLaws
 pub mod SlotLaws
 pub mod FirstLaws
-pub mod SourceLaws
-pub mod SentLaws
 pub mod PartLaws
+pub mod PutLaws
+pub mod FillLaws

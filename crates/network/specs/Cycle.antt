@@ -1,8 +1,8 @@
 -- One clock cycle of the machine on a sheet z, and its faults (document 01, "The router", "The session" and number 20).
-use Prim.Native.Nat.{ℕ, zero, suc, _+_, _-_, _*_, _/_, _%_, min}
+use Prim.Native.Nat.{ℕ, zero, suc, _+_, _-_, _%_, min}
 use mathlib.Core.Bool.{Bool, true, false, not}
 use mathlib.Core.List.{List}
-use Rattle.words.specs.Tests.{any, _and_, _or_, _≤?_, _<?_, _=?_}
+use Rattle.words.specs.Tests.{any, _and_, _or_, _≤?_, _=?_}
 use Rattle.words.specs.Words.{pick, countOf}
 use Rattle.packet.specs.Header.{headerWord, kindOf, addressOf, routeOf, firstCode, shiftedWord}
 use Rattle.torus.specs.Torus.{neighbourOf, oppositeOf}

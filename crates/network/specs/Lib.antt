@@ -4,3 +4,4 @@ pub mod Registers
 pub mod Machine
 pub mod Seen
 pub mod Paired
+pub mod Stages

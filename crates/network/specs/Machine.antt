@@ -1,7 +1,7 @@
 -- One clock cycle in words: what each register holds afterwards, row by row, and the memories. The same machine as in Cycle, which reads
 -- better; that both agree is proved beside (proofs/ViewLaws, FaultLaws).
-use Prim.Native.Nat.{ℕ, zero, suc, _+_, _-_, _*_, _/_, _%_}
-use mathlib.Core.Bool.{Bool, true, false, not}
+use Prim.Native.Nat.{ℕ, zero, suc, _+_, _*_, _/_, _%_}
+use mathlib.Core.Bool.{Bool}
 use mathlib.Core.List.{List, [], _∷_, _++_}
 use lib.ListN.{length, drop, getD}
 use Rattle.words.specs.Tests.{any, _and_, _or_, _≤?_, _<?_, _=?_}
@@ -12,7 +12,7 @@ use Rattle.sheet.specs.Sheet.{columns, rows, circuits, nodes, period}
 use Rattle.sheet.specs.Slots.{slotLength, slotRoute, sourceOf}
 use Rattle.network.specs.View.{Sender, sourceInput, memoryOutput}
 use Rattle.network.specs.Cycle.{outputFor, Move, rests, opens, sends, move, stepSender, nextNumber}
-use Rattle.network.specs.Registers.{reg, sheetIn, room, movingWords, rowWords, clockRow, cyclePlace, numberPlace, schedulePlace, orderMarkPlace, orderSchedulePlace, orderPeriodPlace, linkMark, linkWord, headMark, headWord, choiceRow, latchRow, outMark, outWord, receiveMark, receiveKind, receiveAddress, landingMark, landingKind, landingAddress, landingWord, leftRow, readRow, writeRow, kindRow, toGoRow}
+use Rattle.network.specs.Registers.{reg, sheetIn, room, movingWords, rowWords, clockRow, cyclePlace, numberPlace, schedulePlace, orderMarkPlace, orderSchedulePlace, orderPeriodPlace, linkMark, linkWord, headMark, headWord, choiceRow, latchRow, outMark, outWord, receiveMark, receiveKind, receiveAddress, leftRow, readRow, writeRow, kindRow, toGoRow}
 
 -- the place of a router's register, from its node and input or output
 abbrev pub at : ℕ → ℕ → ℕ

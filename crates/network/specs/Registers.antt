@@ -2,7 +2,7 @@
 -- router stands at 5 × node + input (or output) in its row, a node's at the node, a circuit's at the circuit.
 use Prim.Native.Nat.{ℕ, _+_, _*_}
 use mathlib.Core.List.{List}
-use lib.ListN.{take, drop}
+use lib.ListN.{take, drop, set}
 use Rattle.words.specs.Words.{word}
 use Rattle.sheet.specs.Sheet.{memoryWords}
 
@@ -110,6 +110,10 @@ toGoRow = 20
 -- register k of a row
 unfoldable pub reg : List ℕ → ℕ → ℕ → ℕ
 reg s row k = word s (row * rowWords + k)
+
+-- a register set
+abbrev pub put : List ℕ → ℕ → ℕ → ℕ → List ℕ
+put s row k w = set s (row * rowWords + k) w
 
 -- the stored length of the sheet, and the sheet
 unfoldable pub sheetLength : List ℕ → ℕ

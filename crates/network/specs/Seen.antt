@@ -5,8 +5,8 @@ use mathlib.Core.List.{List}
 use mathlib.Core.Path.{_≡_}
 use Rattle.words.specs.Words.{word}
 use Rattle.sheet.specs.Sheet.{memoryWords, circuits, nodes}
-use Rattle.network.specs.View.{Cell, empty, header, payload, noOutput, Routers, Sender, Receiver, Landing, nothing, landed, Order, noOrder, pending, View}
-use Rattle.network.specs.Registers.{reg, sheetIn, room, clockRow, cyclePlace, numberPlace, schedulePlace, orderMarkPlace, orderSchedulePlace, orderPeriodPlace, linkMark, linkWord, headMark, headWord, choiceRow, latchRow, outMark, outWord, receiveMark, receiveKind, receiveAddress, landingMark, landingKind, landingAddress, landingWord}
+use Rattle.network.specs.View.{Cell, empty, header, payload, noOutput, Landing, nothing, landed, Order, noOrder, pending, View}
+use Rattle.network.specs.Registers.{reg, room, clockRow, cyclePlace, numberPlace, schedulePlace, orderMarkPlace, orderSchedulePlace, orderPeriodPlace, linkMark, linkWord, headMark, headWord, choiceRow, latchRow, outMark, outWord, receiveMark, receiveKind, receiveAddress, landingMark, landingKind, landingAddress, landingWord}
 use Rattle.network.specs.Machine.{at, senderIn}
 
 -- a cell, from its mark and word

@@ -23,10 +23,10 @@ use Rattle.network.specs.Cycle.{outputFor, Move, rests, opens, sends}
 use Rattle.network.specs.Registers.{reg, sheetIn, sheetLength, room, movingWords, clockRow, cyclePlace, schedulePlace, orderMarkPlace, orderSchedulePlace, headWord, choiceRow, receiveMark, receiveKind, leftRow, readRow, writeRow, kindRow, toGoRow}
 use Rattle.network.specs.Machine.{at, firstMark, firstWord, senderIn, slotIn, moveIn, markOf, wordOf, sentMark, sentWord, ownMark, sourceMark, sourceWord, neighbourPlace, nextLinkMark, nextLinkWord, nextHeadWord, nextChoice, nextLatch, askedMark, nextOutMark, nextOutWord, memoryMark, memoryWord, nextReceiveMark, nextReceiveKind, nextLandingMark, turns, isDue, nextWord, nextState}
 use Rattle.network.proofs.RowLaws.{router-after, node-after, sender-after, clock-after}
-use Rattle.session.specs.Sound.{kindTravels}
-use Rattle.session.proofs.SoundLaws.{travels-small, CellParts, cell-none, TransferParts, RouterParts, NodeParts, SoundParts}
+use Rattle.soundness.specs.Sound.{kindTravels}
+use Rattle.soundness.proofs.SoundLaws.{travels-small, CellParts, cell-none, TransferParts, RouterParts, NodeParts, SoundParts}
 use Rattle.session.proofs.MoveLaws.{move-opens, transfer-step}
-use Rattle.session.proofs.SheetLaws.{SheetBounds, period-some, circuit-bounds}
+use Rattle.soundness.proofs.SheetLaws.{SheetBounds, period-some, circuit-bounds}
 use Rattle.network.proofs.SlotLaws.{route-small}
 
 -- cells: a payload word, a header whose kind travels

@@ -17,11 +17,11 @@ use Rattle.network.specs.Registers.{reg, sheetIn, clockRow, cyclePlace, schedul
 use Rattle.network.specs.Machine.{senderIn, nextState}
 use Rattle.network.proofs.RowLaws.{sender-same, sheet-kept}
 use Rattle.network.proofs.StepLaws.{state-length, memory-length}
-use Rattle.session.specs.Sound.{sound}
+use Rattle.soundness.specs.Sound.{sound}
 use Rattle.session.specs.Calls.{loadNumber, startNumber, orderNumber, cycleNumber, loaded, started, ordered, stored, Lent, Call, load, start, store, fetch, left, periodNumber, landed, order, cycle, number, does, after, isLoad}
 use Rattle.session.proofs.NumberLaws.{state-passed, load-passed, StartPassed, start-passed, place-passed, left-passed, landed-passed, OrderPassed, order-passed, cycle-passed}
-use Rattle.session.proofs.SoundLaws.{beside, cell-none, TransferParts, RouterParts, NodeParts, SoundParts, sound-parts, sound-on}
-use Rattle.session.proofs.SheetLaws.{SheetBounds, sheet-bounds, period-some}
+use Rattle.soundness.proofs.SoundLaws.{beside, cell-none, TransferParts, RouterParts, NodeParts, SoundParts, sound-parts, sound-on}
+use Rattle.soundness.proofs.SheetLaws.{SheetBounds, sheet-bounds, period-some}
 pub use Rattle.session.proofs.RegisterLaws.{loaded-sheet}
 use Rattle.session.proofs.RegisterLaws.{loaded-sheet-length, loaded-register, loaded-length, started-other, started-sender, started-sheet, started-sheet-length, started-length, ordered-other, ordered-mark, ordered-schedule, ordered-sheet, ordered-sheet-length, ordered-length}
 use Rattle.session.proofs.CycleLaws.{cycle-parts}

@@ -1,11 +1,9 @@
 pub mod NumberLaws
-pub mod SoundLaws
-pub mod SheetLaws
 pub mod RegisterLaws
 pub mod MoveLaws
 pub mod CycleLaws
 pub mod KeptLaws
-pub mod PairedLaws
-pub mod SoundnessLaws
 pub mod ReadingLaws
 pub mod WritingLaws
+pub mod CyclingLaws
+pub mod LoadingLaws

@@ -10,7 +10,7 @@ use Rattle.words.proofs.TestLaws.{is≤, yes≤}
 use Rattle.sheet.specs.declared.circuits.Circuit.{Circuit}
 use Rattle.network.specs.View.{Sender}
 use Rattle.network.specs.Cycle.{Move, rests, opens, sends, moveOf, move, stepSender}
-use Rattle.session.proofs.SoundLaws.{TransferParts}
+use Rattle.soundness.proofs.SoundLaws.{TransferParts}
 
 -- what a sender's move shows
 pub move-opens : (slot : ℕ) (x : Sender) → move slot x ≡ opens → (0 < slot) × (0 < x .left)

@@ -1,6 +1,6 @@
 -- What a call that is carried out has passed: the tests of its number, as records with named fields.
 -- Assumes nothing.
-use Prim.Native.Nat.{ℕ, _+_, _*_, _≤_, _<_}
+use Prim.Native.Nat.{ℕ, _*_, _≤_, _<_}
 use mathlib.Core.Bool.{Bool, true, false, not, false≢true}
 use mathlib.Core.List.{List}
 use mathlib.Core.Path.{_≡_, refl, sym, _∙_, ap}
@@ -10,12 +10,12 @@ use lib.ListN.{length}
 use Rattle.words.specs.Tests.{_or_, _≤?_, _=?_}
 use Rattle.words.specs.Words.{pick}
 use Rattle.words.proofs.TestLaws.{and-left, and-right, is≤, is<, is=, yes=, yes≤}
-use Rattle.sheet.specs.declared.circuits.Region.{Region}
 use Rattle.sheet.specs.Sheet.{memoryWords, circuits, schedules, nodes, circuitAt}
 use Rattle.sheet.specs.Rules.{verdict}
 use Rattle.network.specs.Registers.{reg, sheetIn, room, stateWords, clockRow, orderMarkPlace, leftRow}
 use Rattle.network.specs.Machine.{faultyIn}
-use Rattle.session.specs.Sound.{sound, kindTravels, liesIn}
+use Rattle.soundness.specs.Sound.{sound, kindTravels}
+use Rattle.soundness.proofs.SoundLaws.{Lies, lies}
 use Rattle.session.specs.Calls.{unless, _then_, stateNumber, memoryNumber, loadNumber, startNamed, startFits, isBusy, startNumber, placeNumber, leftNumber, landedNumber, isPending, ahead, orderNumber, cycleNumber}
 
 -- no number of two applies
@@ -46,15 +46,6 @@ zero-unless number {test} e = ap (λ (t : Bool). pick t 0 number) e
 pub not-holds : (b : Bool) → not b ≡ true → b ≡ false
 not-holds true e = absurd (false≢true e)
 not-holds false e = refl
-
--- so many words from an address on lie in a region, in numbers
-pub record Lies (r : Region) (address count : ℕ) : Type 0 where
-  pub low : r .offset ≤ address
-  pub high : address + count ≤ r .offset + r .size
-
-pub lies : (r : Region) (address count : ℕ) → liesIn r address count ≡ true → Lies r address count
-unfolding liesIn
-lies r address count e = record { low = is≤ _ _ (and-left _ _ e); high = is≤ _ _ (and-right _ _ e) }
 
 -- 12 and 13: the state is long enough and sound
 pub record StatePassed (s : List ℕ) : Type 0 where

@@ -18,8 +18,8 @@ use Rattle.session.specs.declared.Landed.the-variants.{Nothing, Word as 
 use Rattle.session.specs.Calls.{unless, _then_, stateNumber, memoryNumber, fetched}
 use Rattle.session.specs.Answers.{foundOf, landedOf}
 use Rattle.session.proofs.NumberLaws.{then-zero, zero-unless, state-passed}
-use Rattle.session.proofs.SoundLaws.{sound-parts}
-use Rattle.session.proofs.SheetLaws.{SheetBounds, sheet-bounds}
+use Rattle.soundness.proofs.SoundLaws.{sound-parts}
+use Rattle.soundness.proofs.SheetLaws.{SheetBounds, sheet-bounds}
 
 -- the first number applies
 pub then-first : {n a : ℕ} (b : ℕ) → n ≡ a → (n ≡ 0 → ⊥) → n ≡ (a then b)

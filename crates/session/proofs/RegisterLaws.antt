@@ -5,14 +5,15 @@ use mathlib.Core.List.{List, _++_}
 use mathlib.Core.Path.{_≡_, _∙_, ap}
 use native.Mathlib.Omega.{arith}
 use lib.ListN.{length, take, drop, length-append, length-drop, length-set, List·getD-append}
-use lib.Seq.{getD-at, drop-at, take-append-seam, getD-set-same, getD-set-other, drop-set-lt}
+use lib.Seq.{getD-at, drop-at, take-append-seam}
 use Rattle.words.specs.Words.{word, tab}
 use Rattle.words.proofs.WordLaws.{length-tab, tab-at}
-use Rattle.network.specs.Registers.{reg, sheetIn, sheetLength, movingWords, stateWords, clockRow, orderMarkPlace, orderSchedulePlace, orderPeriodPlace, leftRow, readRow, writeRow, kindRow, toGoRow}
+use Rattle.network.specs.Registers.{reg, put, sheetIn, sheetLength, movingWords, stateWords, clockRow, orderMarkPlace, orderSchedulePlace, orderPeriodPlace, leftRow, readRow, writeRow, kindRow, toGoRow}
 use Rattle.network.specs.Machine.{senderIn}
 use Rattle.network.proofs.RowLaws.{sender-same}
-use Rattle.session.specs.Calls.{loaded, put, started, ordered}
-use Rattle.session.proofs.SheetLaws.{SheetBounds}
+use Rattle.network.proofs.PutLaws.{put-same, put-other, put-sheet, put-sheet-length}
+use Rattle.session.specs.Calls.{loaded, started, ordered}
+use Rattle.soundness.proofs.SheetLaws.{SheetBounds}
 
 -- a load: every register is 0, and the sheet is the one loaded
 module _ (z s : List ℕ) where
@@ -38,24 +39,6 @@ module _ (z s : List ℕ) where
   pub loaded-length : SheetBounds z → stateWords ≤ length s → length (loaded z s) ≡ length s
   unfolding loaded
   loaded-length b long = simp (length-append, length-tab, length-drop) (omega (arith, b .fits))
-
--- a register set
-module _ (s : List ℕ) (row c w : ℕ) where
-  put-same : row * 80 + c < length s → reg (put s row c w) row c ≡ w
-  unfolding reg
-  put-same l = getD-set-same s (row * 80 + c) w 0 l
-
-  put-other : (other k : ℕ) → (other * 80 + k ≡ row * 80 + c → ⊥) → reg (put s row c w) other k ≡ reg s other k
-  unfolding reg
-  put-other other k ne = getD-set-other s (row * 80 + c) (other * 80 + k) w 0 ne
-
-  put-sheet : row * 80 + c < 1680 → sheetIn (put s row c w) ≡ sheetIn s
-  unfolding sheetIn
-  put-sheet l = ap (λ rest. take (word rest 0) (drop 1 rest)) (drop-set-lt movingWords s (row * 80 + c) w l)
-
-  put-sheet-length : row * 80 + c < 1680 → sheetLength (put s row c w) ≡ sheetLength s
-  unfolding sheetLength
-  put-sheet-length l = getD-set-other s (row * 80 + c) movingWords w 0 (λ e. omega arith)
 
 -- a start: the four registers of its circuit
 module _ (s : List ℕ) (circuit readAddress writeAddress count kind : ℕ) (few : circuit < 80) where

@@ -11,10 +11,10 @@ use Rattle.words.specs.Words.{pick}
 use Rattle.words.proofs.TestLaws.{and-no, and-both, and-no-right, yes≤, no≤, yes<, no<, yes=, no=}
 use Rattle.sheet.specs.declared.circuits.Circuit.{Circuit}
 use Rattle.sheet.specs.Sheet.{circuitAt}
-use Rattle.network.specs.Registers.{reg, sheetIn, room, clockRow, numberPlace, orderMarkPlace, orderSchedulePlace, orderPeriodPlace, leftRow, readRow, writeRow, kindRow}
+use Rattle.network.specs.Registers.{reg, put, sheetIn, room, clockRow, numberPlace, orderMarkPlace, orderSchedulePlace, orderPeriodPlace, leftRow, readRow, writeRow, kindRow}
 use Rattle.session.specs.declared.Answer.the-variants.{Done, Refused}
-use Rattle.session.specs.Sound.{liesIn}
-use Rattle.session.specs.Calls.{unless, _then_, ahead, put, started, ordered, stored}
+use Rattle.soundness.specs.Sound.{liesIn}
+use Rattle.session.specs.Calls.{unless, _then_, ahead, started, ordered, stored}
 use Rattle.session.specs.Answers.{answerOf}
 use Rattle.session.proofs.NumberLaws.{zero-unless}
 use Rattle.session.proofs.ReadingLaws.{then-first, then-next, unless-no}

@@ -9,10 +9,10 @@ use Rattle.words.specs.Words.{word, pick, tab}
 use Rattle.sheet.specs.Sheet.{memoryWords, circuits, schedules, nodes, circuitAt}
 use Rattle.sheet.specs.Rules.{verdict}
 use Rattle.network.specs.View.{Landing}
-use Rattle.network.specs.Registers.{reg, sheetIn, room, movingWords, stateWords, rowWords, clockRow, numberPlace, orderMarkPlace, orderSchedulePlace, orderPeriodPlace, landingMark, landingKind, landingAddress, landingWord, leftRow, readRow, writeRow, kindRow}
+use Rattle.network.specs.Registers.{reg, put, sheetIn, room, movingWords, stateWords, clockRow, numberPlace, orderMarkPlace, orderSchedulePlace, orderPeriodPlace, landingMark, landingKind, landingAddress, landingWord, leftRow, readRow, writeRow, kindRow}
 use Rattle.network.specs.Machine.{faultyIn, nextState, nextMemory}
 use Rattle.network.specs.Seen.{landingIn}
-use Rattle.session.specs.Sound.{sound, kindTravels, liesIn}
+use Rattle.soundness.specs.Sound.{sound, kindTravels, liesIn}
 
 infixr 30 _then_
 -- a number unless the test holds, and the first number of two that applies
@@ -88,10 +88,6 @@ cycleNumber s m = memoryNumber s m then unless 20 (not (faultyIn s))
 -- the state after a load: every moving word is 0, then the sheet with its length; what lies behind stays
 unfoldable pub loaded : List ℕ → List ℕ → List ℕ
 loaded z s = tab movingWords (λ k. 0) ++ ((length z ∷ z) ++ drop (movingWords + 1 + length z) s)
-
--- a register set
-abbrev pub put : List ℕ → ℕ → ℕ → ℕ → List ℕ
-put s row k w = set s (row * rowWords + k) w
 
 unfoldable pub started : List ℕ → ℕ → ℕ → ℕ → ℕ → ℕ → List ℕ
 started s circuit readAddress writeAddress count kind =

@@ -1,16 +1,19 @@
 // The session: its calls and their answers.
+mod cycling;
+mod loading;
 mod reading;
-mod soundness;
 mod writing;
 
+pub use cycling::cycle;
+pub use cycling::cycle_sound;
+pub use loading::load;
 pub use reading::fetch;
+pub use reading::landing_at;
 pub use reading::memory_number;
 pub use reading::period_number;
 pub use reading::state_number;
 pub use reading::what_landed;
 pub use reading::words_left;
-pub use soundness::is_sound;
-pub use soundness::kind_travels;
 pub use writing::order;
 pub use writing::start;
 pub use writing::store;

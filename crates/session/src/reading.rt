@@ -8,27 +8,14 @@ ghost use Rattle.session.specs.Answers.{foundOf, landedOf};
 use crate::Found;
 use crate::Landed;
 
-// The published length of the state, and registers that the network's code names nowhere.
-const STATE_WORDS: usize = 10278;
-
-const NUMBER_PLACE: u32 = 1;
-
-const LANDING_MARK: u32 = 12;
-
-const LANDING_KIND: u32 = 13;
-
-const LANDING_ADDRESS: u32 = 14;
-
-const LANDING_WORD: u32 = 15;
-
 // 12 or 13, which every call but load tests first; 0 where neither applies.
 pub fn state_number(s: &[u32]) -> u32
     ensures { λ r. ⌜ r ≡ stateNumber (now (s .entry)) ⌝ }
 {
-    if s.len() < STATE_WORDS {
+    if s.len() < network::STATE_WORDS {
         return 12;
     }
-    if crate::soundness::is_sound(s) {
+    if soundness::is_sound(s) {
         return 0;
     }
     13
@@ -143,20 +130,20 @@ pub fn period_number(s: &[u32]) -> Found
 {
     found_of(
         state_number(s),
-        network::reg(s, network::CLOCK_ROW, NUMBER_PLACE),
+        network::reg(s, network::CLOCK_ROW, network::NUMBER_PLACE),
     )
 }
 
-// The landing that a node's registers hold.
-fn landing_at(s: &[u32], node: u32) -> Landed
+// The landing that a node's registers hold: what landed, where the node exists. Loops of ours that know their state sound ask this.
+pub fn landing_at(s: &[u32], node: u32) -> Landed
     ensures { λ r. ⌜ r ≡ landedOf 0 (lastLanding (now (s .entry)) node) ⌝ }
 {
-    if network::reg(s, LANDING_MARK, node) == 0 {
+    if network::reg(s, network::LANDING_MARK, node) == 0 {
         return Landed::Nothing;
     }
-    let kind = network::reg(s, LANDING_KIND, node);
-    let address = network::reg(s, LANDING_ADDRESS, node);
-    let word = network::reg(s, LANDING_WORD, node);
+    let kind = network::reg(s, network::LANDING_KIND, node);
+    let address = network::reg(s, network::LANDING_ADDRESS, node);
+    let word = network::reg(s, network::LANDING_WORD, node);
     Landed::Word {
         kind,
         address,

@@ -2,20 +2,12 @@
 ghost use mathlib.Core.Path.{_≡_};
 ghost use Rattle.words.specs.Tests.{_=?_};
 ghost use Rattle.words.specs.Words.{pick};
-ghost use Rattle.session.specs.Calls.{put, placeNumber, stored, orderNumber, ordered, startNamed, startFits, startNumber, started};
+ghost use Rattle.session.specs.Calls.{placeNumber, stored, orderNumber, ordered, startNamed, startFits, startNumber, started};
 ghost use Rattle.session.specs.Answers.{answerOf};
 use crate::Answer;
+use network::put_reg;
 use network::reg;
 use sheet::Circuit;
-
-// Places of the clock's row (docs/STATE.md).
-const NUMBER_PLACE: u32 = 1;
-
-const ORDER_MARK_PLACE: u32 = 3;
-
-const ORDER_SCHEDULE_PLACE: u32 = 4;
-
-const ORDER_PERIOD_PLACE: u32 = 5;
 
 // Stores a word at a node's address; the place is reckoned in 64 bits, so that it cannot wrap.
 pub fn store(s: &[u32], m: &mut [u32], node: u32, address: u32, word: u32) -> Answer
@@ -31,13 +23,6 @@ pub fn store(s: &[u32], m: &mut [u32], node: u32, address: u32, word: u32) -> An
     Answer::Done
 }
 
-// Sets register k of a row; past the end of the words nothing is set.
-fn put_reg(s: &mut [u32], row: u32, k: u32, word: u32)
-    ensures { λ _. ⌜ now (s .exit) ≡ put (now (s .entry)) row k word ⌝ }
-{
-    words::put(s, (row as usize) * network::ROW_WORDS + (k as usize), word);
-}
-
 // The number that an order answers; the period's distance wraps as the period number does.
 pub fn order_number(s: &[u32], schedule: u32, period: u32) -> u32
     ensures { λ r. ⌜ r ≡ orderNumber (now (s .entry)) schedule period ⌝ }
@@ -49,10 +34,13 @@ pub fn order_number(s: &[u32], schedule: u32, period: u32) -> u32
     if schedule >= words::get(network::sheet_of(s), 4) {
         return 15;
     }
-    if reg(s, network::CLOCK_ROW, ORDER_MARK_PLACE) != 0 {
+    if reg(s, network::CLOCK_ROW, network::ORDER_MARK_PLACE) != 0 {
         return 18;
     }
-    let ahead = std::num::wrapping_sub_u32(period, reg(s, network::CLOCK_ROW, NUMBER_PLACE));
+    let ahead = std::num::wrapping_sub_u32(
+        period,
+        reg(s, network::CLOCK_ROW, network::NUMBER_PLACE),
+    );
     if ahead < 3 {
         return 19;
     }
@@ -66,9 +54,14 @@ pub fn order_number(s: &[u32], schedule: u32, period: u32) -> u32
 fn put_order(s: &mut [u32], schedule: u32, period: u32)
     ensures { λ _. ⌜ now (s .exit) ≡ ordered (now (s .entry)) schedule period ⌝ }
 {
-    put_reg(s, network::CLOCK_ROW, ORDER_MARK_PLACE, 1);
-    put_reg(s, network::CLOCK_ROW, ORDER_SCHEDULE_PLACE, schedule);
-    put_reg(s, network::CLOCK_ROW, ORDER_PERIOD_PLACE, period);
+    put_reg(s, network::CLOCK_ROW, network::ORDER_MARK_PLACE, 1);
+    put_reg(
+        s,
+        network::CLOCK_ROW,
+        network::ORDER_SCHEDULE_PLACE,
+        schedule,
+    );
+    put_reg(s, network::CLOCK_ROW, network::ORDER_PERIOD_PLACE, period);
 }
 
 // Orders a schedule for a period.
@@ -98,7 +91,7 @@ fn start_named(s: &[u32], circuit: u32, read: u32, write: u32, kind: u32) -> boo
     if write >= room {
         return false;
     }
-    crate::soundness::kind_travels(kind)
+    soundness::kind_travels(kind)
 }
 
 // The count of a start suits its kind, and so many words lie in both of the circuit's regions.
@@ -111,9 +104,9 @@ fn start_fits(s: &[u32], circuit: u32, read: u32, write: u32, count: u32, kind: 
     let regions = Circuit::at(network::sheet_of(s), circuit);
     let source = regions.read;
     let destination = regions.receive;
-    if crate::soundness::holds_beside(kind, count == 1) {
-        if crate::soundness::lies_in(source, read, count) {
-            return crate::soundness::lies_in(destination, write, count);
+    if soundness::holds_beside(kind, count == 1) {
+        if soundness::lies_in(source, read, count) {
+            return soundness::lies_in(destination, write, count);
         }
         return false;
     }

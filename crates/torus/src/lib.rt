@@ -87,6 +87,19 @@ fn west(cols: u32, rows: u32, node: u32) -> u32
     }
 }
 
+// The node one step away by a side; every number from 3 on is west.
+pub fn neighbour(cols: u32, rows: u32, node: u32, side: u32) -> u32
+    requires { ⌜ InGrid cols rows node ⌝ }
+    ensures { λ r. ⌜ r ≡ neighbourOf cols rows node side ⌝ }
+{
+    match side {
+        0 => north(cols, rows, node),
+        1 => east(cols, rows, node),
+        2 => south(cols, rows, node),
+        _ => west(cols, rows, node),
+    }
+}
+
 // Out to the memory where the packet came in by the side that its code names, else on to the neighbour by that side.
 fn exit_by(entry: u32, side: u32, next: u32) -> Exit
     ensures { λ r. ⌜ r ≡ pick (entry =? side) Exit.Memory (Exit.To next) ⌝ }

@@ -1,0 +1,50 @@
+-- The numbers of the session's answers are those that the answers were made of.
+-- Assumes nothing.
+use Prim.Native.Nat.{ℕ, zero, suc, _*_}
+use mathlib.Core.Path.{_≡_, refl, sym, _∙_, ap}
+use mathlib.Core.Bool.{Bool}
+use native.Mathlib.Omega.{arith}
+use Rattle.words.specs.Tests.{_=?_}
+use Rattle.words.specs.Words.{pick}
+use Rattle.words.proofs.TestLaws.{no=}
+use Rattle.network.specs.View.{Landing, nothing, landed}
+use Rattle.session.specs.declared.Answer.{Answer}
+use Rattle.session.specs.declared.Found.{Found}
+use Rattle.session.specs.declared.Landed.{Landed}
+use Rattle.session.specs.Answers.{answerOf, foundOf, landedOf}
+use Rattle.exports.specs.Packed.{packed, chosen, fieldOf, numberOf, packedFound, packedLanded}
+
+number-answer : (n : ℕ) → numberOf (answerOf n) ≡ n
+number-answer zero = refl
+number-answer (suc n) = refl
+
+pub number-is : (n r : ℕ) (a : Answer) → a ≡ answerOf n → r ≡ numberOf a → r ≡ n
+number-is n r a e f = f ∙ ap numberOf e ∙ number-answer n
+
+refused : (n w : ℕ) → suc n * 4294967296 ≡ packed (suc n) w
+unfolding packed
+refused n w = sym (ap (λ (t : Bool). pick t w (suc n * 4294967296)) (no= {a = suc n} {b = 0} (λ e. omega arith)))
+
+packed-found : (n w : ℕ) → packedFound (foundOf n w) ≡ packed n w
+unfolding packed _=?_
+packed-found zero w = refl
+packed-found (suc n) w = refused n w
+
+pub found-is : (n w r : ℕ) (f : Found) → f ≡ foundOf n w → r ≡ packedFound f → r ≡ packed n w
+found-is n w r f e g = g ∙ ap packedFound e ∙ packed-found n w
+
+packed-landed : (field n : ℕ) (l : Landing) → packedLanded field (landedOf n l) ≡ packed n (fieldOf field l)
+unfolding packed _=?_
+packed-landed field zero nothing = refl
+packed-landed field zero (landed kind address word) = refl
+packed-landed field (suc n) nothing = refused n (fieldOf field nothing)
+packed-landed field (suc n) (landed kind address word) = refused n (fieldOf field (landed kind address word))
+
+pub landed-is : (field n : ℕ) (l : Landing) (r : ℕ) (x : Landed) → x ≡ landedOf n l → r ≡ packedLanded field x → r ≡ packed n (fieldOf field l)
+landed-is field n l r x e g = g ∙ ap (packedLanded field) e ∙ packed-landed field n l
+
+-- a number that names no field
+pub field-other : (field kind address word : ℕ) → (field ≡ 0 → ⊥) → (field ≡ 1 → ⊥) → (field ≡ 2 → ⊥) → (field ≡ 3 → ⊥)
+    → 0 ≡ chosen field kind address word
+unfolding chosen
+field-other field kind address word a b c d = rw (no= a, no= b, no= c, no= d) refl

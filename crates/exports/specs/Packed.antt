@@ -1,0 +1,38 @@
+-- The answers of the exported calls, as numbers: a call without a value answers the number of document 01, 0 where it is carried out; a
+-- call with a value answers number × 2^32 + value in 64 bits, where one of the two is 0.
+use Prim.Native.Nat.{ℕ, _*_}
+use Rattle.words.specs.Tests.{_=?_}
+use Rattle.words.specs.Words.{pick}
+use Rattle.network.specs.View.{Landing, nothing, landed}
+use Rattle.session.specs.declared.Answer.{Answer}
+use Rattle.session.specs.declared.Answer.the-variants.{Done, Refused}
+use Rattle.session.specs.declared.Found.{Found}
+use Rattle.session.specs.declared.Found.the-variants.{Word as FoundWord, Refused as FoundRefused}
+use Rattle.session.specs.declared.Landed.{Landed}
+use Rattle.session.specs.declared.Landed.the-variants.{Nothing, Word as LandedWord, Refused as LandedRefused}
+
+unfoldable pub packed : ℕ → ℕ → ℕ
+packed number value = pick (number =? 0) value (number * 4294967296)
+
+-- a field of a landing: 0 whether there is one, 1 its kind, 2 its address, 3 its word; 0 for any other, and where nothing landed
+unfoldable pub chosen : ℕ → ℕ → ℕ → ℕ → ℕ
+chosen field kind address word =
+    pick (field =? 0) 1 (pick (field =? 1) kind (pick (field =? 2) address (pick (field =? 3) word 0)))
+
+abbrev pub fieldOf : ℕ → Landing → ℕ
+fieldOf field nothing = 0
+fieldOf field (landed kind address word) = chosen field kind address word
+
+-- the numbers of the session's answers
+abbrev pub numberOf : Answer → ℕ
+numberOf Done = 0
+numberOf (Refused n) = n
+
+abbrev pub packedFound : Found → ℕ
+packedFound (FoundWord w) = w
+packedFound (FoundRefused n) = n * 4294967296
+
+abbrev pub packedLanded : ℕ → Landed → ℕ
+packedLanded field Nothing = 0
+packedLanded field (LandedWord kind address word) = chosen field kind address word
+packedLanded field (LandedRefused n) = n * 4294967296

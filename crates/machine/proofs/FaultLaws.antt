@@ -1,0 +1,104 @@
+-- The faults of a cycle, looked for one kind after the other.
+-- Assumes nothing.
+use Prim.Native.Nat.{ℕ, zero, suc, _<_}
+use mathlib.Core.Bool.{Bool, true, false, false≢true}
+use mathlib.Core.Path.{_≡_, refl, sym, _∙_, ap}
+use mathlib.Core.List.{List}
+use Rattle.words.specs.Tests.{any, _or_}
+use Rattle.words.proofs.AllLaws.{any-at}
+use Rattle.sheet.specs.Sheet.{circuits, nodes}
+use Rattle.network.specs.Registers.{sheetIn}
+use Rattle.network.specs.Machine.{collidesIn, headlessIn, crowdsIn, straysIn, reopensIn, faultyIn}
+
+mix : (a b c d : Bool) → ((a or b) or (c or d)) ≡ ((a or c) or (b or d))
+unfolding _or_
+mix true b c d = refl
+mix false true true d = refl
+mix false true false d = refl
+mix false false true d = refl
+mix false false false d = refl
+
+true-or : (a : Bool) → (true or a) ≡ true
+unfolding _or_
+true-or a = refl
+
+false-or : (a : Bool) → (false or a) ≡ a
+unfolding _or_
+false-or a = refl
+
+first-true : (a b : Bool) → ((true or a) or b) ≡ true
+unfolding _or_
+first-true a b = refl
+
+first-false : (a b : Bool) → ((false or a) or b) ≡ (a or b)
+unfolding _or_
+first-false a b = refl
+
+last-first : (a b c : Bool) → ((a or b) or c) ≡ ((a or c) or b)
+unfolding _or_
+last-first true b c = refl
+last-first false true true = refl
+last-first false true false = refl
+last-first false false true = refl
+last-first false false false = refl
+
+-- some place passes one of two tests
+any-or : (n : ℕ) (f g : ℕ → Bool) → any n (λ k. f k or g k) ≡ (any n f or any n g)
+unfolding any _or_
+any-or zero f g = refl
+any-or (suc n) f g = ap (λ (b : Bool). b or (f n or g n)) (any-or n f g) ∙ mix (any n f) (any n g) (f n) (g n)
+
+-- no place passes a test that none passes
+pub any-never : (n : ℕ) (p : ℕ → Bool) → any n p ≡ false → (k : ℕ) → k < n → p k ≡ false
+any-never n p e k l = go (p k) refl
+  where
+    go : (b : Bool) → p k ≡ b → b ≡ false
+    go true q = absurd (false≢true (sym e ∙ any-at n p k l q))
+    go false q = refl
+
+module _ (s : List ℕ) where
+  abbrev pub collided : Bool
+  collided = any (nodes (sheetIn s)) (λ node. any 5 (collidesIn s node))
+
+  abbrev pub headless : Bool
+  headless = any (nodes (sheetIn s)) (λ node. any 5 (headlessIn s node))
+
+  abbrev pub crowded : Bool
+  crowded = any (nodes (sheetIn s)) (crowdsIn s)
+
+  abbrev pub strayed : Bool
+  strayed = any (nodes (sheetIn s)) (straysIn s)
+
+  abbrev pub reopened : Bool
+  reopened = any (circuits (sheetIn s)) (reopensIn s)
+
+  faults-are : faultyIn s ≡ ((collided or (headless or (crowded or strayed))) or reopened)
+  unfolding faultyIn
+  faults-are =
+      ap (λ (b : Bool). b or reopened)
+      (any-or (nodes (sheetIn s)) (λ node. any 5 (collidesIn s node)) (λ node. any 5 (headlessIn s node) or crowdsIn s node or straysIn s node)
+      ∙ ap (λ (b : Bool). collided or b)
+      (any-or (nodes (sheetIn s)) (λ node. any 5 (headlessIn s node)) (λ node. crowdsIn s node or straysIn s node)
+      ∙ ap (λ (b : Bool). headless or b) (any-or (nodes (sheetIn s)) (crowdsIn s) (straysIn s))))
+
+  -- a fault of the kind that is looked for, or none of the kinds so far
+  pub fault-collided : collided ≡ true → true ≡ faultyIn s
+  fault-collided h = sym (faults-are ∙ ap (λ (b : Bool). (b or (headless or (crowded or strayed))) or reopened) h ∙ first-true _ _)
+
+  module _ (c : collided ≡ false) where
+    past-collided : faultyIn s ≡ ((headless or (crowded or strayed)) or reopened)
+    past-collided = faults-are ∙ ap (λ (b : Bool). (b or (headless or (crowded or strayed))) or reopened) c ∙ first-false _ _
+
+    pub fault-headless : headless ≡ true → true ≡ faultyIn s
+    fault-headless h = sym (past-collided ∙ ap (λ (b : Bool). (b or (crowded or strayed)) or reopened) h ∙ first-true _ _)
+
+    module _ (d : headless ≡ false) where
+      past-headless : faultyIn s ≡ ((crowded or reopened) or strayed)
+      past-headless =
+          past-collided ∙ ap (λ (b : Bool). (b or (crowded or strayed)) or reopened) d ∙ first-false _ _ ∙ last-first crowded strayed reopened
+
+      pub fault-wires : (crowded or reopened) ≡ true → true ≡ faultyIn s
+      fault-wires h = sym (past-headless ∙ ap (λ (b : Bool). b or strayed) h ∙ true-or strayed)
+
+      pub fault-last : (crowded or reopened) ≡ false → (r : Bool) → r ≡ strayed → r ≡ faultyIn s
+      fault-last h r e = e ∙ sym (past-headless ∙ ap (λ (b : Bool). b or strayed) h ∙ false-or strayed)

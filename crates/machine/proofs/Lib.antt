@@ -1,0 +1,5 @@
+pub mod RowCases
+pub mod JoinLaws
+pub mod FaultLaws
+pub mod PrepareLaws
+pub mod CarryLaws

@@ -1,0 +1,97 @@
+// One clock cycle, carried out in place on lent words. All that the cycle puts on wires is worked out first, and the faults are looked for
+// before anything is written, so that a cycle that is refused has changed nothing.
+ghost use mathlib.Core.Bool.{false};
+ghost use mathlib.Core.Path.{_≡_};
+ghost use Prim.Native.Nat.{ℕ};
+ghost use Rattle.words.specs.Tests.{any};
+ghost use Rattle.words.specs.Words.{pick, tab};
+ghost use Rattle.sheet.specs.Sheet.{nodes as nodeCount};
+ghost use Rattle.network.specs.Registers.{sheetIn};
+ghost use Rattle.network.specs.Machine.{straysIn, faultyIn, nextState, nextMemory};
+ghost use Rattle.machine.specs.Ready.{Ready};
+ghost use Rattle.machine.specs.Tables.{Tables, Empty};
+
+// Works out the tables of a cycle, lent as zeros: the slots that begin, the marks and words on the source wires, and those on the outputs.
+// Answers whether the cycle has a fault (number 20); then the tables are of no use.
+fn prepare(
+    s: &[u32],
+    m: &[u32],
+    slots: &mut [u32],
+    marks: &mut [u32],
+    cells: &mut [u32],
+    outs: &mut [u32],
+    values: &mut [u32],
+) -> bool
+    requires { ⌜ (Ready (now s) (now m)) × (Empty (now slots) (now marks) (now cells) (now outs) (now values)) ⌝ }
+    ensures fault { λ r. ⌜ r ≡ faultyIn (now (s .entry)) ⌝ }
+    ensures tables { λ r. ⌜ (r ≡ false → Tables (now (s .entry)) (now (m .entry)) (now (slots .exit)) (now (marks .exit)) (now (cells .exit)) (now (outs .exit)) (now (values .exit))) ⌝ }
+    ensures calm { λ r. ⌜ (r ≡ false → any (nodeCount (sheetIn (now (s .entry)))) (straysIn (now (s .entry))) ≡ false) ⌝ }
+{
+    let z = network::sheet_of(s);
+    let nodes = words::get(z, 0) * words::get(z, 1);
+    if routers::cross(s, nodes, outs, values) {
+        return true;
+    }
+    if routers::has_headless(s, nodes * 5) {
+        return true;
+    }
+    sources::slots_now(s, z, slots);
+    if sources::source_wires(s, z, m, slots, marks, cells) {
+        return true;
+    }
+    receivers::has_stray(s, nodes, words::get(z, 2))
+}
+
+// Carries out a cycle that has no fault, each stage on what the one before it left: the links take the outputs before the outputs change,
+// and the sources' words were read before a landing is stored.
+fn carry_out(
+    s: &mut [u32],
+    m: &mut [u32],
+    slots: &[u32],
+    marks: &[u32],
+    cells: &[u32],
+    outs: &[u32],
+    values: &[u32],
+)
+    requires { ⌜ (Ready (now s) (now m)) × (Tables (now s) (now m) (now slots) (now marks) (now cells) (now outs) (now values)) × (any (nodeCount (sheetIn (now s))) (straysIn (now s)) ≡ false) ⌝ }
+    ensures state { λ _. ⌜ now (s .exit) ≡ nextState (now (s .entry)) (now (m .entry)) ⌝ }
+    ensures memory { λ _. ⌜ now (m .exit) ≡ nextMemory (now (s .entry)) (now (m .entry)) ⌝ }
+{
+    let z = network::sheet_of(s);
+    let nodes = words::get(z, 0) * words::get(z, 1);
+    let room = words::get(z, 2);
+    routers::step_heads(s, nodes * 5);
+    routers::step_links(s, marks, cells);
+    receivers::step_receivers(s, m, nodes, room);
+    routers::step_outs(s, nodes * 5, outs, values);
+    sources::step_senders(s, slots);
+    receivers::step_clock(s);
+}
+
+// One clock cycle; answers whether it has a fault, and then it has changed nothing. A session's state and memory that have passed 12 to 14
+// meet the requires.
+pub fn step(s: &mut [u32], m: &mut [u32]) -> bool
+    requires { ⌜ Ready (now s) (now m) ⌝ }
+    ensures fault { λ r. ⌜ r ≡ faultyIn (now (s .entry)) ⌝ }
+    ensures state { λ _. ⌜ now (s .exit) ≡ pick (faultyIn (now (s .entry))) (now (s .entry)) (nextState (now (s .entry)) (now (m .entry))) ⌝ }
+    ensures memory { λ _. ⌜ now (m .exit) ≡ pick (faultyIn (now (s .entry))) (now (m .entry)) (nextMemory (now (s .entry)) (now (m .entry))) ⌝ }
+{
+    let mut slots = [0u32; 64];
+    let mut marks = [0u32; 16];
+    let mut cells = [0u32; 16];
+    let mut outs = [0u32; 80];
+    let mut values = [0u32; 80];
+    if prepare(
+        s,
+        m,
+        &mut slots,
+        &mut marks,
+        &mut cells,
+        &mut outs,
+        &mut values,
+    ) {
+        return true;
+    }
+    carry_out(s, m, &slots, &marks, &cells, &outs, &values);
+    false
+}

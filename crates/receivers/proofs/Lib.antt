@@ -1,0 +1,5 @@
+pub mod StrayLaws
+pub mod UnitLaws
+pub mod NodeLaws
+pub mod RoundLaws
+pub mod ClockLaws

@@ -1,0 +1,144 @@
+-- One node's part of the stage: its seven registers as the cycle wants them, nothing else.
+-- Assumes nothing.
+use Prim.Native.Nat.{ℕ, _+_, _<_, _≤_}
+use mathlib.Core.List.{List, []}
+use mathlib.Core.Path.{_≡_, refl, sym, subst, _∙_, ap, ap₂}
+use native.Mathlib.Omega.{arith}
+use native.Mathlib.Decide.{decLe}
+use lib.ListN.{length}
+use Rattle.words.specs.Tests.{_≤?_, _=?_}
+use Rattle.words.specs.Words.{pick}
+use Rattle.packet.specs.Header.{kindOf, addressOf}
+use Rattle.network.specs.Registers.{reg, put, movingWords, receiveMark, receiveKind, receiveAddress, landingMark, landingKind, landingAddress, landingWord, outMark, outWord}
+use Rattle.network.specs.Machine.{memoryMark, memoryWord, nextReceiveMark, nextReceiveKind, nextReceiveAddress, nextLandingMark, nextRows, nextInRow}
+use Rattle.network.proofs.FillLaws.{Wrote, wrote-one, wrote-then}
+use Rattle.receivers.specs.Required.{Landing}
+use Rattle.receivers.specs.Written.{landingPut, receivePut}
+
+-- what a node's part reads is in t as it is in s
+pub record SameAt (s t : List ℕ) (node : ℕ) : Type 0 where
+  pub mark : memoryMark t node ≡ memoryMark s node
+  pub payload : memoryWord t node ≡ memoryWord s node
+  pub receive-mark : reg t receiveMark node ≡ reg s receiveMark node
+  pub receive-kind : reg t receiveKind node ≡ reg s receiveKind node
+  pub receive-address : reg t receiveAddress node ≡ reg s receiveAddress node
+
+pub same-here : (s : List ℕ) (node : ℕ) → SameAt s s node
+same-here s node = record { mark = refl; payload = refl; receive-mark = refl; receive-kind = refl; receive-address = refl }
+
+-- so is what it writes
+module _ (s t : List ℕ) (node : ℕ) (e : SameAt s t node) where
+  same-mark : nextReceiveMark t node ≡ nextReceiveMark s node
+  unfolding nextReceiveMark
+  same-mark = ap₂ (λ (m r : ℕ). pick (m =? 1) 1 (pick (3 ≤? m) 0 r)) (e .mark) (e .receive-mark)
+
+  same-kind : nextReceiveKind t node ≡ nextReceiveKind s node
+  unfolding nextReceiveKind
+  same-kind =
+      ap₂ (λ (m r : ℕ). pick (m =? 1) (kindOf (memoryWord t node)) r) (e .mark) (e .receive-kind)
+      ∙ ap (λ (w : ℕ). pick (memoryMark s node =? 1) (kindOf w) (reg s receiveKind node)) (e .payload)
+
+  same-address : nextReceiveAddress t node ≡ nextReceiveAddress s node
+  unfolding nextReceiveAddress
+  same-address =
+      ap₂ (λ (m r : ℕ). pick (m =? 1) (addressOf (memoryWord t node)) (pick (2 ≤? m) (r + 1) r)) (e .mark) (e .receive-address)
+      ∙ ap
+      (λ (w : ℕ).
+      pick (memoryMark s node =? 1) (addressOf w)
+      (pick (2 ≤? memoryMark s node) (reg s receiveAddress node + 1) (reg s receiveAddress node)))
+      (e .payload)
+
+  same-landing : nextLandingMark t node ≡ nextLandingMark s node
+  unfolding nextLandingMark
+  same-landing = ap (λ (m : ℕ). pick (2 ≤? m) 1 0) (e .mark)
+
+-- some rows at a place, then the rows before them
+pub wrote-before : (low middle high k : ℕ) (new : ℕ → ℕ) (s between after : List ℕ) → low ≤ middle → middle < high → high < 21 → k < 80
+    → Wrote (middle + 1) high k new s between → Wrote low middle k new between after → Wrote low high k new s after
+wrote-before low middle high k new s between after a b hl kl f g = record {
+  same-length = g .same-length ∙ f .same-length;
+  same-rest = g .same-rest ∙ f .same-rest;
+  written = λ row c d. go row c d (decLe row middle);
+  elsewhere = λ row j rl jl no.
+      g .elsewhere row j rl jl (λ c d e. no c (omega arith) e) ∙ f .elsewhere row j rl jl (λ c d e. no (omega arith) d e);
+}
+  where
+    go : (row : ℕ) → low ≤ row → row ≤ high → Dec (row ≤ middle) → reg after row k ≡ new row
+    go row c d (yes e) = g .written row c e
+    go row c d (no ne) = g .elsewhere row k (omega arith) kl (λ x y z. ne y) ∙ f .written row (omega (arith, ne)) d
+
+-- one row more at a place, behind those that are written
+pub wrote-more : (low middle k w : ℕ) (new : ℕ → ℕ) (s between : List ℕ) → low ≤ middle → middle < 20 → k < 80 → movingWords ≤ length s
+    → Wrote low middle k new s between → w ≡ new (middle + 1) → Wrote low (middle + 1) k new s (put between (middle + 1) k w)
+wrote-more low middle k w new s between a b kl long g e =
+    wrote-then low middle (middle + 1) k new s between _ a (omega arith) (omega arith) kl g
+    (wrote-one (middle + 1) k w new between (omega arith) kl (omega (arith, g .same-length)) e)
+
+-- the rows of a node, as the cycle wants them
+abbrev pub wanted : List ℕ → ℕ → ℕ → ℕ
+wanted s node row = nextInRow s [] row node
+
+module _ (s t : List ℕ) (node : ℕ) (e : SameAt s t node) (inside : node < 16) (long : movingWords ≤ length t) where
+  -- the landing's four registers
+  landing-wrote : Wrote landingMark landingWord node (wanted s node) t (landingPut t node)
+  unfolding landingPut nextInRow nextRows
+  landing-wrote =
+      let kl : node < 80 = omega arith in
+      wrote-more landingMark landingAddress node _ (wanted s node) t _ (omega arith) (omega arith) kl long
+      (wrote-more landingMark landingKind node _ (wanted s node) t _ (omega arith) (omega arith) kl long
+      (wrote-more landingMark landingMark node _ (wanted s node) t _ (omega arith) (omega arith) kl long
+      (wrote-one landingMark node _ (wanted s node) t (omega arith) kl long (same-landing s t node e))
+      (e .receive-kind))
+      (e .receive-address))
+      (e .payload)
+
+  -- the receive unit's three
+  receive-wrote : Wrote receiveMark receiveAddress node (wanted s node) t (receivePut t node)
+  unfolding receivePut nextInRow nextRows
+  receive-wrote =
+      let kl : node < 80 = omega arith in
+      wrote-more receiveMark receiveKind node _ (wanted s node) t _ (omega arith) (omega arith) kl long
+      (wrote-more receiveMark receiveMark node _ (wanted s node) t _ (omega arith) (omega arith) kl long
+      (wrote-one receiveMark node _ (wanted s node) t (omega arith) kl long (same-mark s t node e))
+      (same-kind s t node e))
+      (same-address s t node e)
+
+-- a landing that is put leaves what the receive unit reads
+module _ (s t : List ℕ) (node : ℕ) (e : SameAt s t node) (inside : node < 16) (long : movingWords ≤ length t) where
+  pub landing-same : SameAt s (landingPut t node) node
+  landing-same =
+      let w = landing-wrote s t node e inside long in
+      record {
+        mark = w .elsewhere outMark _ (omega arith) (omega arith) (λ a b c. omega arith) ∙ e .mark;
+        payload = w .elsewhere outWord _ (omega arith) (omega arith) (λ a b c. omega arith) ∙ e .payload;
+        receive-mark = w .elsewhere receiveMark node (omega arith) (omega arith) (λ a b c. omega arith) ∙ e .receive-mark;
+        receive-kind = w .elsewhere receiveKind node (omega arith) (omega arith) (λ a b c. omega arith) ∙ e .receive-kind;
+        receive-address = w .elsewhere receiveAddress node (omega arith) (omega arith) (λ a b c. omega arith) ∙ e .receive-address;
+      }
+
+  pub node-wrote : Wrote 9 15 node (wanted s node) t (receivePut (landingPut t node) node)
+  node-wrote =
+      let w = landing-wrote s t node e inside long in
+      wrote-before 9 11 15 node (wanted s node) t (landingPut t node) (receivePut (landingPut t node) node) (omega arith) (omega arith)
+      (omega arith) (omega arith) w
+      (receive-wrote s (landingPut t node) node landing-same inside (omega (arith, w .same-length)))
+
+-- so the address of a word that lands is as small behind it
+pub landing-kept : (s t : List ℕ) (node size : ℕ) → Landing s node size → t ≡ landingPut s node → Landing t node size
+landing-kept s t node size g e =
+    let w = landing-wrote s s node (same-here s node) (g .inside) (g .long) in
+    let same = landing-same s s node (same-here s node) (g .inside) (g .long) in
+    subst (λ (x : List ℕ). Landing x node size) (sym e)
+    (record {
+      inside = g .inside;
+      long = omega (arith, w .same-length, g .long);
+      small-room = g .small-room;
+      lands = λ l.
+          let low = g .lands (omega (arith, same .mark)) in
+          omega (arith, same .receive-address);
+    })
+
+-- the three parts of a node's step
+pub node-is : (s : List ℕ) (node : ℕ) {between after : List ℕ} → between ≡ landingPut s node → after ≡ receivePut between node
+    → after ≡ receivePut (landingPut s node) node
+node-is s node e f = f ∙ ap (λ (x : List ℕ). receivePut x node) e

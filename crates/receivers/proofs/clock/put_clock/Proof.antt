@@ -1,0 +1,35 @@
+-- `receivers::clock::put_clock` meets its contract: the four registers are set in turn.
+-- Assumes nothing.
+use Rattle.receivers.proofs.ClockLaws.{clock-is}
+use borrow.Author.Needs.{needs}
+use Rattle.receivers.proofs.clock.put_clock.Statement.{statement}
+use Rattle.receivers.proofs.clock.put_clock.Tie as tie
+
+put-reg-requires : tie.Need-put-reg-requires
+put-reg-requires c κs = search needs
+
+put-reg-requires-2 : tie.Need-put-reg-requires-2
+put-reg-requires-2 c κs = search needs
+
+put-reg-requires-3 : tie.Need-put-reg-requires-3
+put-reg-requires-3 c κs = search needs
+
+put-reg-requires-4 : tie.Need-put-reg-requires-4
+put-reg-requires-4 c κs = search needs
+
+same-length : tie.Need-same-length
+same-length c = search needs
+
+returns : tie.Need-returns
+returns c = clock-is _ _ _ _ _ (c .before .before .before .before .before .before .before .before .before .before .before .before .before .before .put-reg .ensures) (c .before .before .before .before .before .before .before .before .before .before .put-reg2 .ensures) (c .before .before .before .before .before .before .put-reg3 .ensures) (c .before .before .put-reg4 .ensures)
+
+pub put-clock-spec : {M : Type 1} → statement M
+put-clock-spec =
+    tie.close
+    (tie.spec
+    put-reg-requires
+    put-reg-requires-2
+    put-reg-requires-3
+    put-reg-requires-4
+    same-length
+    returns)

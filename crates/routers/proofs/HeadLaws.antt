@@ -1,0 +1,83 @@
+-- The header stage of one input, from the words that were read, and of all inputs, place by place.
+-- Assumes nothing.
+use Prim.Native.Nat.{ℕ, _+_, _%_, _<_, _≤_}
+use mathlib.Core.List.{List, []}
+use mathlib.Core.Path.{_≡_, sym, subst, _∙_, ap, ap₂}
+use native.Mathlib.Omega.{arith}
+use lib.ListN.{length}
+use Rattle.words.proofs.TestLaws.{yes=, no=}
+use Rattle.network.specs.Cycle.{outputFor}
+use Rattle.network.specs.Registers.{reg, put, movingWords, linkMark, linkWord, headMark, headWord, choiceRow, latchRow}
+use Rattle.network.specs.Machine.{nextHeadWord, nextChoice, nextLatch, nextRows, nextInRow}
+use Rattle.network.proofs.PutLaws.{put-length}
+use Rattle.network.proofs.FillLaws.{Wrote, wrote-one, wrote-then, Staged, stage-more, still, beside}
+use Rattle.routers.specs.Stepping.{headed}
+
+-- the output chosen, from the mark m that was read
+module _ (input latch mark w m : ℕ) (e : m ≡ mark) where
+  pub choice-none : m ≡ 0 → 0 ≡ nextChoice input latch mark w
+  unfolding nextChoice
+  choice-none h = rw (yes= (sym e ∙ h))
+
+  pub choice-own : (v o : ℕ) → v ≡ w → o ≡ outputFor input v → m ≡ 1 → o + 1 ≡ nextChoice input latch mark w
+  unfolding nextChoice
+  choice-own v o q r h =
+      let other : mark ≡ 0 → ⊥ = λ z. (let a : ⊥ = omega (arith, z) in a) in
+      rw (no= other, yes= (sym e ∙ h)) (ap (λ (x : ℕ). x + 1) (r ∙ ap (outputFor input) q))
+
+  pub choice-held : (v : ℕ) → v ≡ latch → (m ≡ 0 → ⊥) → (m ≡ 1 → ⊥) → v ≡ nextChoice input latch mark w
+  unfolding nextChoice
+  choice-held v q a b = rw (no= (λ f. a (e ∙ f)), no= (λ f. b (e ∙ f))) q
+
+-- the four registers of input k, one after the other
+pub head-is : (s : List ℕ) (k mark w word choice latch : ℕ) → mark ≡ reg s linkMark k → w ≡ reg s linkWord k
+    → word ≡ nextHeadWord mark w
+    → choice ≡ nextChoice (k % 5) (reg s latchRow k) (reg s linkMark k) (reg s linkWord k)
+    → latch ≡ nextLatch (k % 5) (reg s latchRow k) (reg s linkMark k) (reg s linkWord k)
+    → (s₁ s₂ s₃ s₄ : List ℕ) → s₁ ≡ put s headMark k mark → s₂ ≡ put s₁ headWord k word → s₃ ≡ put s₂ choiceRow k choice
+    → s₄ ≡ put s₃ latchRow k latch → s₄ ≡ headed s k
+unfolding headed
+head-is s k mark w word choice latch a b c d e s₁ s₂ s₃ s₄ p q r t =
+    let c′ : word ≡ nextHeadWord (reg s linkMark k) (reg s linkWord k) = c ∙ ap₂ nextHeadWord a b in
+    t
+    ∙ ap (λ x. put x latchRow k latch)
+    (r ∙ ap (λ x. put x choiceRow k choice) (q ∙ ap (λ x. put x headWord k word) p))
+    ∙ (λ i. put (put (put (put s headMark k (a i)) headWord k (c′ i)) choiceRow k (d i)) latchRow k (e i))
+
+-- one input more
+module _ (s now : List ℕ) (k : ℕ) (kl : k < 80) (long : movingWords ≤ length s) (g : Staged 3 6 k (nextInRow s []) s now) where
+  mark : reg now linkMark k ≡ reg s linkMark k
+  mark = beside 3 6 k (nextInRow s []) s now g linkMark k (omega arith) kl (λ a b. omega arith)
+
+  cell : reg now linkWord k ≡ reg s linkWord k
+  cell = beside 3 6 k (nextInRow s []) s now g linkWord k (omega arith) kl (λ a b. omega arith)
+
+  latch : reg now latchRow k ≡ reg s latchRow k
+  latch = still 3 6 k (nextInRow s []) s now g latchRow k (omega arith) kl (omega arith)
+
+  head-wrote : Wrote 3 6 k (λ row. nextInRow s [] row k) now (headed now k)
+  unfolding headed nextInRow nextRows
+  head-wrote =
+      let long₀ : movingWords ≤ length now = omega (arith, g .same-length) in
+      let s₁ : List ℕ = put now headMark k (reg now linkMark k) in
+      let long₁ : movingWords ≤ length s₁ = omega (arith, put-length now headMark k (reg now linkMark k)) in
+      let word₂ : ℕ = nextHeadWord (reg now linkMark k) (reg now linkWord k) in
+      let s₂ : List ℕ = put s₁ headWord k word₂ in
+      let long₂ : movingWords ≤ length s₂ = omega (arith, put-length s₁ headWord k word₂) in
+      let word₃ : ℕ = nextChoice (k % 5) (reg now latchRow k) (reg now linkMark k) (reg now linkWord k) in
+      let s₃ : List ℕ = put s₂ choiceRow k word₃ in
+      let long₃ : movingWords ≤ length s₃ = omega (arith, put-length s₂ choiceRow k word₃) in
+      let word₄ : ℕ = nextLatch (k % 5) (reg now latchRow k) (reg now linkMark k) (reg now linkWord k) in
+      let new : ℕ → ℕ = λ row. nextInRow s [] row k in
+      let first = wrote-one headMark k (reg now linkMark k) new now (omega arith) kl long₀ mark in
+      let second = wrote-one headWord k word₂ new s₁ (omega arith) kl long₁ (ap₂ nextHeadWord mark cell) in
+      let third = wrote-one choiceRow k word₃ new s₂ (omega arith) kl long₂ (λ i. nextChoice (k % 5) (latch i) (mark i) (cell i)) in
+      let fourth = wrote-one latchRow k word₄ new s₃ (omega arith) kl long₃ (λ i. nextLatch (k % 5) (latch i) (mark i) (cell i)) in
+      wrote-then 3 5 6 k new now s₃ (put s₃ latchRow k word₄) (omega arith) (omega arith) (omega arith) kl
+      (wrote-then 3 4 5 k new now s₂ s₃ (omega arith) (omega arith) (omega arith) kl
+      (wrote-then 3 3 4 k new now s₁ s₂ (omega arith) (omega arith) (omega arith) kl first second) third) fourth
+
+  pub heads-more : (next : List ℕ) → next ≡ headed now k → Staged 3 6 (k + 1) (nextInRow s []) s next
+  heads-more next e =
+      stage-more 3 6 k (nextInRow s []) s now next (omega arith) kl g
+      (subst (Wrote 3 6 k (λ row. nextInRow s [] row k) now) (sym e) head-wrote)

@@ -1,0 +1,199 @@
+-- One input of the crossbar: what it asks of each output, and what becomes of the two tables, from the words that were read.
+-- Assumes nothing.
+use Prim.Native.Nat.{ℕ, _+_, _-_, _*_, _/_, _%_, _<_, _≤_}
+use mathlib.Core.Bool.{Bool, true, false}
+use mathlib.Core.List.{List}
+use mathlib.Core.Path.{_≡_, refl, sym, subst, _∙_, ap}
+use native.Mathlib.Omega.{arith}
+use native.Mathlib.Decide.{ℕ-discrete}
+use lib.ListN.{length, set, length-set}
+use lib.Seq.{getD-set-same, getD-set-other}
+use Rattle.words.specs.Tests.{any, _and_, _≤?_, _=?_}
+use Rattle.words.specs.Words.{word, pick}
+use Rattle.words.proofs.AllLaws.{any-at, any-none}
+use Rattle.words.proofs.TestLaws.{and-no, and-both, and-no-right, is=, yes=, no=, yes≤, no≤}
+use Rattle.network.specs.Registers.{reg, headMark, headWord, choiceRow}
+use Rattle.routers.specs.Crossing.{asking, Crossed}
+use Rattle.routers.proofs.PlaceLaws.{same-pick, zero-pick}
+
+-- what becomes of an output's mark and word where nothing is asked of it
+mark-stays : (mark a : ℕ) → a ≡ 0 → mark ≡ pick (mark =? 0) a mark
+mark-stays mark a e = sym (ap (λ x. pick (mark =? 0) x mark) e ∙ zero-pick mark)
+
+word-stays : (mark a w h : ℕ) → a ≡ 0 → w ≡ pick (mark =? 0) (pick (a =? 0) w h) w
+word-stays mark a w h e = sym (ap (λ t. pick (mark =? 0) (pick t w h) w) (yes= e) ∙ same-pick (mark =? 0) w)
+
+-- where a mark is there already, whatever is asked
+mark-taken : (mark a : ℕ) → (mark ≡ 0 → ⊥) → mark ≡ pick (mark =? 0) a mark
+mark-taken mark a ne = sym (ap (λ t. pick t a mark) (no= ne))
+
+word-taken : (mark a w h : ℕ) → (mark ≡ 0 → ⊥) → w ≡ pick (mark =? 0) (pick (a =? 0) w h) w
+word-taken mark a w h ne = sym (ap (λ t. pick t (pick (a =? 0) w h) w) (no= ne))
+
+-- and where the output is free and something is asked
+mark-first : (mark a : ℕ) → mark ≡ 0 → a ≡ pick (mark =? 0) a mark
+mark-first mark a e = sym (ap (λ t. pick t a mark) (yes= e))
+
+word-first : (mark a w h : ℕ) → mark ≡ 0 → (a ≡ 0 → ⊥) → h ≡ pick (mark =? 0) (pick (a =? 0) w h) w
+word-first mark a w h e ne =
+    sym (ap (λ t. pick t (pick (a =? 0) w h) w) (yes= e) ∙ ap (λ t. pick t w h) (no= ne))
+
+module _ (s : List ℕ) (k : ℕ) where
+  -- an empty register asks for nothing, nor does a choice that is no output
+  pub asks-empty : (mark : ℕ) → mark ≡ reg s headMark k → mark ≡ 0 → (p : ℕ) → asking s k p ≡ 0
+  unfolding asking
+  asks-empty mark e z p =
+      ap (λ m. pick (p / 5 =? k / 5) (pick (reg s choiceRow k =? p % 5 + 1) m 0) 0) (sym e ∙ z)
+      ∙ ap (λ m. pick (p / 5 =? k / 5) m 0) (same-pick (reg s choiceRow k =? p % 5 + 1) 0)
+      ∙ same-pick (p / 5 =? k / 5) 0
+
+  asks-no : (p : ℕ) → (reg s choiceRow k ≡ p % 5 + 1 → ⊥) → asking s k p ≡ 0
+  unfolding asking
+  asks-no p ne =
+      ap (λ t. pick (p / 5 =? k / 5) (pick t (reg s headMark k) 0) 0) (no= ne) ∙ same-pick (p / 5 =? k / 5) 0
+
+  module _ (choice : ℕ) (e : choice ≡ reg s choiceRow k) where
+    pub asks-none : choice ≡ 0 → (p : ℕ) → asking s k p ≡ 0
+    asks-none z p = asks-no p (λ q. omega arith)
+
+    pub asks-past : 5 < choice → (p : ℕ) → asking s k p ≡ 0
+    asks-past z p = asks-no p (λ q. omega arith)
+
+    -- an output asks of its own place, and of no other
+    module _ (low : 1 ≤ choice) (high : choice ≤ 5) where
+      asks-own : asking s k (k / 5 * 5 + choice - 1) ≡ reg s headMark k
+      unfolding asking
+      asks-own =
+          let p : ℕ = k / 5 * 5 + choice - 1 in
+          let node : p / 5 ≡ k / 5 = omega arith in
+          let output : reg s choiceRow k ≡ p % 5 + 1 = omega arith in
+          ap (λ t. pick t (pick (reg s choiceRow k =? p % 5 + 1) (reg s headMark k) 0) 0) (yes= node)
+          ∙ ap (λ t. pick t (reg s headMark k) 0) (yes= output)
+
+      asks-other : (p : ℕ) → (p ≡ k / 5 * 5 + choice - 1 → ⊥) → asking s k p ≡ 0
+      unfolding asking
+      asks-other p ne = go (p / 5 =? k / 5) refl (reg s choiceRow k =? p % 5 + 1) refl
+        where
+          go : (a : Bool) → (p / 5 =? k / 5) ≡ a → (b : Bool) → (reg s choiceRow k =? p % 5 + 1) ≡ b
+              → pick a (pick b (reg s headMark k) 0) 0 ≡ 0
+          go true q true r =
+              let node = is= (p / 5) (k / 5) q in
+              let output = is= (reg s choiceRow k) (p % 5 + 1) r in
+              absurd (ne (omega arith))
+          go true q false r = refl
+          go false q b r = refl
+
+module _ (s : List ℕ) (k : ℕ) (marks cells : List ℕ) (ml : length marks ≡ 80) (cl : length cells ≡ 80) where
+  -- nothing is asked
+  pub crossed-none : ((p : ℕ) → asking s k p ≡ 0) → Crossed s k marks cells marks cells 0
+  crossed-none idle = record {
+    marks-length = ml;
+    cells-length = cl;
+    marks-next = λ p l. mark-stays (word marks p) (asking s k p) (idle p);
+    cells-next = λ p l. word-stays (word marks p) (asking s k p) (word cells p) (reg s headWord k) (idle p);
+    one = omega arith;
+    taken = λ n a b. untaken n;
+  }
+    where
+      untaken : (n : ℕ) → (1 ≤? 0) ≡ any (n * 5) (λ p. 1 ≤? word marks p and 1 ≤? asking s k p)
+      untaken n =
+          let none : 0 < 1 = omega arith in
+          no≤ none
+          ∙ sym (any-none (n * 5) _
+          (λ p l. let z : asking s k p < 1 = omega (arith, idle p) in and-no-right (1 ≤? word marks p) _ (no≤ z)))
+
+  -- an output is asked for, whose place is p
+  module _ (mark : ℕ) (me : mark ≡ reg s headMark k) (some : mark ≡ 0 → ⊥) (choice : ℕ) (ce : choice ≡ reg s choiceRow k)
+      (low : 1 ≤ choice) (high : choice ≤ 5) (small : k < 80) (place : ℕ) (pe : place ≡ k / 5 * 5 + choice - 1) where
+    own : asking s k place ≡ mark
+    own = ap (asking s k) pe ∙ asks-own s k choice ce low high ∙ sym me
+
+    other : (p : ℕ) → (p ≡ place → ⊥) → asking s k p ≡ 0
+    other p ne = asks-other s k choice ce low high p (λ q. ne (q ∙ sym pe))
+
+    -- it has a mark already
+    pub crossed-hit : (old : ℕ) → old ≡ word marks place → (old ≡ 0 → ⊥) → Crossed s k marks cells marks cells 1
+    crossed-hit old oe ne = record {
+      marks-length = ml;
+      cells-length = cl;
+      marks-next = λ p l. mark-at p (ℕ-discrete p place);
+      cells-next = λ p l. word-at p (ℕ-discrete p place);
+      one = omega arith;
+      taken = λ n a b. hit n a;
+    }
+      where
+        full : (p : ℕ) → p ≡ place → word marks p ≡ 0 → ⊥
+        full p q z = ne (oe ∙ ap (word marks) (sym q) ∙ z)
+
+        mark-at : (p : ℕ) → Dec (p ≡ place) → word marks p ≡ pick (word marks p =? 0) (asking s k p) (word marks p)
+        mark-at p (yes q) = mark-taken (word marks p) (asking s k p) (full p q)
+        mark-at p (no g) = mark-stays (word marks p) (asking s k p) (other p g)
+
+        word-at : (p : ℕ) → Dec (p ≡ place)
+            → word cells p ≡ pick (word marks p =? 0) (pick (asking s k p =? 0) (word cells p) (reg s headWord k)) (word cells p)
+        word-at p (yes q) = word-taken (word marks p) (asking s k p) (word cells p) (reg s headWord k) (full p q)
+        word-at p (no g) = word-stays (word marks p) (asking s k p) (word cells p) (reg s headWord k) (other p g)
+
+        hit : (n : ℕ) → k < n * 5 → (1 ≤? 1) ≡ any (n * 5) (λ p. 1 ≤? word marks p and 1 ≤? asking s k p)
+        hit n l =
+            let there : 1 ≤ word marks place = omega (arith, ne) in
+            let asked : 1 ≤ asking s k place = omega (arith, own, some) in
+            let one : 1 ≤ 1 = omega arith in
+            let inside : place < n * 5 = omega arith in
+            yes≤ one ∙ sym (any-at (n * 5) _ place inside (and-both (yes≤ there) (yes≤ asked)))
+
+    -- it is free
+    stored : (old : ℕ) → old ≡ word marks place → old ≡ 0 → (h : ℕ) → h ≡ reg s headWord k
+        → Crossed s k marks cells (set marks place mark) (set cells place h) 0
+    stored old oe free h he = record {
+      marks-length = length-set marks place mark ∙ ml;
+      cells-length = length-set cells place h ∙ cl;
+      marks-next = λ p l. mark-at p (ℕ-discrete p place);
+      cells-next = λ p l. word-at p (ℕ-discrete p place);
+      one = omega arith;
+      taken = λ n a b. untaken n;
+    }
+      where
+        empty : (p : ℕ) → p ≡ place → word marks p ≡ 0
+        empty p q = ap (word marks) q ∙ sym oe ∙ free
+
+        asked : (p : ℕ) → p ≡ place → asking s k p ≡ mark
+        asked p q = ap (asking s k) q ∙ own
+
+        inside : place < 80
+        inside = omega arith
+
+        mark-at : (p : ℕ) → Dec (p ≡ place) → word (set marks place mark) p ≡ pick (word marks p =? 0) (asking s k p) (word marks p)
+        mark-at p (yes q) =
+            ap (word (set marks place mark)) q ∙ getD-set-same marks place mark 0 (omega arith) ∙ sym (asked p q)
+            ∙ mark-first (word marks p) (asking s k p) (empty p q)
+        mark-at p (no g) = getD-set-other marks place p mark 0 g ∙ mark-stays (word marks p) (asking s k p) (other p g)
+
+        word-at : (p : ℕ) → Dec (p ≡ place)
+            → word (set cells place h) p
+            ≡ pick (word marks p =? 0) (pick (asking s k p =? 0) (word cells p) (reg s headWord k)) (word cells p)
+        word-at p (yes q) =
+            ap (word (set cells place h)) q ∙ getD-set-same cells place h 0 (omega arith) ∙ he
+            ∙ word-first (word marks p) (asking s k p) (word cells p) (reg s headWord k) (empty p q) (λ z. some (sym (asked p q) ∙ z))
+        word-at p (no g) =
+            getD-set-other cells place p h 0 g ∙ word-stays (word marks p) (asking s k p) (word cells p) (reg s headWord k) (other p g)
+
+        no-test : (p : ℕ) → Dec (p ≡ place) → (1 ≤? word marks p and 1 ≤? asking s k p) ≡ false
+        no-test p (yes q) =
+            let z : word marks p < 1 = omega (arith, empty p q) in
+            sym (and-no (1 ≤? asking s k p) (no≤ z))
+        no-test p (no g) =
+            let z : asking s k p < 1 = omega (arith, other p g) in
+            and-no-right (1 ≤? word marks p) _ (no≤ z)
+
+        untaken : (n : ℕ) → (1 ≤? 0) ≡ any (n * 5) (λ p. 1 ≤? word marks p and 1 ≤? asking s k p)
+        untaken n =
+            let none : 0 < 1 = omega arith in
+            no≤ none ∙ sym (any-none (n * 5) _ (λ p l. no-test p (ℕ-discrete p place)))
+
+    pub crossed-first : (old : ℕ) → old ≡ word marks place → old ≡ 0 → (h : ℕ) → h ≡ reg s headWord k
+        → (marks′ cells′ : List ℕ) → marks′ ≡ set marks place mark → cells′ ≡ set cells place h
+        → Crossed s k marks cells marks′ cells′ 0
+    crossed-first old oe free h he marks′ cells′ a b =
+        subst (λ m. Crossed s k marks cells m cells′ 0) (sym a)
+        (subst (λ w. Crossed s k marks cells (set marks place mark) w 0) (sym b) (stored old oe free h he))

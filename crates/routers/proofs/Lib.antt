@@ -1,0 +1,8 @@
+pub mod PlaceLaws
+pub mod HeadlessLaws
+pub mod InputLaws
+pub mod OrderLaws
+pub mod CrossLaws
+pub mod HeadLaws
+pub mod OutLaws
+pub mod LinkLaws

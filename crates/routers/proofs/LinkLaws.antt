@@ -1,0 +1,216 @@
+-- The link registers, node by node: four sides and the source.
+-- Assumes nothing.
+use Prim.Native.Nat.{ℕ, _+_, _*_, _/_, _%_, _<_, _≤_}
+use mathlib.Core.Bool.{Bool, true, false}
+use mathlib.Core.List.{List}
+use mathlib.Core.Path.{_≡_, refl, sym, subst, _∙_, ap, ap₂}
+use native.Mathlib.Omega.{arith}
+use native.Mathlib.Nat.{mul-le-mul}
+use lib.ListN.{length}
+use Rattle.words.specs.Tests.{_=?_}
+use Rattle.words.specs.Words.{word, pick}
+use Rattle.words.proofs.TestLaws.{yes=, no=}
+use Rattle.torus.specs.Torus.{InGrid, neighbourOf}
+use Rattle.torus.proofs.NeighbourLaws.{bounds, neighbour-inside}
+use Rattle.sheet.specs.Sheet.{columns, rows, nodes}
+use Rattle.sheet.specs.Passed.{Headed}
+use Rattle.network.specs.Registers.{reg, put, sheetIn, movingWords, linkMark, linkWord, outMark, outWord}
+use Rattle.network.specs.View.{sourceInput}
+use Rattle.network.specs.Machine.{at, neighbourPlace}
+use Rattle.network.specs.Stages.{stage, linkFrom}
+use Rattle.network.proofs.FillLaws.{Staged, stage-start, stage-more, beside}
+use Rattle.routers.specs.Stepping.{linked, placeBy, linkedBy}
+use Rattle.routers.proofs.OutLaws.{pair-wrote, filled}
+
+-- a link register is set, its mark and then its word
+pub link-is : (s s₁ s₂ : List ℕ) (k mark w : ℕ) → s₁ ≡ put s linkMark k mark → s₂ ≡ put s₁ linkWord k w → s₂ ≡ linked s k mark w
+unfolding linked
+link-is s s₁ s₂ k mark w p q = q ∙ ap (λ x. put x linkWord k w) p
+
+-- a place by a side, and that it lies in the rows
+module _ (cols count node side : ℕ) (g : InGrid cols count node) where
+  pub place-small : placeBy cols count node side < 80
+  place-small =
+      let b = bounds g in
+      omega (arith, neighbour-inside g side)
+
+  -- from the neighbour that was computed
+  pub side-is : (s s′ : List ℕ) (next mark w : ℕ) → next ≡ neighbourOf cols count node side
+      → mark ≡ reg s outMark (next * 5 + (side + 2) % 4) → w ≡ reg s outWord (next * 5 + (side + 2) % 4)
+      → s′ ≡ linked s (node * 5 + side) mark w
+      → s′ ≡ linkedBy s cols count node side
+  side-is s s′ next mark w e a b q =
+      let from : next * 5 + (side + 2) % 4 ≡ placeBy cols count node side = ap (λ n. n * 5 + (side + 2) % 4) e in
+      q ∙ ap₂ (linked s (at node side)) (a ∙ ap (reg s outMark) from) (b ∙ ap (reg s outWord) from)
+
+-- what the definition has at a side's place and at a source's
+module _ (marks cells s : List ℕ) (n node : ℕ) where
+  by-tests : (row : ℕ) (source first : Bool) → (n % 5 =? sourceInput) ≡ source → (row =? linkMark) ≡ first
+      → pick source (pick first (word marks (n / 5)) (word cells (n / 5)))
+      (pick first (reg s outMark (neighbourPlace s (n / 5) (n % 5))) (reg s outWord (neighbourPlace s (n / 5) (n % 5))))
+      ≡ linkFrom marks cells s row n
+  unfolding linkFrom
+  by-tests row source first a b =
+      sym (ap₂ (λ (t u : Bool). pick t (pick u (word marks (n / 5)) (word cells (n / 5)))
+      (pick u (reg s outMark (neighbourPlace s (n / 5) (n % 5))) (reg s outWord (neighbourPlace s (n / 5) (n % 5))))) a b)
+
+  later : (linkWord =? linkMark) ≡ false
+  later = no= (λ q. omega arith)
+
+  module _ (side : ℕ) (e : n ≡ at node side) (l : side < 4) where
+    no-source : (n % 5 =? sourceInput) ≡ false
+    no-source =
+        let other : n % 5 ≡ sourceInput → ⊥ = λ q. (let z : ⊥ = omega (arith, q) in z) in
+        no= other
+
+    by-side : (row : ℕ) → reg s row (neighbourPlace s node side) ≡ reg s row (neighbourPlace s (n / 5) (n % 5))
+    by-side row =
+        let own : node ≡ n / 5 = omega arith in
+        let input : side ≡ n % 5 = omega arith in
+        ap₂ (λ (a b : ℕ). reg s row (neighbourPlace s a b)) own input
+
+    side-mark : reg s outMark (neighbourPlace s node side) ≡ linkFrom marks cells s linkMark n
+    side-mark = by-side outMark ∙ by-tests linkMark false true no-source (yes= refl)
+
+    side-word : reg s outWord (neighbourPlace s node side) ≡ linkFrom marks cells s linkWord n
+    side-word = by-side outWord ∙ by-tests linkWord false false no-source later
+
+  module _ (e : n ≡ at node sourceInput) where
+    is-source : (n % 5 =? sourceInput) ≡ true
+    is-source =
+        let input : n % 5 ≡ sourceInput = omega arith in
+        yes= input
+
+    own-node : node ≡ n / 5
+    own-node = omega arith
+
+    source-mark : word marks node ≡ linkFrom marks cells s linkMark n
+    source-mark = ap (word marks) own-node ∙ by-tests linkMark true true is-source (yes= refl)
+
+    source-word : word cells node ≡ linkFrom marks cells s linkWord n
+    source-word = ap (word cells) own-node ∙ by-tests linkWord true false is-source later
+
+-- one register more, from what stands in it
+module _ (marks cells s now next : List ℕ) (n n′ : ℕ) (small : n < 80) (more : n′ ≡ n + 1) (long : movingWords ≤ length s)
+    (g : Staged 1 2 n (linkFrom marks cells s) s now) where
+  link-more : (mark w : ℕ) → mark ≡ linkFrom marks cells s linkMark n → w ≡ linkFrom marks cells s linkWord n
+      → next ≡ linked now n mark w → Staged 1 2 n′ (linkFrom marks cells s) s next
+  unfolding linked
+  link-more mark w a b e =
+      let long₀ : movingWords ≤ length now = omega (arith, g .same-length) in
+      subst (λ i. Staged 1 2 i (linkFrom marks cells s) s next) (sym more)
+      (stage-more 1 2 n (linkFrom marks cells s) s now next (omega arith) small g
+      (pair-wrote linkMark n mark w (λ row. linkFrom marks cells s row n) now (put now linkMark n mark) next (omega arith) small long₀
+      a b refl e))
+
+  -- from the neighbour by a side: its output is not written here
+  side-more : (cols count node side : ℕ) → n ≡ at node side → side < 4 → cols ≡ columns (sheetIn s) → count ≡ rows (sheetIn s)
+      → InGrid cols count node → next ≡ linkedBy now cols count node side
+      → Staged 1 2 n′ (linkFrom marks cells s) s next
+  side-more cols count node side e l own-cols own-rows grid q =
+      let place : ℕ = placeBy cols count node side in
+      let inside : place < 80 = place-small cols count node side grid in
+      let same : place ≡ neighbourPlace s node side = ap₂ (λ (a b : ℕ). placeBy a b node side) own-cols own-rows in
+      let mark : reg now outMark place ≡ reg s outMark place =
+      beside 1 2 n (linkFrom marks cells s) s now g outMark place (omega arith) inside (λ a b. omega arith) in
+      let cell : reg now outWord place ≡ reg s outWord place =
+      beside 1 2 n (linkFrom marks cells s) s now g outWord place (omega arith) inside (λ a b. omega arith) in
+      link-more (reg now outMark place) (reg now outWord place)
+      (mark ∙ ap (reg s outMark) same ∙ side-mark marks cells s n node side e l)
+      (cell ∙ ap (reg s outWord) same ∙ side-word marks cells s n node side e l)
+      (q ∙ ap (λ k. linked now k (reg now outMark place) (reg now outWord place)) (sym e))
+
+  -- from the source wire
+  source-more : (node mark w : ℕ) → n ≡ at node sourceInput → mark ≡ word marks node → w ≡ word cells node
+      → next ≡ linked now (at node sourceInput) mark w → Staged 1 2 n′ (linkFrom marks cells s) s next
+  source-more node mark w e a b q =
+      link-more mark w (a ∙ source-mark marks cells s n node e) (b ∙ source-word marks cells s n node e)
+      (q ∙ ap (λ k. linked now k mark w) (sym e))
+
+-- the loop over the nodes: those before node are done
+pub record Linking (s marks cells : List ℕ) (cols count all node : ℕ) (now : List ℕ) : Type 0 where
+  pub own-cols : cols ≡ columns (sheetIn s)
+  pub own-rows : count ≡ rows (sheetIn s)
+  pub in-all : all ≡ cols * count
+  pub few : all ≤ 16
+  pub inside : node ≤ all
+  pub head : Headed (sheetIn s)
+  pub long : movingWords ≤ length s
+  pub so-far : Staged 1 2 (node * 5) (linkFrom marks cells s) s now
+
+-- a sheet's nodes are few
+pub few-nodes : (z : List ℕ) → Headed z → nodes z ≤ 16
+few-nodes z h = mul-le-mul {n₁ = columns z} {m₁ = rows z} {n₂ = 4} {m₂ = 4} (h .columns-high) (h .rows-high)
+
+-- the columns and the rows that were read
+module _ (s z : List ℕ) (e : z ≡ sheetIn s) (cols count : ℕ) (a : cols ≡ columns z) (b : count ≡ rows z) (h : Headed (sheetIn s)) where
+  pub few-read : cols * count ≤ 16
+  few-read =
+      let all-same : cols * count ≡ nodes (sheetIn s) = ap₂ _*_ (a ∙ ap columns e) (b ∙ ap rows e) in
+      omega (arith, few-nodes (sheetIn s) h, all-same)
+
+  pub linking-start : (marks cells : List ℕ) → movingWords ≤ length s → Linking s marks cells cols count (cols * count) 0 s
+  linking-start marks cells long = record {
+    own-cols = a ∙ ap columns e;
+    own-rows = b ∙ ap rows e;
+    in-all = refl;
+    few = few-read;
+    inside = omega arith;
+    head = h;
+    long = long;
+    so-far = stage-start 1 2 (linkFrom marks cells s) s;
+  }
+
+module _ (s marks cells : List ℕ) (cols count all node : ℕ) (now : List ℕ) (g : Linking s marks cells cols count all node now) where
+  pub linking-grid : node < all → InGrid cols count node
+  linking-grid l =
+      let h = g .head in
+      record {
+        cols-low = omega (arith, g .own-cols);
+        cols-high = omega (arith, g .own-cols);
+        rows-low = omega (arith, g .own-rows);
+        rows-high = omega (arith, g .own-rows);
+        inside = omega (arith, g .in-all);
+      }
+
+  -- the five inputs of one node
+  pub linking-more : node < all → (s₁ s₂ s₃ s₄ s₅ : List ℕ)
+      → s₁ ≡ linkedBy now cols count node 0
+      → s₂ ≡ linkedBy s₁ cols count node 1
+      → s₃ ≡ linkedBy s₂ cols count node 2
+      → s₄ ≡ linkedBy s₃ cols count node 3
+      → (mark w : ℕ) → mark ≡ word marks node → w ≡ word cells node → s₅ ≡ linked s₄ (at node sourceInput) mark w
+      → Linking s marks cells cols count all (node + 1) s₅
+  linking-more l s₁ s₂ s₃ s₄ s₅ a b c d mark w me we e =
+      let grid = linking-grid l in
+      let small : node * 5 + 4 < 80 = omega (arith, g .few) in
+      let g₁ : Staged 1 2 (node * 5 + 1) (linkFrom marks cells s) s s₁ =
+      side-more marks cells s now s₁ (node * 5) (node * 5 + 1) (omega arith) refl (g .long) (g .so-far) cols count node 0
+      (omega arith) (omega arith) (g .own-cols) (g .own-rows) grid a in
+      let g₂ : Staged 1 2 (node * 5 + 2) (linkFrom marks cells s) s s₂ =
+      side-more marks cells s s₁ s₂ (node * 5 + 1) (node * 5 + 2) (omega arith) (omega arith) (g .long) g₁ cols count node 1
+      refl (omega arith) (g .own-cols) (g .own-rows) grid b in
+      let g₃ : Staged 1 2 (node * 5 + 3) (linkFrom marks cells s) s s₃ =
+      side-more marks cells s s₂ s₃ (node * 5 + 2) (node * 5 + 3) (omega arith) (omega arith) (g .long) g₂ cols count node 2
+      refl (omega arith) (g .own-cols) (g .own-rows) grid c in
+      let g₄ : Staged 1 2 (node * 5 + 4) (linkFrom marks cells s) s s₄ =
+      side-more marks cells s s₃ s₄ (node * 5 + 3) (node * 5 + 4) (omega arith) (omega arith) (g .long) g₃ cols count node 3
+      refl (omega arith) (g .own-cols) (g .own-rows) grid d in
+      record {
+        own-cols = g .own-cols;
+        own-rows = g .own-rows;
+        in-all = g .in-all;
+        few = g .few;
+        inside = omega arith;
+        head = g .head;
+        long = g .long;
+        so-far =
+            source-more marks cells s s₄ s₅ (node * 5 + 4) ((node + 1) * 5) (omega arith) (omega arith) (g .long) g₄
+            node mark w refl me we e;
+      }
+
+  pub linking-done : all ≤ node → now ≡ stage 1 2 (nodes (sheetIn s) * 5) (linkFrom marks cells s) s
+  linking-done l =
+      let all-same : cols * count ≡ nodes (sheetIn s) = ap₂ _*_ (g .own-cols) (g .own-rows) in
+      filled 1 2 (nodes (sheetIn s) * 5) (node * 5) (linkFrom marks cells s) s now (g .long) (g .so-far)
+      (omega (arith, all-same, g .in-all, g .inside)) (omega (arith, all-same, g .in-all))

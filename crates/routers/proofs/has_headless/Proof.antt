@@ -1,0 +1,51 @@
+-- `routers::has_headless` meets its contract: in the loop no place before `k` has such a word; the places are the inputs of all nodes.
+-- Assumes nothing.
+use native.Mathlib.Omega.{arith}
+use Prim.Native.Nat.{_≤_, _-_}
+use mathlib.Core.Bool.{false}
+use mathlib.Core.Path.{_≡_, sym, _∙_}
+use Rattle.words.specs.Tests.{any}
+use Rattle.routers.proofs.HeadlessLaws.{headlessAt, any-nothing, any-more, headless-found, headless-none}
+use Rattle.routers.proofs.has_headless.Statement.{statement}
+use Rattle.routers.proofs.has_headless.Tie as tie
+
+abbrev Inv-loop : tie.InvT-loop
+Inv-loop s count k₀ k = (k ≤ count) × (any k (headlessAt s) ≡ false)
+
+abbrev μ-loop : tie.MeasureT-loop
+μ-loop s count k₀ k = count - k
+
+loop-holds : tie.Need-loop-holds Inv-loop μ-loop
+loop-holds c = (omega arith, any-nothing _)
+
+is-headless-requires : tie.Need-is-headless-requires Inv-loop μ-loop
+is-headless-requires c κs = tt
+
+returns : tie.Need-returns Inv-loop μ-loop
+returns c = headless-found _ _ (c .before .before .before .before .before .pre .0) _ _ (omega arith) (c .before .is-headless .ensures) (c .if1 .taken)
+
+add-k : tie.Need-add-k Inv-loop μ-loop
+add-k c = omega arith
+
+loop-less : tie.Need-loop-less Inv-loop μ-loop
+loop-less c = omega arith
+
+loop-again : tie.Need-loop-again Inv-loop μ-loop
+loop-again c = (omega arith, any-more _ _ (c .before .before .before .loop .inv .1) (sym (c .before .is-headless .ensures) ∙ c .if1 .left))
+
+returns-2 : tie.Need-returns-2 Inv-loop μ-loop
+returns-2 c = headless-none _ _ (c .before .before .before .pre .0) _ (c .before .loop .inv .1) (omega arith) (omega arith)
+
+pub has-headless-spec : {M : Type 1} → statement M
+has-headless-spec =
+    tie.close
+    (tie.spec
+    Inv-loop
+    μ-loop
+    loop-holds
+    is-headless-requires
+    returns
+    add-k
+    loop-less
+    loop-again
+    returns-2)

@@ -1,0 +1,52 @@
+-- `routers::step_heads` meets its contract: each turn writes one place of the four rows, from registers that are not written yet.
+-- Assumes nothing.
+use native.Mathlib.Omega.{arith}
+use Prim.Native.Nat.{_≤_, _-_}
+use mathlib.Core.List.{[]}
+use Rattle.network.specs.Machine.{nextInRow}
+use Rattle.network.proofs.FillLaws.{Staged, stage-start}
+use Rattle.routers.proofs.HeadLaws.{heads-more}
+use Rattle.routers.proofs.OutLaws.{filled}
+use Rattle.routers.proofs.step_heads.Statement.{statement}
+use Rattle.routers.proofs.step_heads.Tie as tie
+
+abbrev Inv-loop : tie.InvT-loop
+Inv-loop s₀ count k₀ s k = (k ≤ count) × Staged 3 6 k (nextInRow s₀ []) s₀ s
+
+abbrev μ-loop : tie.MeasureT-loop
+μ-loop s₀ count k₀ s k = count - k
+
+loop-holds : tie.Need-loop-holds Inv-loop μ-loop
+loop-holds c = (omega arith, stage-start _ _ _ _)
+
+step-head-requires : tie.Need-step-head-requires Inv-loop μ-loop
+step-head-requires c κs = tt
+
+add-k : tie.Need-add-k Inv-loop μ-loop
+add-k c = omega arith
+
+loop-less : tie.Need-loop-less Inv-loop μ-loop
+loop-less c = omega arith
+
+loop-again : tie.Need-loop-again Inv-loop μ-loop
+loop-again c = (omega arith, heads-more _ _ _ (omega arith) (c .before .before .before .before .before .before .before .pre .0) (c .before .before .before .before .before .loop .inv .1) _ (c .before .before .step-head .ensures))
+
+same-length : tie.Need-same-length Inv-loop μ-loop
+same-length c = c .before .loop .inv .1 .same-length
+
+returns : tie.Need-returns Inv-loop μ-loop
+returns c = filled _ _ _ _ _ _ _ (c .before .before .before .pre .0) (c .before .loop .inv .1) (omega arith) (omega arith)
+
+pub step-heads-spec : {M : Type 1} → statement M
+step-heads-spec =
+    tie.close
+    (tie.spec
+    Inv-loop
+    μ-loop
+    loop-holds
+    step-head-requires
+    add-k
+    loop-less
+    loop-again
+    same-length
+    returns)

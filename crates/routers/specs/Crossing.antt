@@ -1,0 +1,23 @@
+-- What one input does to the two tables of the outputs' marks and words. Nobody has to believe this: the crossbar's own contract says
+-- what the tables hold in the end.
+use Prim.Native.Nat.{ℕ, _+_, _*_, _/_, _%_, _<_}
+use mathlib.Core.Path.{_≡_}
+use mathlib.Core.List.{List}
+use lib.ListN.{length}
+use Rattle.words.specs.Tests.{any, _and_, _≤?_, _=?_}
+use Rattle.words.specs.Words.{word, pick}
+use Rattle.network.specs.Registers.{reg, headMark, headWord, choiceRow}
+
+-- the mark that input k asks of the output at a place; 0 where it asks for another, or nothing
+unfoldable pub asking : List ℕ → ℕ → ℕ → ℕ
+asking s k place = pick (place / 5 =? k / 5) (pick (reg s choiceRow k =? place % 5 + 1) (reg s headMark k) 0) 0
+
+-- the tables before and after input k; hit is 1 where the output that it asks for was taken, else 0
+pub record Crossed (s : List ℕ) (k : ℕ) (marks cells marks′ cells′ : List ℕ) (hit : ℕ) : Type 0 where
+  pub marks-length : length marks′ ≡ 80
+  pub cells-length : length cells′ ≡ 80
+  pub marks-next : (p : ℕ) → p < 80 → word marks′ p ≡ pick (word marks p =? 0) (asking s k p) (word marks p)
+  pub cells-next : (p : ℕ) → p < 80
+      → word cells′ p ≡ pick (word marks p =? 0) (pick (asking s k p =? 0) (word cells p) (reg s headWord k)) (word cells p)
+  pub one : hit < 2
+  pub taken : (n : ℕ) → k < n * 5 → n * 5 < 81 → (1 ≤? hit) ≡ any (n * 5) (λ p. 1 ≤? word marks p and 1 ≤? asking s k p)

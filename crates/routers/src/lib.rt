@@ -1,0 +1,182 @@
+// The routers' part of a clock cycle, over the words of a session state: number 20's tests of their words, and the three stages, each
+// written in place.
+ghost use mathlib.Core.Path.{_≡_};
+ghost use Prim.Native.Nat.{_*_, _/_, _%_, _<_, _≤_};
+ghost use mathlib.Core.List.{[]};
+ghost use lib.ListN.{length};
+ghost use Rattle.words.specs.Tests.{any, _and_, _≤?_, _<?_, _=?_};
+ghost use Rattle.words.specs.Words.{pick, tab};
+ghost use Rattle.torus.specs.Torus.{InGrid};
+ghost use Rattle.sheet.specs.Sheet.{nodes as nodeCount};
+ghost use Rattle.sheet.specs.Passed.{Headed};
+ghost use Rattle.network.specs.Registers.{reg as regOf, sheetIn, movingWords, linkMark, linkWord, latchRow};
+ghost use Rattle.network.specs.Machine.{nextChoice, nextOutMark, nextOutWord, collidesIn, headlessIn, nextInRow};
+ghost use Rattle.network.specs.Stages.{stage, linkFrom, outFrom};
+ghost use Rattle.routers.specs.Crossing.{Crossed};
+ghost use Rattle.routers.specs.Stepping.{linked, linkedBy, headed};
+use network::put_reg;
+use network::reg;
+
+// The word in link register k is payload, and no header has set the latch that would steer it.
+fn is_headless(s: &[u32], k: u32) -> bool
+    ensures { λ r. ⌜ r ≡ (2 ≤? regOf (now (s .entry)) linkMark k and regOf (now (s .entry)) latchRow k =? 0) ⌝ }
+{
+    if reg(s, network::LINK_MARK, k) < 2 {
+        return false;
+    }
+    reg(s, network::LATCH_ROW, k) == 0
+}
+
+// Number 20: some router's payload word has no latch to steer it. A cycle, which knows its nodes, meets the requires, here and below.
+pub fn has_headless(s: &[u32], count: u32) -> bool
+    requires { ⌜ (count ≡ nodeCount (sheetIn (now s)) * 5) × (count ≤ 80) ⌝ }
+    ensures { λ r. ⌜ r ≡ any (nodeCount (sheetIn (now (s .entry)))) (λ node. any 5 (headlessIn (now (s .entry)) node)) ⌝ }
+{
+    let mut k: u32 = 0;
+    while k < count {
+        if is_headless(s, k) {
+            return true;
+        }
+        k += 1;
+    }
+    false
+}
+
+// The word of input k goes to the output that was chosen for it, where no other word is yet; 1 where one is, else 0.
+fn cross_input(s: &[u32], k: u32, marks: &mut [u32], cells: &mut [u32]) -> u32
+    requires { ⌜ (k < 80) × (length (now marks) ≡ 80) × (length (now cells) ≡ 80) ⌝ }
+    ensures { λ r. ⌜ Crossed (now (s .entry)) k (now (marks .entry)) (now (cells .entry)) (now (marks .exit)) (now (cells .exit)) r ⌝ }
+{
+    let mark = reg(s, network::HEAD_MARK, k);
+    if mark == 0 {
+        return 0;
+    }
+    let choice = reg(s, network::CHOICE_ROW, k);
+    if choice == 0 {
+        return 0;
+    }
+    if network::OUTPUTS < choice {
+        return 0;
+    }
+    let place = ((k / 5) * 5 + choice - 1) as usize;
+    if words::get(marks, place) != 0 {
+        return 1;
+    }
+    words::put(marks, place, mark);
+    words::put(cells, place, reg(s, network::HEAD_WORD, k));
+    0
+}
+
+// The crossbar of all nodes: what goes on each output, into two lent tables of zeros. Number 20: two words want one output; the first
+// stays.
+pub fn cross(s: &[u32], nodes: u32, marks: &mut [u32], cells: &mut [u32]) -> bool
+    requires { ⌜ (nodes ≡ nodeCount (sheetIn (now s))) × (nodes ≤ 16) × (now marks ≡ tab 80 (λ k. 0)) × (now cells ≡ tab 80 (λ k. 0)) ⌝ }
+    ensures collision { λ r. ⌜ r ≡ any (nodeCount (sheetIn (now (s .entry)))) (λ node. any 5 (collidesIn (now (s .entry)) node)) ⌝ }
+    ensures marks { λ _. ⌜ now (marks .exit) ≡ tab 80 (λ k. pick (k <? nodeCount (sheetIn (now (s .entry))) * 5) (nextOutMark (now (s .entry)) (k / 5) (k % 5)) 0) ⌝ }
+    ensures cells { λ _. ⌜ now (cells .exit) ≡ tab 80 (λ k. pick (k <? nodeCount (sheetIn (now (s .entry))) * 5) (nextOutWord (now (s .entry)) (k / 5) (k % 5)) 0) ⌝ }
+{
+    let count = nodes * 5;
+    let mut hits: u32 = 0;
+    let mut k: u32 = 0;
+    while k < count {
+        hits += cross_input(s, k, marks, cells);
+        k += 1;
+    }
+    1 <= hits
+}
+
+// The output chosen for the word in link register k: a header's own, a payload word's by the latch; one more than it, 0 for none.
+fn next_choice(s: &[u32], k: u32) -> u32
+    ensures { λ r. ⌜ r ≡ nextChoice (k % 5) (regOf (now (s .entry)) latchRow k) (regOf (now (s .entry)) linkMark k) (regOf (now (s .entry)) linkWord k) ⌝ }
+{
+    let mark = reg(s, network::LINK_MARK, k);
+    if mark == 0 {
+        return 0;
+    }
+    if mark == 1 {
+        return network::output_for(k % 5, reg(s, network::LINK_WORD, k)) + 1;
+    }
+    reg(s, network::LATCH_ROW, k)
+}
+
+// The header stage of input k: its mark, its word, its choice, and its latch.
+fn step_head(s: &mut [u32], k: u32)
+    ensures { λ _. ⌜ now (s .exit) ≡ headed (now (s .entry)) k ⌝ }
+{
+    let mark = reg(s, network::LINK_MARK, k);
+    let word = network::next_head_word(mark, reg(s, network::LINK_WORD, k));
+    let choice = next_choice(s, k);
+    let latch = network::next_latch(s, k);
+    put_reg(s, network::HEAD_MARK, k, mark);
+    put_reg(s, network::HEAD_WORD, k, word);
+    put_reg(s, network::CHOICE_ROW, k, choice);
+    put_reg(s, network::LATCH_ROW, k, latch);
+}
+
+// The header stages of so many inputs.
+pub fn step_heads(s: &mut [u32], count: u32)
+    requires { ⌜ (movingWords ≤ length (now s)) × (count ≤ 80) ⌝ }
+    ensures { λ _. ⌜ now (s .exit) ≡ stage 3 6 count (nextInRow (now (s .entry)) []) (now (s .entry)) ⌝ }
+{
+    let mut k: u32 = 0;
+    while k < count {
+        step_head(s, k);
+        k += 1;
+    }
+}
+
+// Puts a mark and a word into link register k.
+fn put_link(s: &mut [u32], k: u32, mark: u32, word: u32)
+    ensures { λ _. ⌜ now (s .exit) ≡ linked (now (s .entry)) k mark word ⌝ }
+{
+    put_reg(s, network::LINK_MARK, k, mark);
+    put_reg(s, network::LINK_WORD, k, word);
+}
+
+// The link register of a side's input: what is on the neighbour's output by the opposite side.
+fn step_side(s: &mut [u32], cols: u32, rows: u32, node: u32, side: u32)
+    requires { ⌜ (InGrid cols rows node) × (side < 4) ⌝ }
+    ensures { λ _. ⌜ now (s .exit) ≡ linkedBy (now (s .entry)) cols rows node side ⌝ }
+{
+    let from = torus::neighbour(cols, rows, node, side) * 5 + (side + 2) % 4;
+    let mark = reg(s, network::OUT_MARK, from);
+    let word = reg(s, network::OUT_WORD, from);
+    put_link(s, node * 5 + side, mark, word);
+}
+
+// The link registers of all inputs: the neighbours' outputs, and what is on the source wires, a mark and a word a node.
+pub fn step_links(s: &mut [u32], marks: &[u32], cells: &[u32])
+    requires { ⌜ (Headed (sheetIn (now s))) × (movingWords ≤ length (now s)) ⌝ }
+    ensures { λ _. ⌜ now (s .exit) ≡ stage 1 2 (nodeCount (sheetIn (now (s .entry))) * 5) (linkFrom (now (marks .entry)) (now (cells .entry)) (now (s .entry))) (now (s .entry)) ⌝ }
+{
+    let sheet = network::sheet_of(s);
+    let cols = words::get(sheet, 0);
+    let rows = words::get(sheet, 1);
+    let nodes = cols * rows;
+    let mut node: u32 = 0;
+    while node < nodes {
+        step_side(s, cols, rows, node, 0);
+        step_side(s, cols, rows, node, 1);
+        step_side(s, cols, rows, node, 2);
+        step_side(s, cols, rows, node, 3);
+        let mark = words::get(marks, node as usize);
+        let word = words::get(cells, node as usize);
+        put_link(s, node * 5 + network::SOURCE_INPUT, mark, word);
+        node += 1;
+    }
+}
+
+// The out registers of so many outputs, from the crossbar's tables.
+pub fn step_outs(s: &mut [u32], count: u32, marks: &[u32], cells: &[u32])
+    requires { ⌜ (movingWords ≤ length (now s)) × (count ≤ 80) ⌝ }
+    ensures { λ _. ⌜ now (s .exit) ≡ stage 7 8 count (outFrom (now (marks .entry)) (now (cells .entry))) (now (s .entry)) ⌝ }
+{
+    let mut k: u32 = 0;
+    while k < count {
+        let mark = words::get(marks, k as usize);
+        let word = words::get(cells, k as usize);
+        put_reg(s, network::OUT_MARK, k, mark);
+        put_reg(s, network::OUT_WORD, k, word);
+        k += 1;
+    }
+}

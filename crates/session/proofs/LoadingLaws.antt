@@ -1,0 +1,143 @@
+-- A load: the number of the memory words that it wants, and the words afterwards, from the loops that cleared and copied.
+-- Assumes nothing.
+use Prim.Native.Nat.{ℕ, _+_, _*_, _≤_, _<_}
+use mathlib.Core.List.{List, [], _∷_, _++_, append-assoc}
+use mathlib.Core.Path.{_≡_, refl, sym, _∙_, ap, ap₂}
+use native.Mathlib.Omega.{arith}
+use native.Mathlib.Numerals.{add-one}
+use lib.ListN.{length, take, drop, set, length-append, length-set}
+use lib.Seq.{drop-cons, set-at, append-snoc, take-at, drop-at, drop-drop, take-length, paste, paste-zero, paste-suc}
+use Rattle.words.specs.Words.{word, tab}
+use Rattle.words.proofs.WordLaws.{length-tab}
+use Rattle.sheet.specs.Sheet.{columns, rows, memoryWords, nodes}
+use Rattle.sheet.specs.Rules.{verdict}
+use Rattle.network.specs.Registers.{movingWords, stateWords}
+use Rattle.session.specs.Calls.{loadNumber, loaded}
+use Rattle.session.proofs.NumberLaws.{load-passed}
+use Rattle.soundness.proofs.SheetLaws.{sheet-bounds}
+
+-- the memory words of all nodes of a sheet that passes are few
+pub few-nodes : (z : List ℕ) → verdict z ≡ 0 → (a b : ℕ) → a ≡ columns z → b ≡ rows z → a * b ≤ 16
+few-nodes z e a b p q =
+    let n : a * b ≡ nodes z = ap₂ _*_ p q in
+    omega (arith, sheet-bounds z e .few-nodes)
+
+pub small-memory : (z : List ℕ) → verdict z ≡ 0 → (a : ℕ) → a ≡ memoryWords z → a ≤ 16384
+small-memory z e a p = omega (arith, sheet-bounds z e .small-memory)
+
+pub wanted-is : (z : List ℕ) (a b d : ℕ) → a ≡ columns z → b ≡ rows z → d ≡ memoryWords z → a * b * d ≡ nodes z * memoryWords z
+wanted-is z a b d p q r = ap₂ _*_ (ap₂ _*_ p q) r
+
+-- the loop that clears: so many words are 0, the others as they were
+abbrev zeros : ℕ → List ℕ
+zeros n = tab n (λ k. 0)
+
+pub record Cleared (before now : List ℕ) (n : ℕ) : Type 0 where
+  pub cleared : now ≡ zeros n ++ drop n before
+  pub inside : n ≤ length before
+  pub long : length now ≡ length before
+
+pub clear-start : (s : List ℕ) → Cleared s s 0
+unfolding tab
+clear-start s = record { cleared = refl; inside = omega arith; long = refl }
+
+-- word n behind words in front of it is set
+set-next : (front s : List ℕ) (n w : ℕ) → length front ≡ n → n < length s → set (front ++ drop n s) n w ≡ front ++ (w ∷ drop (n + 1) s)
+set-next front s n w e l =
+    ap (λ (r : List ℕ). set (front ++ r) n w) (drop-cons s n 0 l)
+    ∙ set-at front _ _ w n e
+    ∙ ap (λ (k : ℕ). front ++ (w ∷ drop k s)) (sym (add-one n))
+
+zeros-more : (n : ℕ) → zeros (n + 1) ≡ zeros n ++ (0 ∷ [])
+unfolding tab
+zeros-more n = ap zeros (add-one n)
+
+pub clear-more : (s r : List ℕ) (n : ℕ) → Cleared s r n → n < length s → Cleared s (set r n 0) (n + 1)
+clear-more s r n g l =
+    record {
+      cleared =
+          ap (λ (x : List ℕ). set x n 0) (g .cleared)
+          ∙ set-next (zeros n) s n 0 (length-tab n _) l
+          ∙ sym (append-snoc (zeros n) 0 (drop (n + 1) s))
+          ∙ ap (λ (x : List ℕ). x ++ drop (n + 1) s) (sym (zeros-more n));
+      inside = omega arith;
+      long = length-set r n 0 ∙ g .long;
+    }
+
+pub clear-done : (s r : List ℕ) (n count : ℕ) → Cleared s r n → n ≤ count → count ≤ n → r ≡ zeros count ++ drop count s
+clear-done s r n count g a b =
+    let e : n ≡ count = omega arith in
+    g .cleared ∙ ap (λ (k : ℕ). zeros k ++ drop k s) e
+
+-- the loop that copies: so many words of another list stand at a place
+pub record Copied (before now : List ℕ) (at : ℕ) (from : List ℕ) (n : ℕ) : Type 0 where
+  pub copied : now ≡ paste before at from n
+  pub inside : n ≤ length from
+  pub long : length now ≡ length before
+  pub fits : at + length from ≤ length before
+
+pub copy-start : (s : List ℕ) (at : ℕ) (from : List ℕ) → at + length from ≤ length s → Copied s s at from 0
+copy-start s at from h = record { copied = paste-zero s at from; inside = omega arith; long = refl; fits = h }
+
+pub copy-more : (s r : List ℕ) (at : ℕ) (from : List ℕ) (n : ℕ) → Copied s r at from n → n < length from
+    → Copied s (set r (at + n) (word from n)) at from (n + 1)
+copy-more s r at from n g l =
+    let h : at + n < length s = omega (arith, g .fits) in
+    record {
+      copied =
+          ap (λ (x : List ℕ). set x (at + n) (word from n)) (g .copied)
+          ∙ paste-suc s at from n 0 h l
+          ∙ ap (paste s at from) (sym (add-one n));
+      inside = omega arith;
+      long = length-set r (at + n) (word from n) ∙ g .long;
+      fits = g .fits;
+    }
+
+pub copy-done : (s r : List ℕ) (at : ℕ) (from : List ℕ) (n : ℕ) → Copied s r at from n → length from ≤ n
+    → r ≡ paste s at from (length from)
+copy-done s r at from n g l =
+    let e : n ≡ length from = omega (arith, g .inside) in
+    g .copied ∙ ap (paste s at from) e
+
+-- the words in front, then a word, then a list, over any number n of words in front
+module _ (front s z : List ℕ) (n w : ℕ) (e : length front ≡ n) (l : n < length s) where
+  long-front : length (front ++ (w ∷ [])) ≡ n + 1
+  long-front = length-append front (w ∷ []) ∙ ap (λ (k : ℕ). k + 1) e
+
+  set-front : set (front ++ drop n s) n w ≡ (front ++ (w ∷ [])) ++ drop (n + 1) s
+  set-front = set-next front s n w e l ∙ sym (append-snoc front w (drop (n + 1) s))
+
+  behind : drop (n + 1 + length z) ((front ++ (w ∷ [])) ++ drop (n + 1) s) ≡ drop (n + 1 + length z) s
+  behind =
+      sym (drop-drop (length z) (n + 1) ((front ++ (w ∷ [])) ++ drop (n + 1) s))
+      ∙ ap (drop (length z)) (drop-at (front ++ (w ∷ [])) (drop (n + 1) s) (n + 1) long-front)
+      ∙ drop-drop (length z) (n + 1) s
+
+  pasted : paste (set (front ++ drop n s) n w) (n + 1) z (length z) ≡ front ++ ((w ∷ z) ++ drop (n + 1 + length z) s)
+  pasted =
+      ap (λ (x : List ℕ). paste x (n + 1) z (length z)) set-front
+      ∙ ap (λ (x : List ℕ). (x ++ take (length z) z) ++ drop (n + 1 + length z) ((front ++ (w ∷ [])) ++ drop (n + 1) s))
+      (take-at (front ++ (w ∷ [])) (drop (n + 1) s) (n + 1) long-front)
+      ∙ ap (λ (x : List ℕ). ((front ++ (w ∷ [])) ++ x) ++ drop (n + 1 + length z) ((front ++ (w ∷ [])) ++ drop (n + 1) s)) (take-length z)
+      ∙ ap (λ (x : List ℕ). ((front ++ (w ∷ [])) ++ z) ++ x) behind
+      ∙ ap (λ (x : List ℕ). x ++ drop (n + 1 + length z) s) (append-snoc front w z)
+      ∙ append-assoc front (w ∷ z) (drop (n + 1 + length z) s)
+
+-- so it is for the state's words
+pub loaded-is : (z s : List ℕ) {a b after : List ℕ}
+    → stateWords ≤ length s
+    → a ≡ zeros movingWords ++ drop movingWords s
+    → b ≡ set a movingWords (length z)
+    → after ≡ paste b (movingWords + 1) z (length z)
+    → after ≡ loaded z s
+unfolding loaded
+loaded-is z s long e f g =
+    g
+    ∙ ap (λ (x : List ℕ). paste x (movingWords + 1) z (length z)) (f ∙ ap (λ (x : List ℕ). set x movingWords (length z)) e)
+    ∙ pasted (zeros movingWords) s z movingWords (length z) (length-tab movingWords _) (omega arith)
+
+-- what a load that is not refused has room for
+pub sheet-fits : (z s m : List ℕ) {n : ℕ} → n ≡ loadNumber z s m → n ≡ 0 → (length z ≤ 8597) × (stateWords ≤ length s)
+sheet-fits z s m e q =
+    let p = load-passed z s m (sym e ∙ q) in
+    (sheet-bounds z (p .passes) .fits, p .long)

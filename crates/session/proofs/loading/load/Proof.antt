@@ -1,0 +1,30 @@
+-- `session::loading::load` meets its contract: the number decides between the state with the sheet and nothing.
+-- Assumes nothing.
+use Rattle.session.proofs.WritingLaws.{answer-done, answer-refused, words-kept, words-written}
+use Rattle.session.proofs.LoadingLaws.{sheet-fits}
+use borrow.Author.Needs.{needs}
+use Rattle.session.proofs.loading.load.Statement.{statement}
+use Rattle.session.proofs.loading.load.Tie as tie
+
+load-number-requires : tie.Need-load-number-requires
+load-number-requires c κs = search needs
+
+same-length : tie.Need-same-length
+same-length c = search needs
+
+returns : tie.Need-returns
+returns c = (answer-refused _ (c .before .load-number .ensures) (c .if1 .taken), words-kept _ _ _ (c .before .load-number .ensures) (c .if1 .taken))
+
+put-sheet-requires : tie.Need-put-sheet-requires
+put-sheet-requires c κs = sheet-fits _ _ _ (c .before .before .load-number .ensures) (c .before .if1 .left)
+
+same-length-2 : tie.Need-same-length-2
+same-length-2 c = search needs
+
+returns-2 : tie.Need-returns-2
+returns-2 c = (answer-done _ (c .before .before .before .before .before .load-number .ensures) (c .before .before .before .before .if1 .left), words-written _ _ _ (c .before .before .before .before .before .load-number .ensures) (c .before .before .before .before .if1 .left) (c .before .before .put-sheet .ensures))
+
+pub load-spec : {M : Type 1} → statement M
+load-spec =
+    tie.close
+    (tie.spec load-number-requires same-length returns put-sheet-requires same-length-2 returns-2)

@@ -1,0 +1,48 @@
+-- `session::loading::load_number` meets its contract: the sheet's number first, then 12 and 14 by the lengths.
+-- Assumes nothing.
+use native.Mathlib.Omega.{arith}
+use mathlib.Core.Path.{sym, _∙_}
+use Rattle.words.proofs.TestLaws.{yes=, no=, yes≤, no≤}
+use Rattle.session.specs.Calls.{loadNumber}
+use Rattle.session.proofs.ReadingLaws.{then-first, then-next, unless-no, unless-yes}
+use Rattle.session.proofs.WritingLaws.{then-stop, then-on}
+use borrow.Author.Needs.{needs}
+use Rattle.session.proofs.loading.load_number.Statement.{statement}
+use Rattle.session.proofs.loading.load_number.Tie as tie
+
+verdict-number-requires : tie.Need-verdict-number-requires
+verdict-number-requires c κs = search needs
+
+returns : tie.Need-returns
+unfolding loadNumber
+returns c = then-first _ (c .before .verdict-number .ensures) (c .if1 .taken)
+
+returns-2 : tie.Need-returns-2
+unfolding loadNumber
+returns-2 c = then-next (sym (c .before .before .verdict-number .ensures) ∙ c .before .if1 .left) (then-stop 12 _ (omega arith) (no≤ (omega arith)))
+
+words-wanted-requires : tie.Need-words-wanted-requires
+words-wanted-requires c κs = sym (c .before .before .verdict-number .ensures) ∙ c .before .if1 .left
+
+cast-if3 : tie.Need-cast-if3
+cast-if3 c = search needs
+
+returns-3 : tie.Need-returns-3
+unfolding loadNumber
+returns-3 c = then-next (sym (c .before .before .before .before .verdict-number .ensures) ∙ c .before .before .before .if1 .left) (then-on 12 (yes≤ (omega arith)) (unless-yes 14 (yes= (omega (arith, c .before .words-wanted .ensures)))))
+
+returns-4 : tie.Need-returns-4
+unfolding loadNumber
+returns-4 c = then-next (sym (c .before .before .before .before .verdict-number .ensures) ∙ c .before .before .before .if1 .left) (then-on 12 (yes≤ (omega arith)) (unless-no 14 (no= (λ e. (let z : ⊥ = omega (arith, e, c .before .words-wanted .ensures) in z)))))
+
+pub load-number-spec : {M : Type 1} → statement M
+load-number-spec =
+    tie.close
+    (tie.spec
+    verdict-number-requires
+    returns
+    returns-2
+    words-wanted-requires
+    cast-if3
+    returns-3
+    returns-4)

@@ -1,0 +1,35 @@
+// The cycle, on any lent words and on words that are known to be sound.
+ghost use mathlib.Core.Path.{_≡_};
+ghost use Rattle.words.specs.Tests.{_=?_};
+ghost use Rattle.words.specs.Words.{pick};
+ghost use Rattle.network.specs.Machine.{nextState, nextMemory};
+ghost use Rattle.session.specs.Calls.{memoryNumber, cycleNumber};
+ghost use Rattle.session.specs.Answers.{answerOf};
+use crate::Answer;
+
+// One clock cycle on words that have passed 12 to 14, which a cycle that is carried out leaves so (sound-kept): loops of ours begin with
+// words that passed and need not test them again.
+pub fn cycle_sound(s: &mut [u32], m: &mut [u32]) -> Answer
+    requires { ⌜ memoryNumber (now s) (now m) ≡ 0 ⌝ }
+    ensures answer { λ r. ⌜ r ≡ answerOf (cycleNumber (now (s .entry)) (now (m .entry))) ⌝ }
+    ensures state { λ _. ⌜ now (s .exit) ≡ pick (cycleNumber (now (s .entry)) (now (m .entry)) =? 0) (nextState (now (s .entry)) (now (m .entry))) (now (s .entry)) ⌝ }
+    ensures memory { λ _. ⌜ now (m .exit) ≡ pick (cycleNumber (now (s .entry)) (now (m .entry)) =? 0) (nextMemory (now (s .entry)) (now (m .entry))) (now (m .entry)) ⌝ }
+{
+    if machine::step(s, m) {
+        return Answer::Refused(20);
+    }
+    Answer::Done
+}
+
+// One clock cycle.
+pub fn cycle(s: &mut [u32], m: &mut [u32]) -> Answer
+    ensures answer { λ r. ⌜ r ≡ answerOf (cycleNumber (now (s .entry)) (now (m .entry))) ⌝ }
+    ensures state { λ _. ⌜ now (s .exit) ≡ pick (cycleNumber (now (s .entry)) (now (m .entry)) =? 0) (nextState (now (s .entry)) (now (m .entry))) (now (s .entry)) ⌝ }
+    ensures memory { λ _. ⌜ now (m .exit) ≡ pick (cycleNumber (now (s .entry)) (now (m .entry)) =? 0) (nextMemory (now (s .entry)) (now (m .entry))) (now (m .entry)) ⌝ }
+{
+    let number = crate::reading::memory_number(s, m);
+    if number != 0 {
+        return Answer::Refused(number);
+    }
+    cycle_sound(s, m)
+}

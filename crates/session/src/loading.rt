@@ -1,0 +1,87 @@
+// Load: a sheet that passes is put into the lent state, and every moving word becomes 0. A refusal writes nothing.
+ghost use mathlib.Core.Path.{_≡_};
+ghost use mathlib.Core.List.{_++_};
+ghost use Prim.Native.Nat.{ℕ, _+_, _*_, _≤_};
+ghost use lib.ListN.{length, drop};
+ghost use lib.Seq.{paste};
+ghost use Rattle.words.specs.Tests.{_=?_};
+ghost use Rattle.words.specs.Words.{pick, tab};
+ghost use Rattle.sheet.specs.Sheet.{memoryWords, nodes};
+ghost use Rattle.sheet.specs.Rules.{verdict};
+ghost use Rattle.network.specs.Registers.{stateWords, sheetWords};
+ghost use Rattle.session.specs.Calls.{loadNumber, loaded};
+ghost use Rattle.session.specs.Answers.{answerOf};
+use crate::Answer;
+
+// Memory words of all nodes of a sheet; load_number asks only where the sheet passes, so that the product is small.
+fn words_wanted(sheet: &[u32]) -> u32
+    requires { ⌜ verdict (now sheet) ≡ 0 ⌝ }
+    ensures { λ r. ⌜ r ≡ nodes (now (sheet .entry)) * memoryWords (now (sheet .entry)) ⌝ }
+{
+    let nodes = words::get(sheet, 0) * words::get(sheet, 1);
+    nodes * words::get(sheet, 2)
+}
+
+// The number that a load answers.
+pub fn load_number(sheet: &[u32], s: &[u32], m: &[u32]) -> u32
+    ensures { λ r. ⌜ r ≡ loadNumber (now (sheet .entry)) (now (s .entry)) (now (m .entry)) ⌝ }
+{
+    let number = checker::verdict_number(sheet);
+    if number != 0 {
+        return number;
+    }
+    if s.len() < network::STATE_WORDS {
+        return 12;
+    }
+    if m.len() == words_wanted(sheet) as usize {
+        return 0;
+    }
+    14
+}
+
+// Sets the first words to 0; put_sheet asks for no more than there are.
+fn clear_words(s: &mut [u32], count: usize)
+    requires { ⌜ count ≤ length (now s) ⌝ }
+    ensures { λ _. ⌜ now (s .exit) ≡ (tab count (λ k. 0) ++ drop count (now (s .entry))) ⌝ }
+{
+    let mut k = 0;
+    while k < count {
+        s[k] = 0;
+        k += 1;
+    }
+}
+
+// Copies words to a place on; put_sheet has seen that they fit.
+fn copy_words(s: &mut [u32], at: usize, from: &[u32])
+    requires { ⌜ at + length (now from) ≤ length (now s) ⌝ }
+    ensures { λ _. ⌜ now (s .exit) ≡ paste (now (s .entry)) at (now (from .entry)) (length (now (from .entry))) ⌝ }
+{
+    let mut k = 0;
+    while k < from.len() {
+        s[at + k] = from[k];
+        k += 1;
+    }
+}
+
+// Zeros the moving words, and puts the sheet behind its length; a load that is not refused has room for it.
+fn put_sheet(sheet: &[u32], s: &mut [u32])
+    requires { ⌜ (length (now sheet) ≤ sheetWords) × (stateWords ≤ length (now s)) ⌝ }
+    ensures { λ _. ⌜ now (s .exit) ≡ loaded (now (sheet .entry)) (now (s .entry)) ⌝ }
+{
+    clear_words(s, network::MOVING_WORDS);
+    words::put(s, network::MOVING_WORDS, sheet.len() as u32);
+    copy_words(s, network::MOVING_WORDS + 1, sheet);
+}
+
+// Loads a sheet.
+pub fn load(sheet: &[u32], s: &mut [u32], m: &[u32]) -> Answer
+    ensures answer { λ r. ⌜ r ≡ answerOf (loadNumber (now (sheet .entry)) (now (s .entry)) (now (m .entry))) ⌝ }
+    ensures state { λ _. ⌜ now (s .exit) ≡ pick (loadNumber (now (sheet .entry)) (now (s .entry)) (now (m .entry)) =? 0) (loaded (now (sheet .entry)) (now (s .entry))) (now (s .entry)) ⌝ }
+{
+    let number = load_number(sheet, s, m);
+    if number != 0 {
+        return Answer::Refused(number);
+    }
+    put_sheet(sheet, s);
+    Answer::Done
+}

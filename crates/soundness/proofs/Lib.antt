@@ -1,0 +1,4 @@
+pub mod SheetLaws
+pub mod SoundLaws
+pub mod SoundnessLaws
+pub mod PairedLaws

@@ -1,0 +1,204 @@
+-- The tests of a sound state, from the registers that were read and the tests that were taken.
+-- Assumes nothing.
+use Prim.Native.Nat.{ℕ, _+_, _*_, _<_, _≤_}
+use mathlib.Core.Bool.{Bool, true, false}
+use mathlib.Core.List.{List}
+use mathlib.Core.Path.{_≡_, refl, sym, _∙_, ap, ap₂}
+use native.Mathlib.Omega.{arith}
+use native.Mathlib.Nat.{mul-le-mul}
+use Rattle.words.specs.Tests.{all, _and_, _or_, _≤?_, _<?_, _=?_}
+use Rattle.words.specs.Words.{word}
+use Rattle.words.proofs.TestLaws.{and-no, and-on, or-yes, or-on, yes≤, no≤, yes<, no<, yes=, no=, yes≠, no≠}
+use Rattle.words.proofs.AllLaws.{all-more, all-done, all-fails}
+use Rattle.packet.specs.Header.{kindOf}
+use Rattle.sheet.specs.declared.circuits.Region.{Region}
+use Rattle.sheet.specs.declared.circuits.Circuit.{Circuit}
+use Rattle.sheet.specs.Sheet.{columns, rows, circuits, schedules, nodes, circuitAt, period}
+use Rattle.sheet.specs.Passed.{Framed}
+use Rattle.sheet.specs.Rules.{verdict}
+use Rattle.network.specs.Registers.{reg, sheetLength, sheetIn, clockRow, cyclePlace, schedulePlace, orderMarkPlace, orderSchedulePlace, receiveMark, receiveKind, landingMark, leftRow, readRow, writeRow, kindRow, toGoRow}
+use Rattle.soundness.specs.Sound.{sheetSound, clockSound, orderSound, kindTravels, liesIn, transferSound, cellSound, routerSound, nodeSound, sound}
+
+-- a kind that travels
+pub travels-data : (kind : ℕ) → kind ≡ 0 → true ≡ kindTravels kind
+unfolding kindTravels
+travels-data kind e = or-yes _ (yes= e)
+
+pub travels-rest : (kind : ℕ) → (kind ≡ 0 → ⊥) → (kind =? 2) ≡ kindTravels kind
+unfolding kindTravels
+travels-rest kind ne = or-on (no= ne) refl
+
+-- words in a region
+pub lies-below : (r : Region) (address count : ℕ) → address < r .offset → false ≡ liesIn r address count
+unfolding liesIn
+lies-below r address count l = and-no _ (no≤ l)
+
+pub lies-rest : (r : Region) (address count : ℕ) → r .offset ≤ address
+    → (address + count ≤? r .offset + r .size) ≡ liesIn r address count
+unfolding liesIn
+lies-rest r address count l = and-on (yes≤ l) refl
+
+-- a cell on a wire
+module _ (mark w : ℕ) where
+  pub cell-high : 3 < mark → false ≡ cellSound mark w
+  unfolding cellSound
+  cell-high l = and-no _ (no≤ l)
+
+  pub cell-other : mark ≤ 3 → (mark ≡ 1 → ⊥) → true ≡ cellSound mark w
+  unfolding cellSound
+  cell-other l ne = and-on (yes≤ l) (or-yes _ (yes≠ ne))
+
+  pub cell-header : (kind : ℕ) {v : Bool} → mark ≡ 1 → kind ≡ kindOf w → v ≡ kindTravels kind → v ≡ cellSound mark w
+  unfolding cellSound
+  cell-header kind e k q = and-on (yes≤ (let l : mark ≤ 3 = omega arith in l)) (or-on (no≠ e) (q ∙ ap kindTravels k))
+
+-- the rest of a transfer that has words left
+abbrev pub restSound : Circuit → ℕ → ℕ → ℕ → ℕ → Bool
+restSound circuit kind read write left =
+    kindTravels kind
+    and (kind =? 0 or left ≤? 1)
+    and liesIn (circuit .read) read left
+    and liesIn (circuit .receive) write left
+
+-- a circuit's transfer
+module _ (s : List ℕ) (c left toGo : ℕ) (p : left ≡ reg s leftRow c) (q : toGo ≡ reg s toGoRow c) where
+  pub transfer-over : left < toGo → false ≡ transferSound s c
+  unfolding transferSound
+  transfer-over l = and-no _ (no≤ (let h : reg s leftRow c < reg s toGoRow c = omega arith in h))
+
+  within : toGo ≤ left → (reg s toGoRow c ≤? reg s leftRow c) ≡ true
+  within l = yes≤ (let h : reg s toGoRow c ≤ reg s leftRow c = omega arith in h)
+
+  pub transfer-none : toGo ≤ left → left ≡ 0 → true ≡ transferSound s c
+  unfolding transferSound
+  transfer-none l e = and-on (within l) (or-yes _ (yes= (sym p ∙ e)))
+
+  pub transfer-rest : (z : List ℕ) → z ≡ sheetIn s → (circuit : Circuit) (kind read write : ℕ) {v : Bool} → circuit ≡ circuitAt z c
+      → kind ≡ reg s kindRow c → read ≡ reg s readRow c → write ≡ reg s writeRow c → toGo ≤ left → (left ≡ 0 → ⊥)
+      → v ≡ restSound circuit kind read write left → v ≡ transferSound s c
+  unfolding transferSound
+  transfer-rest z own circuit kind read write a b d e l ne r =
+      and-on (within l)
+      (or-on (no= (λ h. ne (p ∙ h)))
+      (r ∙ ap (λ (x : Circuit). restSound x kind read write left) (a ∙ ap (λ (y : List ℕ). circuitAt y c) own)
+      ∙ ap (λ (x : ℕ). restSound (circuitAt (sheetIn s) c) x read write left) b
+      ∙ ap (λ (x : ℕ). restSound (circuitAt (sheetIn s) c) (reg s kindRow c) x write left) d
+      ∙ ap (λ (x : ℕ). restSound (circuitAt (sheetIn s) c) (reg s kindRow c) (reg s readRow c) x left) e
+      ∙ ap (λ (x : ℕ). restSound (circuitAt (sheetIn s) c) (reg s kindRow c) (reg s readRow c) (reg s writeRow c) x) p))
+
+-- a node's receive unit and stored landing
+module _ (s : List ℕ) (n mark : ℕ) (p : mark ≡ reg s receiveMark n) where
+  pub node-high : 1 < mark → false ≡ nodeSound s n
+  unfolding nodeSound
+  node-high l = and-no _ (no≤ (let h : 1 < reg s receiveMark n = omega arith in h))
+
+  module _ (l : mark ≤ 1) (kind : ℕ) (t v : Bool) (k : kind ≡ reg s receiveKind n) (q : t ≡ kindTravels kind) (r : v ≡ (mark =? 0 or t)) where
+    beside-is : v ≡ (reg s receiveMark n =? 0 or kindTravels (reg s receiveKind n))
+    beside-is = r ∙ ap₂ (λ (m : ℕ) (x : Bool). m =? 0 or x) p (q ∙ ap kindTravels k)
+
+    known : (reg s receiveMark n ≤? 1) ≡ true
+    known = yes≤ (let h : reg s receiveMark n ≤ 1 = omega arith in h)
+
+    pub node-stays : v ≡ false → false ≡ nodeSound s n
+    unfolding nodeSound
+    node-stays e = and-on known (and-no _ (sym beside-is ∙ e))
+
+    pub node-rest : (landing : ℕ) → landing ≡ reg s landingMark n → v ≡ true → (landing ≤? 1) ≡ nodeSound s n
+    unfolding nodeSound
+    node-rest landing f e = and-on known (and-on (sym beside-is ∙ e) (ap (λ (x : ℕ). x ≤? 1) f))
+
+-- the clock
+module _ (s z : List ℕ) (own : z ≡ sheetIn s) where
+  same-schedules : schedules z ≡ schedules (sheetIn s)
+  same-schedules = ap schedules own
+
+  module _ (j count : ℕ) (p : j ≡ reg s clockRow schedulePlace) (q : count ≡ schedules z) where
+    pub clock-outside : count ≤ j → false ≡ clockSound s
+    unfolding clockSound
+    clock-outside l =
+        and-no _ (no< (let h : schedules (sheetIn s) ≤ reg s clockRow schedulePlace = omega (arith, same-schedules) in h))
+
+    pub clock-rest : (cycle size : ℕ) → cycle ≡ reg s clockRow cyclePlace → size ≡ period z j → j < count
+        → (cycle <? size) ≡ clockSound s
+    unfolding clockSound
+    clock-rest cycle size a b l =
+        and-on (yes< (let h : reg s clockRow schedulePlace < schedules (sheetIn s) = omega (arith, same-schedules) in h))
+        (ap₂ _<?_ a (b ∙ ap (λ (y : List ℕ). period y j) own ∙ ap (period (sheetIn s)) p))
+
+  -- the order
+  module _ (mark : ℕ) (p : mark ≡ reg s clockRow orderMarkPlace) where
+    pub order-high : 1 < mark → false ≡ orderSound s
+    unfolding orderSound
+    order-high l = and-no _ (no≤ (let h : 1 < reg s clockRow orderMarkPlace = omega arith in h))
+
+    order-mark : mark ≤ 1 → (reg s clockRow orderMarkPlace ≤? 1) ≡ true
+    order-mark l = yes≤ (let h : reg s clockRow orderMarkPlace ≤ 1 = omega arith in h)
+
+    pub order-none : mark ≤ 1 → mark ≡ 0 → true ≡ orderSound s
+    unfolding orderSound
+    order-none l e = and-on (order-mark l) (or-yes _ (yes= (sym p ∙ e)))
+
+    pub order-rest : (j count : ℕ) → j ≡ reg s clockRow orderSchedulePlace → count ≡ schedules z → mark ≤ 1 → (mark ≡ 0 → ⊥)
+        → (j <? count) ≡ orderSound s
+    unfolding orderSound
+    order-rest j count a b l ne =
+        and-on (order-mark l) (or-on (no= (λ h. ne (p ∙ h))) (ap₂ _<?_ a (b ∙ same-schedules)))
+
+  -- the counts of the loops
+  pub count-circuits : {count : ℕ} → count ≡ circuits z → count ≡ circuits (sheetIn s)
+  count-circuits e = e ∙ ap circuits own
+
+  pub count-nodes : {a b : ℕ} → a ≡ columns z → b ≡ rows z → a * b ≡ nodes (sheetIn s)
+  count-nodes e f = ap₂ _*_ (e ∙ ap columns own) (f ∙ ap rows own)
+
+  pub count-inputs : {a b : ℕ} → a ≡ columns z → b ≡ rows z → a * b * 5 ≡ nodes (sheetIn s) * 5
+  count-inputs e f = ap (λ (n : ℕ). n * 5) (count-nodes e f)
+
+  -- the sheet, and what is behind it
+  module _ (n : ℕ) (p : n ≡ sheetLength s) where
+    pub sound-long : 8597 < n → false ≡ sound s
+    unfolding sound sheetSound
+    sound-long l = and-no _ (sym (and-no _ (no≤ (let h : 8597 < sheetLength s = omega arith in h))))
+
+    module _ (l : n ≤ 8597) (number : ℕ) (q : number ≡ verdict z) where
+      fits : (sheetLength s ≤? 8597) ≡ true
+      fits = yes≤ (let h : sheetLength s ≤ 8597 = omega arith in h)
+
+      number-is : number ≡ verdict (sheetIn s)
+      number-is = q ∙ ap verdict own
+
+      pub sound-refused : (number ≡ 0 → ⊥) → false ≡ sound s
+      unfolding sound sheetSound
+      sound-refused ne = and-no _ (sym (and-on fits (sym (no= (λ h. ne (number-is ∙ h))))))
+
+      pub sound-rest : {v : Bool} → number ≡ 0
+          → v
+          ≡ (clockSound s
+          and orderSound s
+          and all (circuits (sheetIn s)) (transferSound s)
+          and all (nodes (sheetIn s) * 5) (routerSound s)
+          and all (nodes (sheetIn s)) (nodeSound s)) → v ≡ sound s
+      unfolding sound sheetSound
+      sound-rest e r = and-on (sym (and-on fits (sym (yes= (sym number-is ∙ e))))) r
+
+-- the length of the sheet, and its nodes
+pub long-sheet : (s : List ℕ) (n : ℕ) → n ≡ word s 1680 → n ≡ sheetLength s
+unfolding sheetLength
+long-sheet s n e = e
+
+pub few-nodes : (z : List ℕ) → Framed z → (a b : ℕ) → a ≡ columns z → b ≡ rows z → a * b ≤ 16
+few-nodes z f a b p q =
+    let wide : a ≤ 4 = omega (arith, f .headed .columns-high) in
+    let high : b ≤ 4 = omega (arith, f .headed .rows-high) in
+    mul-le-mul wide high
+
+-- a loop that tests each number: one more holds, one fails, all hold
+module _ (p : ℕ → Bool) (k : ℕ) (h : all k p ≡ true) where
+  pub tested-more : {v : Bool} → v ≡ p k → v ≡ true → all (k + 1) p ≡ true
+  tested-more e t = all-more p k h (sym e ∙ t)
+
+  pub tested-fails : (n m : ℕ) {v : Bool} → n ≡ m → k < n → v ≡ p k → v ≡ false → false ≡ all m p
+  tested-fails n m q l e f = all-fails p m k (omega arith) (sym e ∙ f)
+
+  pub tested-all : (n m : ℕ) → n ≡ m → k ≤ n → n ≤ k → true ≡ all m p
+  tested-all n m q a b = all-done p m k h (omega arith) (omega arith)

@@ -1,0 +1,68 @@
+-- `sources::send_word` meets its contract: the four registers are read before the first of them is set.
+-- Assumes nothing.
+use native.Mathlib.Omega.{arith}
+use Rattle.sources.proofs.SenderLaws.{send-is}
+use borrow.Author.Needs.{needs}
+use Rattle.sources.proofs.send_word.Statement.{statement}
+use Rattle.sources.proofs.send_word.Tie as tie
+
+reg-requires : tie.Need-reg-requires
+reg-requires c κs = search needs
+
+reg-requires-2 : tie.Need-reg-requires-2
+reg-requires-2 c κs = search needs
+
+reg-requires-3 : tie.Need-reg-requires-3
+reg-requires-3 c κs = search needs
+
+reg-requires-4 : tie.Need-reg-requires-4
+reg-requires-4 c κs = search needs
+
+sub-put-reg : tie.Need-sub-put-reg
+sub-put-reg c = omega (arith, c .before .before .before .before .before .before .before .before .before .before .pre .0 .some-left (c .before .before .before .before .before .before .before .before .before .before .pre .1))
+
+put-reg-requires : tie.Need-put-reg-requires
+put-reg-requires c κs = search needs
+
+add-put-reg : tie.Need-add-put-reg
+add-put-reg c = omega (arith, c .before .before .before .before .before .before .before .before .before .before .before .before .before .before .pre .0 .read-rises (c .before .before .before .before .before .before .before .before .before .before .before .before .before .before .pre .1))
+
+put-reg-requires-2 : tie.Need-put-reg-requires-2
+put-reg-requires-2 c κs = search needs
+
+add-put-reg-2 : tie.Need-add-put-reg-2
+add-put-reg-2 c = omega (arith, c .before .before .before .before .before .before .before .before .before .before .before .before .before .before .before .before .before .before .pre .0 .write-rises (c .before .before .before .before .before .before .before .before .before .before .before .before .before .before .before .before .before .before .pre .1))
+
+put-reg-requires-3 : tie.Need-put-reg-requires-3
+put-reg-requires-3 c κs = search needs
+
+sub-put-reg-2 : tie.Need-sub-put-reg-2
+sub-put-reg-2 c = omega (arith, c .before .before .before .before .before .before .before .before .before .before .before .before .before .before .before .before .before .before .before .before .before .before .pre .1)
+
+put-reg-requires-4 : tie.Need-put-reg-requires-4
+put-reg-requires-4 c κs = search needs
+
+same-length : tie.Need-same-length
+same-length c = search needs
+
+returns : tie.Need-returns
+returns c = send-is _ _ _ _ _ _ (c .before .before .before .before .before .before .before .before .before .before .before .before .before .before .before .before .before .before .before .before .before .before .reg .ensures) (c .before .before .before .before .before .before .before .before .before .before .before .before .before .before .before .before .before .before .before .before .reg2 .ensures) (c .before .before .before .before .before .before .before .before .before .before .before .before .before .before .before .before .before .before .reg3 .ensures) (c .before .before .before .before .before .before .before .before .before .before .before .before .before .before .before .before .reg4 .ensures) _ _ _ _ (c .before .before .before .before .before .before .before .before .before .before .before .before .before .before .put-reg .ensures) (c .before .before .before .before .before .before .before .before .before .before .put-reg2 .ensures) (c .before .before .before .before .before .before .put-reg3 .ensures) (c .before .before .put-reg4 .ensures)
+
+pub send-word-spec : {M : Type 1} → statement M
+send-word-spec =
+    tie.close
+    (tie.spec
+    reg-requires
+    reg-requires-2
+    reg-requires-3
+    reg-requires-4
+    sub-put-reg
+    put-reg-requires
+    add-put-reg
+    put-reg-requires-2
+    add-put-reg-2
+    put-reg-requires-3
+    sub-put-reg-2
+    put-reg-requires-4
+    same-length
+    returns)

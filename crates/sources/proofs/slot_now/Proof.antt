@@ -1,0 +1,44 @@
+-- `sources::slot_now` meets its contract: the table has the entry that begins, and its length and route are the slot's.
+-- Assumes nothing.
+use Rattle.sources.proofs.BeginLaws.{no-slot, no-route, slot-inside, slot-size, slot-route}
+use native.Mathlib.Omega.{arith}
+use borrow.Author.Needs.{needs}
+use Rattle.sources.proofs.slot_now.Statement.{statement}
+use Rattle.sources.proofs.slot_now.Tie as tie
+
+get-requires : tie.Need-get-requires
+get-requires c κs = search needs
+
+returns : tie.Need-returns
+returns c = (no-slot _ _ (c .before .before .before .before .before .pre .0) _ (c .before .before .before .before .before .pre .1) _ (c .before .before .before .before .before .pre .2) _ (c .before .get .ensures) (c .if1 .taken), no-route _ _ (c .before .before .before .before .before .pre .0) _ (c .before .before .before .before .before .pre .1) _ (c .before .before .before .before .before .pre .2) _ (c .before .get .ensures) (c .if1 .taken))
+
+reg-requires : tie.Need-reg-requires
+reg-requires c κs = search needs
+
+entries-of-requires : tie.Need-entries-of-requires
+entries-of-requires c κs = (c .before .before .before .before .before .before .pre .0 .framed, omega (arith, c .before .before .before .before .before .before .pre .0 .in-force))
+
+sub-at : tie.Need-sub-at
+sub-at c = search needs
+
+cast-at : tie.Need-cast-at
+cast-at c = search needs
+
+at-requires : tie.Need-at-requires
+at-requires c κs = slot-inside _ _ (c .before .before .before .before .before .before .before .pre .0) _ (c .before .before .before .before .before .before .before .pre .1) _ (c .before .before .before .before .before .before .before .pre .2) _ (c .before .before .before .get .ensures) (c .before .before .if1 .left) _ (c .before .reg .ensures) _ (c .entries-of .ensures)
+
+returns-2 : tie.Need-returns-2
+returns-2 c = (slot-size _ _ (c .before .before .before .before .before .before .before .before .pre .0) _ (c .before .before .before .before .before .before .before .before .pre .1) _ (c .before .before .before .before .before .before .before .before .pre .2) _ (c .before .before .before .before .get .ensures) (c .before .before .before .if1 .left) _ (c .before .before .reg .ensures) _ (c .before .entries-of .ensures) _ (c .at .ensures), slot-route _ _ (c .before .before .before .before .before .before .before .before .pre .0) _ (c .before .before .before .before .before .before .before .before .pre .1) _ (c .before .before .before .before .before .before .before .before .pre .2) _ (c .before .before .before .before .get .ensures) (c .before .before .before .if1 .left) _ (c .before .before .reg .ensures) _ (c .before .entries-of .ensures) _ (c .at .ensures))
+
+pub slot-now-spec : {M : Type 1} → statement M
+slot-now-spec =
+    tie.close
+    (tie.spec
+    get-requires
+    returns
+    reg-requires
+    entries-of-requires
+    sub-at
+    cast-at
+    at-requires
+    returns-2)

@@ -1,0 +1,89 @@
+-- `sources::slots_now` meets its contract: in the loop the entries before `i` are in the table; behind a later entry none begins.
+-- Assumes nothing.
+use native.Mathlib.Omega.{arith}
+use borrow.Author.Needs.{needs}
+use Prim.Native.Nat.{_-_}
+use mathlib.Core.Path.{_∙_, sym, ap}
+use lib.ListN.{length}
+use Rattle.words.proofs.WordLaws.{length-tab}
+use Rattle.network.specs.Registers.{reg, clockRow, schedulePlace}
+use Rattle.sources.proofs.BeginLaws.{Filling, filling-inside, filling-more, filling-length, table-start, table-stop, table-done}
+use Rattle.sources.proofs.slots_now.Statement.{statement}
+use Rattle.sources.proofs.slots_now.Tie as tie
+
+abbrev Inv-loop : tie.InvT-loop
+Inv-loop s z slots₀ cycle entries count i₀ slots i = Filling z (reg s clockRow schedulePlace) cycle entries slots count i
+
+abbrev μ-loop : tie.MeasureT-loop
+μ-loop s z slots₀ cycle entries count i₀ slots i = count - i
+
+reg-requires : tie.Need-reg-requires Inv-loop μ-loop
+reg-requires c κs = search needs
+
+reg-requires-2 : tie.Need-reg-requires-2 Inv-loop μ-loop
+reg-requires-2 c κs = search needs
+
+entries-of-requires : tie.Need-entries-of-requires Inv-loop μ-loop
+entries-of-requires c κs = (c .before .before .before .before .before .pre .0 .framed, omega (arith, c .before .before .before .before .before .pre .0 .in-force))
+
+loop-holds : tie.Need-loop-holds Inv-loop μ-loop
+loop-holds c = table-start _ _ (c .before .before .before .before .before .before .pre .0) _ _ _ _ (c .before .reg2 .ensures) (c .entries-of .ensures) (c .before .before .before .before .before .before .pre .2)
+
+cast-loop : tie.Need-cast-loop Inv-loop μ-loop
+cast-loop c = search needs
+
+cast-at : tie.Need-cast-at Inv-loop μ-loop
+cast-at c = search needs
+
+at-requires : tie.Need-at-requires Inv-loop μ-loop
+at-requires c κs = filling-inside _ _ _ _ _ _ _ (c .before .loop .inv) (omega arith)
+
+same-length : tie.Need-same-length Inv-loop μ-loop
+same-length c = filling-length _ _ _ _ _ _ _ (c .before .before .before .before .loop .inv) ∙ sym (ap length (c .before .before .before .before .before .before .before .before .before .before .before .pre .2) ∙ length-tab 64 _)
+
+returns : tie.Need-returns Inv-loop μ-loop
+returns c = table-stop _ _ (c .before .before .before .before .before .before .before .before .before .before .before .pre .0) (c .before .before .before .before .before .before .before .before .before .before .before .pre .1) _ _ _ _ _ (c .before .before .before .before .before .before .before .reg .ensures) (c .before .before .before .before .loop .inv) (omega arith) _ (c .before .before .at .ensures) (omega arith)
+
+add-put-slot : tie.Need-add-put-slot Inv-loop μ-loop
+add-put-slot c = omega (arith, c .before .before .before .before .loop .inv .few)
+
+put-slot-requires : tie.Need-put-slot-requires Inv-loop μ-loop
+put-slot-requires c κs = search needs
+
+add-i : tie.Need-add-i Inv-loop μ-loop
+add-i c = omega (arith, c .before .before .before .before .before .before .before .before .loop .inv .few)
+
+loop-less : tie.Need-loop-less Inv-loop μ-loop
+loop-less c = omega arith
+
+loop-again : tie.Need-loop-again Inv-loop μ-loop
+loop-again c = filling-more _ _ _ _ _ _ _ (c .before .before .before .before .before .before .before .before .loop .inv) (omega arith) _ (c .before .before .before .before .before .before .at .ensures) _ (c .before .before .put-slot .ensures)
+
+same-length-2 : tie.Need-same-length-2 Inv-loop μ-loop
+same-length-2 c = filling-length _ _ _ _ _ _ _ (c .before .loop .inv) ∙ sym (ap length (c .before .before .before .before .before .before .before .before .pre .2) ∙ length-tab 64 _)
+
+returns-2 : tie.Need-returns-2 Inv-loop μ-loop
+returns-2 c = table-done _ _ (c .before .before .before .before .before .before .before .before .pre .0) _ _ _ _ _ (c .before .before .before .before .reg .ensures) (c .before .loop .inv) (omega arith)
+
+pub slots-now-spec : {M : Type 1} → statement M
+slots-now-spec =
+    tie.close
+    (tie.spec
+    Inv-loop
+    μ-loop
+    reg-requires
+    reg-requires-2
+    entries-of-requires
+    loop-holds
+    cast-loop
+    cast-at
+    at-requires
+    same-length
+    returns
+    add-put-slot
+    put-slot-requires
+    add-i
+    loop-less
+    loop-again
+    same-length-2
+    returns-2)

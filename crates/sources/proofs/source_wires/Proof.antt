@@ -1,0 +1,64 @@
+-- `sources::source_wires` meets its contract: in the loop the circuits before `c` are on the wires, and `fault` says whether one of them was at fault.
+-- Assumes nothing.
+use native.Mathlib.Omega.{arith}
+use Prim.Native.Nat.{_-_}
+use mathlib.Core.Path.{_∙_, sym, ap}
+use lib.ListN.{length}
+use borrow.Author.Needs.{needs}
+use Rattle.words.proofs.WordLaws.{length-tab}
+use Rattle.sources.proofs.WireLaws.{Wiring, wiring-start, wiring-more, wiring-fault, wiring-marks, wiring-words, marks-length, words-length}
+use Rattle.sources.proofs.source_wires.Statement.{statement}
+use Rattle.sources.proofs.source_wires.Tie as tie
+
+abbrev Inv-loop : tie.InvT-loop
+Inv-loop s z m slots marks₀ cells₀ count fault₀ c₀ marks cells fault c = Wiring s z m count marks cells fault c
+
+abbrev μ-loop : tie.MeasureT-loop
+μ-loop s z m slots marks₀ cells₀ count fault₀ c₀ marks cells fault c = count - c
+
+get-requires : tie.Need-get-requires Inv-loop μ-loop
+get-requires c κs = search needs
+
+loop-holds : tie.Need-loop-holds Inv-loop μ-loop
+loop-holds c = wiring-start _ _ _ (c .before .before .before .before .before .before .before .pre .0) _ _ _ (c .get .ensures) (c .before .before .before .before .before .before .before .pre .2) (c .before .before .before .before .before .before .before .pre .3)
+
+put-circuit-requires : tie.Need-put-circuit-requires Inv-loop μ-loop
+put-circuit-requires c κs = (c .before .before .before .before .before .before .before .before .before .before .before .pre .0, c .before .before .before .before .before .before .before .before .before .before .before .pre .1, omega (arith, c .before .before .before .loop .inv .whole), c .before .before .before .loop .inv .marks-done, c .before .before .before .loop .inv .words-done)
+
+either-requires : tie.Need-either-requires Inv-loop μ-loop
+either-requires c κs = search needs
+
+add-c : tie.Need-add-c Inv-loop μ-loop
+add-c c = omega arith
+
+loop-less : tie.Need-loop-less Inv-loop μ-loop
+loop-less c = omega arith
+
+loop-again : tie.Need-loop-again Inv-loop μ-loop
+loop-again c = wiring-more _ _ _ (c .before .before .before .before .before .before .before .before .before .before .before .before .before .before .before .before .before .pre .0) _ _ _ _ _ (c .before .before .before .before .before .before .before .before .before .loop .inv) (omega arith) _ _ _ _ (c .before .before .before .before .before .put-circuit .ensures .1 .0) (c .before .before .before .before .before .put-circuit .ensures .1 .1) (c .before .before .before .before .before .put-circuit .ensures .0) (c .either .ensures)
+
+same-length : tie.Need-same-length Inv-loop μ-loop
+same-length c = marks-length _ _ _ (c .before .loop .inv .marks-done) ∙ sym (ap length (c .before .before .before .before .before .before .before .before .before .pre .2) ∙ length-tab 16 _)
+
+same-length-2 : tie.Need-same-length-2 Inv-loop μ-loop
+same-length-2 c = words-length _ _ _ _ (c .before .loop .inv .words-done) ∙ sym (ap length (c .before .before .before .before .before .before .before .before .before .pre .3) ∙ length-tab 16 _)
+
+returns : tie.Need-returns Inv-loop μ-loop
+returns c = (wiring-fault _ _ _ (c .before .before .before .before .before .before .before .before .before .pre .0) _ _ _ _ _ (c .before .loop .inv) (omega arith), (wiring-marks _ _ _ (c .before .before .before .before .before .before .before .before .before .pre .0) _ _ _ _ _ (c .before .loop .inv) (omega arith), wiring-words _ _ _ (c .before .before .before .before .before .before .before .before .before .pre .0) _ _ _ _ _ (c .before .loop .inv) (omega arith)))
+
+pub source-wires-spec : {M : Type 1} → statement M
+source-wires-spec =
+    tie.close
+    (tie.spec
+    Inv-loop
+    μ-loop
+    get-requires
+    loop-holds
+    put-circuit-requires
+    either-requires
+    add-c
+    loop-less
+    loop-again
+    same-length
+    same-length-2
+    returns)

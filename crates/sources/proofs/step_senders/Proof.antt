@@ -1,0 +1,57 @@
+-- `sources::step_senders` meets its contract: in the loop the circuits before `c` have stepped, and no register that a circuit reads is written before its turn.
+-- Assumes nothing.
+use native.Mathlib.Omega.{arith}
+use Prim.Native.Nat.{_-_}
+use borrow.Author.Needs.{needs}
+use Rattle.sources.proofs.SenderLaws.{Stepping, stepping-start, stepping-length, stepping-done, stepping-more, step-paired, step-table, step-inside, step-sending}
+use Rattle.sources.proofs.step_senders.Statement.{statement}
+use Rattle.sources.proofs.step_senders.Tie as tie
+
+abbrev Inv-loop : tie.InvT-loop
+Inv-loop s₀ slots count c₀ s c = Stepping s₀ count s c
+
+abbrev μ-loop : tie.MeasureT-loop
+μ-loop s₀ slots count c₀ s c = count - c
+
+sheet-of-requires : tie.Need-sheet-of-requires Inv-loop μ-loop
+sheet-of-requires c κs = search needs
+
+get-requires : tie.Need-get-requires Inv-loop μ-loop
+get-requires c κs = search needs
+
+loop-holds : tie.Need-loop-holds Inv-loop μ-loop
+loop-holds c = stepping-start _ _ (c .before .sheet-of .ensures) _ (c .get .ensures)
+
+step-sender-requires : tie.Need-step-sender-requires Inv-loop μ-loop
+step-sender-requires c κs = (step-paired _ (c .before .before .before .before .before .before .before .before .pre .0) _ _ _ (c .before .before .loop .inv) (omega arith), step-table _ (c .before .before .before .before .before .before .before .before .pre .0) _ _ _ (c .before .before .loop .inv) (omega arith) _ (c .before .before .before .before .before .before .before .before .pre .1), step-inside _ (c .before .before .before .before .before .before .before .before .pre .0) _ _ _ (c .before .before .loop .inv) (omega arith), step-sending _ (c .before .before .before .before .before .before .before .before .pre .0) _ _ _ (c .before .before .loop .inv) (omega arith))
+
+add-c : tie.Need-add-c Inv-loop μ-loop
+add-c c = omega arith
+
+loop-less : tie.Need-loop-less Inv-loop μ-loop
+loop-less c = omega arith
+
+loop-again : tie.Need-loop-again Inv-loop μ-loop
+loop-again c = stepping-more _ (c .before .before .before .before .before .before .before .before .before .before .before .pre .0) _ _ _ (c .before .before .before .before .before .loop .inv) (omega arith) _ (c .before .before .step-sender .ensures)
+
+same-length : tie.Need-same-length Inv-loop μ-loop
+same-length c = stepping-length _ (c .before .before .before .before .before .before .before .pre .0) _ _ _ (c .before .loop .inv)
+
+returns : tie.Need-returns Inv-loop μ-loop
+returns c = stepping-done _ (c .before .before .before .before .before .before .before .pre .0) _ _ _ (c .before .loop .inv) (omega arith)
+
+pub step-senders-spec : {M : Type 1} → statement M
+step-senders-spec =
+    tie.close
+    (tie.spec
+    Inv-loop
+    μ-loop
+    sheet-of-requires
+    get-requires
+    loop-holds
+    step-sender-requires
+    add-c
+    loop-less
+    loop-again
+    same-length
+    returns)

@@ -1,0 +1,412 @@
+//! Plays generated sessions call by call: whoever is tested, the second machine and the
+//! reckoning of every circuit have to say the same, and every lent word has to be as the
+//! second machine says, after refused calls too.
+
+use super::calls::{number_of, Call, Calls, Second};
+use super::coverage::Coverage;
+use super::lent::{Row, PERIOD_NUMBER, STATE_WORDS};
+use super::machine::{Machine, INTERRUPT};
+use super::reckoning::{Reckoning, Word};
+use super::sessions::{Generator, Made, SESSIONS};
+use super::words::{Lent, Words};
+use std::process::ExitCode;
+
+const DIFFERENCES_SHOWN: usize = 5;
+
+/// Cycles between two rounds of questions about every circuit and node.
+const QUESTIONS_EVERY: u32 = 9;
+
+struct Player<'a, C> {
+    tested: &'a mut C,
+    coverage: &'a mut Coverage,
+    second: Second,
+    reckonings: Vec<Reckoning>,
+    actual: Words,
+    expected: Words,
+    cycles: u32,
+}
+
+/// Plays every session and prints what was met. Each session is one pass.
+pub fn play_all(tested: &mut impl Calls) -> ExitCode {
+    let mut coverage = Coverage::default();
+    let mut differences = Vec::new();
+    let mut passed = 0;
+    for session in 0..SESSIONS {
+        match play(tested, &mut coverage, session) {
+            Ok(()) => passed += 1,
+            Err(difference) => differences.push(format!("session {session}: {difference}")),
+        }
+    }
+    if tested.state_words() as usize == STATE_WORDS {
+        passed += 1;
+    } else {
+        differences.push(format!("the published length is {STATE_WORDS} words"));
+    }
+    coverage.print();
+    for difference in differences.iter().take(DIFFERENCES_SHOWN) {
+        println!("{difference}");
+    }
+    let complete = coverage.has_all(wanted().iter().map(String::as_str));
+    let failed = differences.len() + usize::from(!complete);
+    println!("{passed} passed, {failed} failed");
+    if failed == 0 {
+        ExitCode::SUCCESS
+    } else {
+        ExitCode::FAILURE
+    }
+}
+
+/// Every call with every number that a session can meet, and the situations that matter.
+fn wanted() -> Vec<String> {
+    let numbers: [(&str, &[u32]); 9] = [
+        ("load", &[0, 1, 2, 3, 4, 5, 6, 7, 8, 9, 10, 11, 12, 14]),
+        ("start", &[0, 12, 15, 16, 17]),
+        ("store", &[0, 12, 14, 15]),
+        ("fetch", &[0, 12, 14, 15]),
+        ("words left", &[0, 12, 15]),
+        ("period number", &[0, 12]),
+        ("what landed", &[0, 12, 15]),
+        ("order", &[0, 12, 15, 18, 19]),
+        ("cycle", &[0, 12, 14]),
+    ];
+    let mut names = Vec::new();
+    for (call, numbers) in numbers {
+        names.extend(numbers.iter().map(|&number| answer_name(call, number)));
+    }
+    names.extend(SITUATIONS.map(|name| format!("situation: {name}")));
+    names.extend(WAYS.map(|name| format!("made: {name}")));
+    for columns in 2..=4 {
+        names.extend((2..=4).map(|rows| grid_name(columns, rows)));
+    }
+    names
+}
+
+fn answer_name(call: &str, number: u32) -> String {
+    match number {
+        0 => format!("answer: {call}, carried out"),
+        _ => format!("answer: {call}, {number}"),
+    }
+}
+
+fn grid_name(columns: u64, rows: u64) -> String {
+    format!("situation: landing in a grid of {columns} by {rows}")
+}
+
+const SITUATIONS: [&str; 25] = [
+    "state longer than published",
+    "start while earlier words of the circuit travel",
+    "start in the first cycle of the circuit's slot",
+    "start a cycle after its slot began",
+    "slot begins with more words owed than it holds",
+    "slot begins with fewer words owed than it holds",
+    "store at an address still to be read",
+    "store into a receive region while words travel to it",
+    "data lands",
+    "interrupt lands",
+    "landing after 1 hops",
+    "landing after 2 hops",
+    "landing after 3 hops",
+    "landing after 4 hops",
+    "landings at several nodes in one cycle",
+    "landing at the last address of a memory of 16,384 words",
+    "words travel over the end of a period",
+    "switch to a schedule of another period",
+    "switch to another schedule of the same period",
+    "schedule in force ordered again and put in force",
+    "words travel over a switch",
+    "period number wraps",
+    "order for a period behind the wrap",
+    "load carried out in the midst of transfers",
+    "refused call on a state with words travelling",
+];
+
+const WAYS: [&str; 18] = [
+    "start: no such circuit",
+    "start: no such read address",
+    "start: no such write address",
+    "start: kind 1",
+    "start: no such kind",
+    "start: count 0",
+    "start: interrupt of another count",
+    "start: count that wraps",
+    "start: reads before its region",
+    "start: reads beyond its region",
+    "start: writes before its region",
+    "start: writes beyond its region",
+    "order: no such schedule",
+    "order: too soon",
+    "order: half way round",
+    "order: behind",
+    "short state",
+    "memory of another length",
+];
+
+fn play(tested: &mut impl Calls, coverage: &mut Coverage, session: u64) -> Result<(), String> {
+    let mut generator = Generator::new(session);
+    let words = generator.lent_words();
+    let mut player = Player {
+        tested,
+        coverage,
+        second: Second::living(),
+        reckonings: Vec::new(),
+        actual: words.clone(),
+        expected: words,
+        cycles: 0,
+    };
+    player.make(&generator.first_load())?;
+    if let Some(number) = generator.first_period {
+        player.number_periods_from(number);
+    }
+    let mut calls = 0;
+    while player.cycles < generator.cycles {
+        let made = generator.next(player.second.view());
+        calls += 1;
+        player.make(&made).map_err(|difference| format!("call {calls} after the load: {difference}"))?;
+        if matches!(made.call, Call::Cycle) && made.expected == 0 && player.cycles % QUESTIONS_EVERY == 0 {
+            player.ask_everything(made.lent)?;
+        }
+    }
+    Ok(())
+}
+
+impl<C: Calls> Player<'_, C> {
+    /// Makes one call and compares the answer and every lent word.
+    fn make(&mut self, made: &Made) -> Result<(), String> {
+        let before = (!self.reckonings.is_empty()).then(|| self.second.view().clone());
+        let expected = self.expected.make(&made.call, made.lent, &mut self.second);
+        let actual = self.actual.make(&made.call, made.lent, self.tested);
+        let complaint =
+            |what: String| format!("{} ({}, {:?}): {what}", made.name, made.call.start_of_text(), made.lent);
+        if number_of(expected) != made.expected {
+            return Err(complaint(format!("made for {}, second machine {expected:#x}", made.expected)));
+        }
+        if actual != expected {
+            return Err(complaint(format!("answered {actual:#x}, second machine {expected:#x}")));
+        }
+        self.actual.compare(&self.expected).map_err(complaint)?;
+        self.coverage.met(&answer_name(made.call.name(), made.expected));
+        self.coverage.met(&format!("made: {}", made.name));
+        if made.lent.state > STATE_WORDS {
+            self.coverage.met("situation: state longer than published");
+        }
+        if let Some(before) = &before {
+            self.note_situation(before, made);
+        }
+        if made.expected == 0 && !made.call.is_question() {
+            self.reckon(&made.call);
+            self.compare_reckonings().map_err(complaint)?;
+        }
+        Ok(())
+    }
+
+    /// What words left and what landed answer, for every circuit and node.
+    fn ask_everything(&mut self, lent: Lent) -> Result<(), String> {
+        let circuits = self.second.view().senders.len();
+        for circuit in 0..circuits as u32 {
+            let call = Call::WordsLeft { circuit };
+            self.make(&Made { name: "words left of every circuit", call, lent, expected: 0 })?;
+        }
+        let landed: Vec<bool> = self.second.view().nodes.iter().map(|node| node.landing.mark == 1).collect();
+        for (node, landed) in (0..).zip(landed) {
+            for field in 0..if landed { 4 } else { 1 } {
+                let call = Call::WhatLanded { node, field };
+                self.make(&Made { name: "what landed at every node", call, lent, expected: 0 })?;
+            }
+        }
+        Ok(())
+    }
+
+    /// Gives the period another number directly after the load, in all that is compared.
+    fn number_periods_from(&mut self, period_number: u32) {
+        for words in [&mut self.actual, &mut self.expected] {
+            words.state[Row::Clock.at(PERIOD_NUMBER)] = period_number;
+        }
+        self.second.take_up(&self.expected.state);
+        for reckoning in &mut self.reckonings {
+            reckoning.number_periods_from(period_number);
+        }
+    }
+
+    /// Tells the reckonings of a call that was carried out.
+    fn reckon(&mut self, call: &Call) {
+        match *call {
+            Call::Load { .. } => {
+                let sheet = &self.second.view().sheet.sheet;
+                self.reckonings = (0..sheet.circuits.len())
+                    .map(|circuit| Reckoning::new(sheet, circuit, &self.actual.memory))
+                    .collect();
+            }
+            Call::Start { circuit, read, write, count, kind } => {
+                self.reckonings[circuit as usize].start(read, write, count, kind)
+            }
+            Call::Store { node, address, word } => {
+                self.reckonings.iter_mut().for_each(|reckoning| reckoning.store(node, address, word))
+            }
+            Call::Order { schedule, period_number } => {
+                self.reckonings.iter_mut().for_each(|reckoning| reckoning.order(schedule, period_number))
+            }
+            Call::Cycle => {
+                self.cycles += 1;
+                self.reckonings.iter_mut().for_each(Reckoning::cycle);
+            }
+            _ => {}
+        }
+    }
+
+    /// The machine has the words of the tested state by now; it shows what is reckoned.
+    fn compare_reckonings(&self) -> Result<(), String> {
+        let machine = self.second.view();
+        for (circuit, reckoning) in self.reckonings.iter().enumerate() {
+            compare_reckoning(machine, circuit, reckoning, &self.actual.memory)
+                .map_err(|what| format!("circuit {circuit}: {what}"))?;
+        }
+        // Whatever landed is some circuit's.
+        for node in 0..machine.nodes.len() as u32 {
+            if let Ok(Some(landing)) = machine.what_landed(node) {
+                if !self.reckonings.iter().any(|reckoning| reckoning.receives_at(node, landing.address)) {
+                    return Err(format!("at node {node} landed {landing:?}, in no receive region"));
+                }
+            }
+        }
+        Ok(())
+    }
+
+    fn note_situation(&mut self, before: &Machine, made: &Made) {
+        let mut names: Vec<String> = Vec::new();
+        let travelling = self.reckonings.iter().any(Reckoning::has_words_travelling);
+        if made.expected != 0 {
+            if travelling {
+                names.push("refused call on a state with words travelling".to_string());
+            }
+        } else {
+            match made.call {
+                Call::Load { .. } if before.senders.iter().any(|sender| sender.left > 0) => {
+                    names.push("load carried out in the midst of transfers".to_string());
+                }
+                Call::Start { circuit, .. } => self.note_start(before, circuit as usize, &mut names),
+                Call::Store { node, address, .. } => self.note_store(before, node, address, &mut names),
+                Call::Order { period_number, .. } if period_number < before.period_number() => {
+                    names.push("order for a period behind the wrap".to_string());
+                }
+                Call::Cycle => self.note_cycle(before, travelling, &mut names),
+                _ => {}
+            }
+        }
+        for name in names {
+            self.coverage.met(&format!("situation: {name}"));
+        }
+    }
+
+    fn note_start(&self, before: &Machine, circuit: usize, names: &mut Vec<String>) {
+        if self.reckonings[circuit].has_words_travelling() {
+            names.push("start while earlier words of the circuit travel".to_string());
+        }
+        let slot_begins = |cycle: u64| {
+            let entries = &before.sheet.sheet.schedules[before.clock.schedule as usize].entries;
+            entries.iter().any(|entry| entry.circuit == circuit as u64 && entry.offset == cycle)
+        };
+        let cycle = u64::from(before.clock.cycle);
+        if slot_begins(cycle) {
+            names.push("start in the first cycle of the circuit's slot".to_string());
+        }
+        if cycle > 0 && slot_begins(cycle - 1) {
+            names.push("start a cycle after its slot began".to_string());
+        }
+    }
+
+    fn note_store(&self, before: &Machine, node: u32, address: u32, names: &mut Vec<String>) {
+        for (circuit, sender) in before.senders.iter().enumerate() {
+            let source = before.sheet.sheet.circuits[circuit].source;
+            if u64::from(node) == source && address >= sender.read && address - sender.read < sender.left {
+                names.push("store at an address still to be read".to_string());
+            }
+            let reckoning = &self.reckonings[circuit];
+            if reckoning.has_words_travelling() && reckoning.receives_at(node, address) {
+                names.push("store into a receive region while words travel to it".to_string());
+            }
+        }
+    }
+
+    fn note_cycle(&self, before: &Machine, travelling: bool, names: &mut Vec<String>) {
+        let after = self.second.view();
+        let sheet = &after.sheet.sheet;
+        let mut landings = 0;
+        for (number, node) in after.nodes.iter().enumerate().filter(|(_, node)| node.landing.mark == 1) {
+            landings += 1;
+            names.push(if node.landing.kind == INTERRUPT { "interrupt lands" } else { "data lands" }.to_string());
+            let receives = |reckoning: &&Reckoning| reckoning.receives_at(number as u32, node.landing.address);
+            if let Some(reckoning) = self.reckonings.iter().find(receives) {
+                names.push(format!("landing after {} hops", reckoning.hops));
+            }
+            if node.landing.address == 16_383 {
+                names.push("landing at the last address of a memory of 16,384 words".to_string());
+            }
+        }
+        if landings > 0 {
+            names.push(format!("landing in a grid of {} by {}", sheet.columns, sheet.rows));
+        }
+        if landings > 1 {
+            names.push("landings at several nodes in one cycle".to_string());
+        }
+        for entry in &sheet.schedules[before.clock.schedule as usize].entries {
+            let left = u64::from(before.senders[entry.circuit as usize].left);
+            if entry.offset == u64::from(before.clock.cycle) && left > 0 && left != entry.length - 1 {
+                let more = if left > entry.length - 1 { "more" } else { "fewer" };
+                names.push(format!("slot begins with {more} words owed than it holds"));
+            }
+        }
+        if after.clock.cycle == 0 {
+            note_period(before, after, travelling, names);
+        }
+    }
+}
+
+/// A cycle that ends a period.
+fn note_period(before: &Machine, after: &Machine, travelling: bool, names: &mut Vec<String>) {
+    if after.period_number() == 0 {
+        names.push("period number wraps".to_string());
+    }
+    if travelling {
+        names.push("words travel over the end of a period".to_string());
+    }
+    if before.clock.order.mark == 1 && after.clock.order.mark == 0 {
+        let period = |machine: &Machine| machine.sheet.sheet.schedules[machine.clock.schedule as usize].period;
+        let name = if before.clock.schedule == after.clock.schedule {
+            "schedule in force ordered again and put in force"
+        } else if period(before) == period(after) {
+            "switch to another schedule of the same period"
+        } else {
+            "switch to a schedule of another period"
+        };
+        names.push(name.to_string());
+        if travelling && before.clock.schedule != after.clock.schedule {
+            names.push("words travel over a switch".to_string());
+        }
+    }
+}
+
+fn compare_reckoning(machine: &Machine, circuit: usize, reckoning: &Reckoning, memory: &[u32]) -> Result<(), String> {
+    let shown =
+        [machine.words_left(circuit as u32).unwrap_or(u32::MAX), machine.period_number(), machine.clock.schedule];
+    let reckoned = [reckoning.owed(), reckoning.period_number(), reckoning.schedule()];
+    if shown != reckoned {
+        return Err(format!("words left, period number, schedule {shown:?}, reckoned {reckoned:?}"));
+    }
+    let destination = reckoning.destination();
+    let landed = machine.what_landed(destination).ok().flatten();
+    let landed = landed.filter(|landing| reckoning.receives_at(destination, landing.address)).map(|landing| Word {
+        kind: landing.kind,
+        address: landing.address,
+        word: landing.word,
+    });
+    if landed != reckoning.landed() {
+        return Err(format!("landed {landed:?}, reckoned {:?}", reckoning.landed()));
+    }
+    for (node, offset, words) in reckoning.regions() {
+        let start = node as usize * machine.sheet.memory_words() + offset as usize;
+        if memory[start..start + words.len()] != *words {
+            return Err(format!("words from {offset} on at node {node} are not as reckoned: {words:?}"));
+        }
+    }
+    Ok(())
+}

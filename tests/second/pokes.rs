@@ -1,0 +1,491 @@
+//! Runs states that no calls need lead to: the hand-made ones, and states from the midst of
+//! generated sessions with some words or all registers written over. The second machine says
+//! each answer and every lent word afterwards, refused calls included.
+
+use super::calls::{number_of, Call, Calls, Second};
+use super::coverage::Coverage;
+use super::hand_made::{hand_made_plan, hand_made_states, Expected, HandMade};
+use super::lent::{
+    Clause, Reader, Row, CYCLE, MOVING_WORDS, ORDER_MARK, ORDER_PERIOD, ORDER_SCHEDULE, PERIOD_NUMBER, ROW_WORDS,
+    SCHEDULE, SHEET, SHEET_LENGTH, STATE_WORDS,
+};
+use super::machine::{Cell, Fault, Machine, DATA, EMPTY, HEADER, INTERRUPT, LAST, PORTS};
+use super::sessions::{Generator, SPARE_WORDS};
+use super::sheets::{sheet_a, Random};
+use super::words::{Lent, Words};
+use std::process::ExitCode;
+
+const SNAPSHOTS: u64 = 432;
+const POKED_STATES_OF_EACH: usize = 60;
+const FILLED_STATES_OF_EACH: usize = 12;
+const POKED_STATES_REQUIRED: usize = 20_000;
+const CYCLES_OF_HAND_MADE: usize = 12;
+const DIFFERENCES_SHOWN: usize = 10;
+
+struct Runner<'a, C> {
+    tested: &'a mut C,
+    second: Second,
+    reader: Reader,
+    coverage: Coverage,
+    passed: usize,
+    differences: Vec<String>,
+}
+
+pub fn run_all(tested: &mut impl Calls) -> ExitCode {
+    let mut runner = Runner {
+        tested,
+        second: Second::reading(),
+        reader: Reader::default(),
+        coverage: Coverage::default(),
+        passed: 0,
+        differences: Vec::new(),
+    };
+    runner.run_hand_made();
+    runner.run_example_m();
+    let poked = runner.run_poked();
+    runner.coverage.print();
+    for difference in runner.differences.iter().take(DIFFERENCES_SHOWN) {
+        println!("{difference}");
+    }
+    let complete = runner.coverage.has_all(wanted().iter().map(String::as_str)) && poked >= POKED_STATES_REQUIRED;
+    let failed = runner.differences.len() + usize::from(!complete);
+    println!("{} passed, {failed} failed", runner.passed);
+    if failed == 0 {
+        ExitCode::SUCCESS
+    } else {
+        ExitCode::FAILURE
+    }
+}
+
+/// Every clause and every cause of number 20, made by hand and come upon by chance. By chance
+/// only some numbers of the sheet are sure to be met.
+fn wanted() -> Vec<String> {
+    let clauses = [
+        Clause::SheetLength,
+        Clause::Schedule,
+        Clause::Cycle,
+        Clause::OrderMark,
+        Clause::OrderSchedule,
+        Clause::ReadRegion,
+        Clause::ReceiveRegion,
+        Clause::TransferKind,
+        Clause::InterruptLeft,
+        Clause::ToGo,
+        Clause::LinkMark,
+        Clause::LinkKind,
+        Clause::HeadMark,
+        Clause::HeadKind,
+        Clause::OutMark,
+        Clause::OutKind,
+        Clause::Choice,
+        Clause::Latch,
+        Clause::ReceiveMark,
+        Clause::ReceiveKind,
+        Clause::LandingMark,
+    ];
+    let faults = [
+        Fault::OutputWantedTwice,
+        Fault::SourceWireWantedTwice,
+        Fault::SlotWhileSending,
+        Fault::PayloadWithoutChoice,
+        Fault::PayloadWithoutPacket,
+        Fault::LandingBeyondMemory,
+    ];
+    let mut names = Vec::new();
+    for kind in ["hand-made", "poked"] {
+        names.extend(clauses.iter().map(|clause| format!("{kind}: 13 by {clause:?} alone")));
+        names.extend(faults.iter().map(|fault| format!("{kind}: 20 by {fault:?} alone")));
+        names.push(format!("{kind}: cycle carried out"));
+    }
+    names.push("filled: cycle carried out".to_string());
+    names.extend((1..=11).map(|number| format!("hand-made: 13 by {:?} alone", Clause::Sheet(number))));
+    names
+}
+
+impl<C: Calls> Runner<'_, C> {
+    /// Makes a call on both and compares answers and words; its number.
+    fn compare(&mut self, call: &Call, lent: Lent, actual: &mut Words, expected: &mut Words) -> Result<u32, String> {
+        let expected_answer = expected.make(call, lent, &mut self.second);
+        let answer = actual.make(call, lent, self.tested);
+        if answer != expected_answer {
+            return Err(format!(
+                "{}, {lent:?}: answered {answer:#x}, second machine {expected_answer:#x}",
+                call.start_of_text()
+            ));
+        }
+        actual.compare(expected).map_err(|what| format!("after {}, {lent:?}: {what}", call.start_of_text()))?;
+        Ok(number_of(answer))
+    }
+
+    fn count(&mut self, result: Result<(), String>, what: impl FnOnce() -> String) {
+        match result {
+            Ok(()) => self.passed += 1,
+            Err(difference) => self.differences.push(format!("{}: {difference}", what())),
+        }
+    }
+
+    fn run_hand_made(&mut self) {
+        let plan = hand_made_plan();
+        let mut random = Random::new(13);
+        let memory: Vec<u32> = (0..plan.nodes() * plan.memory_words).map(|_| random.word()).collect();
+        let mut state = vec![0xA5A5_A5A5; STATE_WORDS + SPARE_WORDS];
+        assert_eq!(self.second.load(&plan.words(), &mut state, &memory), 0, "the plan passes");
+        let loaded = Words { state, memory };
+        for made in hand_made_states() {
+            let mut words = loaded.clone();
+            for &(place, value) in &made.pokes {
+                words.state[place] = value;
+            }
+            let result = self
+                .judge(&made, &words)
+                .and_then(|()| self.call_all(&words))
+                .and_then(|()| self.call_on_short_slices(&made, &words));
+            self.count(result, || format!("{} {:?}", made.name, made.pokes));
+        }
+    }
+
+    /// Example (m) of document 01: in period 4,294,967,295 an order for 2 is taken, for 1 it is 19.
+    fn run_example_m(&mut self) {
+        let plan = sheet_a();
+        let memory = vec![0; (plan.nodes() * plan.memory_words) as usize];
+        let mut state = vec![0; STATE_WORDS];
+        assert_eq!(self.second.load(&plan.words(), &mut state, &memory), 0, "sheet A passes");
+        state[Row::Clock.at(PERIOD_NUMBER)] = u32::MAX;
+        for (period_number, expected) in [(2, 0), (1, 19)] {
+            let call = Call::Order { schedule: 0, period_number };
+            let lent = Words { state: state.clone(), memory: memory.clone() };
+            let (mut actual, mut predicted) = (lent.clone(), lent);
+            let all = actual.all();
+            let result = self.compare(&call, all, &mut actual, &mut predicted).and_then(|number| {
+                if number == expected {
+                    Ok(())
+                } else {
+                    Err(format!("number {number}, expected {expected}"))
+                }
+            });
+            self.count(result, || format!("example (m), order for {period_number}"));
+        }
+    }
+
+    /// The number that is expected by hand, of the second machine and of the tested calls.
+    fn judge(&mut self, made: &HandMade, words: &Words) -> Result<(), String> {
+        let read = self.reader.machine(&words.state);
+        self.coverage.met(&format!("hand-made: {}", met_name(&read)));
+        let right = match (made.expected, &read) {
+            (Expected::Unsound(clause), Err(broken)) => *broken == [clause],
+            (Expected::Faulty(fault), Ok(machine)) => machine.faults() == [fault],
+            (Expected::CarriedOut, Ok(machine)) => machine.faults().is_empty(),
+            (Expected::Sound, Ok(_)) => true,
+            _ => false,
+        };
+        if !right {
+            return Err(format!("made for {:?}, second machine: {}", made.expected, met_name(&read)));
+        }
+        let mut lent = words.clone();
+        let soundness = number_of(self.tested.period_number(&lent.state));
+        let cycle = self.tested.cycle(&mut lent.state, &mut lent.memory);
+        let numbers_right = match made.expected {
+            Expected::Unsound(_) => (soundness, cycle) == (13, 13),
+            Expected::Faulty(_) => (soundness, cycle) == (0, 20),
+            Expected::CarriedOut => (soundness, cycle) == (0, 0),
+            Expected::Sound => soundness == 0 && (cycle == 0 || cycle == 20),
+        };
+        if numbers_right {
+            Ok(())
+        } else {
+            Err(format!("made for {:?}: period number {soundness}, cycle {cycle}", made.expected))
+        }
+    }
+
+    /// Each call on the state as it is, then cycles one behind the other.
+    fn call_all(&mut self, words: &Words) -> Result<(), String> {
+        let mut calls = vec![
+            Call::Load { sheet: hand_made_plan().words() },
+            Call::Start { circuit: 0, read: 0, write: 0, count: 1, kind: INTERRUPT },
+            Call::Store { node: 1, address: 7, word: 5 },
+            Call::Fetch { node: 1, address: 7 },
+            Call::WordsLeft { circuit: 1 },
+            Call::PeriodNumber,
+            Call::Order { schedule: 1, period_number: 4 },
+            Call::Cycle,
+        ];
+        for node in 0..4 {
+            calls.extend((0..5).map(|field| Call::WhatLanded { node, field }));
+        }
+        for call in &calls {
+            let (mut actual, mut expected) = (words.clone(), words.clone());
+            self.compare(call, words.all(), &mut actual, &mut expected)?;
+        }
+        let (mut actual, mut expected) = (words.clone(), words.clone());
+        for _ in 0..CYCLES_OF_HAND_MADE {
+            if self.compare(&Call::Cycle, words.all(), &mut actual, &mut expected)? != 0 {
+                break;
+            }
+        }
+        Ok(())
+    }
+
+    /// Number 12 comes before 13, 13 before 14, and 14 before 20.
+    fn call_on_short_slices(&mut self, made: &HandMade, words: &Words) -> Result<(), String> {
+        let short_state = Lent { state: STATE_WORDS - 1, ..words.all() };
+        let short_memory = Lent { memory: words.memory.len() - 1, ..words.all() };
+        let on_short_memory = if matches!(made.expected, Expected::Unsound(_)) { 13 } else { 14 };
+        let calls = [Call::Cycle, Call::Store { node: 0, address: 0, word: 1 }, Call::Fetch { node: 0, address: 0 }];
+        for call in &calls {
+            for (lent, expected) in [(short_state, 12), (short_memory, on_short_memory)] {
+                let (mut actual, mut predicted) = (words.clone(), words.clone());
+                let number = self.compare(call, lent, &mut actual, &mut predicted)?;
+                if number != expected {
+                    return Err(format!("{call:?}, {lent:?}: number {number}, expected {expected}"));
+                }
+            }
+        }
+        Ok(())
+    }
+
+    /// States from the midst of sessions with words written over; the number of those with few.
+    fn run_poked(&mut self) -> usize {
+        let mut poked = 0;
+        for session in 0..SNAPSHOTS {
+            let (words, machine) = snapshot(session);
+            let mut random = Random::new(0x0909_0000 + session);
+            for _ in 0..POKED_STATES_OF_EACH {
+                let mut pokes = Vec::new();
+                for _ in 0..random.choose(&[1, 1, 2, 3, 4]) {
+                    pokes.extend(some_pokes(&mut random, &machine));
+                }
+                let result = self.run_poked_state("poked", &mut random, &words, &machine, &pokes);
+                self.count(result, || format!("session {session} with {pokes:?}"));
+                poked += 1;
+            }
+            for turn in 0..FILLED_STATES_OF_EACH {
+                let pokes = filled_registers(&mut random, &machine);
+                let result = self.run_poked_state("filled", &mut random, &words, &machine, &pokes);
+                self.count(result, || format!("session {session}, registers filled, {turn}"));
+            }
+        }
+        poked
+    }
+
+    fn run_poked_state(
+        &mut self,
+        group: &str,
+        random: &mut Random,
+        words: &Words,
+        machine: &Machine,
+        pokes: &[(usize, u32)],
+    ) -> Result<(), String> {
+        let mut actual = words.clone();
+        for &(place, value) in pokes {
+            actual.state[place] = value;
+        }
+        let mut expected = actual.clone();
+        for _ in 0..random.between(1, 6) {
+            let call = if random.between(0, 9) < 7 { Call::Cycle } else { some_call(random, machine) };
+            if matches!(call, Call::Cycle) {
+                let read = self.reader.machine(&expected.state);
+                self.coverage.met(&format!("{group}: {}", met_name(&read)));
+            }
+            let number = self.compare(&call, words.all(), &mut actual, &mut expected)?;
+            let outcome = if number == 0 { "done" } else { "refused" };
+            self.coverage.met(&format!("{group}: {} {outcome}", call.name()));
+        }
+        Ok(())
+    }
+}
+
+/// What a state meets in a cycle.
+fn met_name(read: &Result<Machine, Vec<Clause>>) -> String {
+    match read {
+        Err(broken) if broken.len() == 1 => format!("13 by {:?} alone", broken[0]),
+        Err(_) => "13 by several clauses".to_string(),
+        Ok(machine) => match machine.faults()[..] {
+            [] => "cycle carried out".to_string(),
+            [fault] => format!("20 by {fault:?} alone"),
+            _ => "20 by several causes".to_string(),
+        },
+    }
+}
+
+/// How the words of a generated session stand after some of its calls.
+fn snapshot(session: u64) -> (Words, Machine) {
+    let mut generator = Generator::new(session);
+    let mut words = generator.lent_words();
+    let mut second = Second::living();
+    let load = generator.first_load();
+    words.make(&load.call, load.lent, &mut second);
+    for _ in 0..generator.random.between(20, 120) {
+        let made = generator.next(second.view());
+        words.make(&made.call, made.lent, &mut second);
+    }
+    words.memory.truncate(second.view().sheet.all_memory_words());
+    (words, second.view().clone())
+}
+
+/// A register written over, or some that stand beside each other, with values that are mostly
+/// near the bounds of what is sound.
+fn some_pokes(random: &mut Random, machine: &Machine) -> Vec<(usize, u32)> {
+    let circuits = machine.senders.len();
+    match random.between(0, 19) {
+        0..=7 => some_cell_pokes(random, machine),
+        8..=10 => some_receiver_pokes(random, machine),
+        11..=13 => some_clock_pokes(random, machine),
+        14 if circuits > 0 => vec![(Row::ToGo.at(random.position(circuits)), random.between(0, 3))],
+        15 | 16 if circuits > 0 => some_rest(random, machine),
+        17 | 18 => some_sheet_pokes(random, machine),
+        // Registers that the sheet lacks too.
+        _ => {
+            let row = random.position(MOVING_WORDS / ROW_WORDS);
+            let value = random.choose(&[0, 1, 2, 3, 4, 6, u32::MAX]);
+            vec![(row * ROW_WORDS + random.position(ROW_WORDS), value)]
+        }
+    }
+}
+
+fn some_cell_pokes(random: &mut Random, machine: &Machine) -> Vec<(usize, u32)> {
+    let port = random.position(PORTS * machine.nodes.len());
+    let header = random.choose(&[0, 0, 2, 2, 1, 3]) << 30 | random.word() >> 2;
+    let mark = random.choose(&[0, 1, 1, 2, 2, 3, 3, 4, u32::MAX]);
+    let choice = random.choose(&[0, 1, 2, 3, 4, 5, 5, 6]);
+    match random.between(0, 7) {
+        0 | 1 => vec![(Row::LinkMark.at(port), mark), (Row::LinkWord.at(port), header)],
+        2 | 3 => vec![(Row::HeadMark.at(port), mark), (Row::HeadWord.at(port), header), (Row::Choice.at(port), choice)],
+        4 | 5 => vec![(Row::OutMark.at(port), mark), (Row::OutWord.at(port), header)],
+        6 => vec![(Row::Choice.at(port), choice)],
+        _ => vec![(Row::Latch.at(port), choice)],
+    }
+}
+
+fn some_receiver_pokes(random: &mut Random, machine: &Machine) -> Vec<(usize, u32)> {
+    let node = random.position(machine.nodes.len());
+    let memory_words = machine.sheet.memory_words() as u32;
+    let mark = random.between(0, 2);
+    let kind = random.between(0, 4);
+    let some_address = random.between(0, memory_words - 1);
+    let address = random.choose(&[0, memory_words - 1, memory_words, some_address, u32::MAX]);
+    match random.between(0, 2) {
+        0 => vec![(Row::ReceiveMark.at(node), mark), (Row::ReceiveKind.at(node), kind)],
+        1 => vec![
+            (Row::ReceiveMark.at(node), 1),
+            (Row::ReceiveKind.at(node), 0),
+            (Row::ReceiveAddress.at(node), address),
+        ],
+        _ => vec![(Row::LandingMark.at(node), mark), (Row::LandingKind.at(node), kind)],
+    }
+}
+
+fn some_clock_pokes(random: &mut Random, machine: &Machine) -> Vec<(usize, u32)> {
+    let schedules = machine.sheet.sheet.schedules.len() as u32;
+    let period = machine.sheet.sheet.schedules[machine.clock.schedule as usize].period as u32;
+    let some_cycle = random.between(0, period - 1);
+    let cycle = random.choose(&[0, period - 1, period, some_cycle]);
+    let schedule = random.between(0, schedules);
+    match random.between(0, 2) {
+        0 => vec![(Row::Clock.at(CYCLE), cycle)],
+        1 => vec![(Row::Clock.at(SCHEDULE), schedule)],
+        // For the next period, so that the order soon takes effect.
+        _ => vec![
+            (Row::Clock.at(CYCLE), period - 1),
+            (Row::Clock.at(ORDER_MARK), random.between(0, 2)),
+            (Row::Clock.at(ORDER_SCHEDULE), schedule),
+            (Row::Clock.at(ORDER_PERIOD), machine.period_number().wrapping_add(random.between(0, 2))),
+        ],
+    }
+}
+
+fn some_sheet_pokes(random: &mut Random, machine: &Machine) -> Vec<(usize, u32)> {
+    let length = machine.sheet.words.len();
+    let place = random.position(length);
+    let word = machine.sheet.words[place];
+    let changed = random.choose(&[word.wrapping_add(1), word.wrapping_sub(1), 0, u32::MAX]);
+    let stated = random.choose(&[0, length as u32 - 1, length as u32 + 1, 8_597, 8_598, u32::MAX]);
+    vec![random.choose(&[(SHEET + place, changed), (SHEET + place, changed), (SHEET_LENGTH, stated)])]
+}
+
+/// A sound value for every register, with as many words on their way as there can be: each
+/// input of a router has an output of its own, a payload word has its choice or its packet.
+fn filled_registers(random: &mut Random, machine: &Machine) -> Vec<(usize, u32)> {
+    let memory_words = machine.sheet.memory_words() as u32;
+    let mut pokes = Vec::new();
+    for node in 0..machine.nodes.len() {
+        let first_output = random.between(0, 4);
+        for port in 0..PORTS {
+            let [link, head, out] = [0; 3].map(|_| some_cell(random));
+            let own_output = (first_output + 2 * port as u32) % 5 + 1;
+            let choice = if head.mark == EMPTY { random.word() } else { own_output };
+            let latch = if link.is_payload() { random.between(1, 5) } else { random.between(0, 5) };
+            pokes.extend([
+                (Row::LinkMark.of_port(node, port), link.mark),
+                (Row::LinkWord.of_port(node, port), link.word),
+                (Row::HeadMark.of_port(node, port), head.mark),
+                (Row::HeadWord.of_port(node, port), head.word),
+                (Row::Choice.of_port(node, port), choice),
+                (Row::Latch.of_port(node, port), latch),
+                (Row::OutMark.of_port(node, port), out.mark),
+                (Row::OutWord.of_port(node, port), out.word),
+            ]);
+        }
+        pokes.extend([
+            (Row::ReceiveMark.at(node), 1),
+            (Row::ReceiveKind.at(node), random.choose(&[DATA, INTERRUPT])),
+            (Row::ReceiveAddress.at(node), random.between(0, memory_words - 1)),
+            (Row::LandingMark.at(node), random.between(0, 1)),
+            (Row::LandingKind.at(node), random.word()),
+            (Row::LandingAddress.at(node), random.word()),
+            (Row::LandingWord.at(node), random.word()),
+        ]);
+    }
+    pokes
+}
+
+/// A cell with any mark; a header has a kind that travels.
+fn some_cell(random: &mut Random) -> Cell {
+    let mark = random.between(EMPTY, LAST);
+    let word = match mark {
+        HEADER => random.choose(&[DATA, INTERRUPT]) << 30 | random.word() >> 2,
+        _ => random.word(),
+    };
+    Cell { mark, word }
+}
+
+/// A whole transfer's rest, right or a little wrong.
+fn some_rest(random: &mut Random, machine: &Machine) -> Vec<(usize, u32)> {
+    let circuit = random.position(machine.senders.len());
+    let record = &machine.sheet.sheet.circuits[circuit];
+    let left = random.between(0, record.read_length.min(record.receive_length) as u32 + 1);
+    let read = record.read_offset as u32 + random.between(0, 1);
+    let write = record.receive_offset as u32 + random.between(0, 1);
+    vec![
+        (Row::Left.at(circuit), left),
+        (Row::Read.at(circuit), read),
+        (Row::Write.at(circuit), write),
+        (Row::Kind.at(circuit), random.choose(&[0, 0, 0, 2, 1, 3])),
+        (Row::ToGo.at(circuit), random.choose(&[0, 0, 1, left, left + 1])),
+    ]
+}
+
+/// Any call but a cycle, with arguments at and about their bounds.
+fn some_call(random: &mut Random, machine: &Machine) -> Call {
+    let nodes = machine.nodes.len() as u32;
+    let circuits = machine.senders.len() as u32;
+    let memory_words = machine.sheet.memory_words() as u32;
+    let (node, address) = (random.between(0, nodes), random.between(0, memory_words));
+    match random.between(0, 7) {
+        0 => Call::Load { sheet: machine.sheet.words.clone() },
+        1 if circuits > 0 => {
+            let circuit = random.between(0, circuits - 1);
+            let record = &machine.sheet.sheet.circuits[circuit as usize];
+            let (read, write) = (record.read_offset as u32, record.receive_offset as u32);
+            Call::Start { circuit, read, write, count: random.between(0, 2), kind: random.choose(&[0, 2, 1]) }
+        }
+        2 => Call::Store { node, address, word: random.word() },
+        3 => Call::Fetch { node, address },
+        4 => Call::WordsLeft { circuit: random.between(0, circuits) },
+        5 => Call::PeriodNumber,
+        6 => Call::WhatLanded { node, field: random.between(0, 4) },
+        _ => {
+            let schedule = random.between(0, machine.sheet.sheet.schedules.len() as u32);
+            Call::Order { schedule, period_number: machine.period_number().wrapping_add(random.between(0, 5)) }
+        }
+    }
+}

@@ -1,0 +1,483 @@
+//! Sessions for the tests, always the same ones: sheets that pass, lent words of any
+//! content, and calls that are chosen one by one with an eye on how the machine stands, so
+//! that most of them are carried out and every refusal is met too.
+//!
+//! Covered: all nine grids; memories of 1 to 16,384 words; no circuit to 64; one to eight
+//! schedules, mostly crowded, of periods 9 to 48 that differ, some up to 1,024; starts that
+//! are right, too early (17) and wrong in each way of 15 and 16; starts again while words
+//! travel; stores and fetches anywhere, mostly in regions in use; orders 3 and more periods
+//! ahead, 2^31 − 1 ahead, and refused in each way of 15, 18, 19; loads in the midst, carried
+//! out and refused with each of 1 to 12 and 14; states and memories lent too short or too
+//! long; period numbers that wrap, for which the first period's number is written into the
+//! state directly after the load, the only word that no call has written.
+//! Not covered: other states that no calls lead to (tests/states.rs has those), and switches
+//! between schedules of more than some hundred cycles, which three periods would make long.
+
+use super::calls::Call;
+use super::lent::{MOVING_WORDS, STATE_WORDS};
+use super::machine::{Machine, DATA, INTERRUPT};
+use super::near_misses::{add_fault, GRIDS};
+use super::sheets::{largest, passing_plan, some_schedule, Plan, Random, Wish};
+use super::words::{Lent, Words};
+
+/// Words behind the published length of a state and behind a memory.
+pub const SPARE_WORDS: usize = 16;
+
+/// All sessions; the last two have the largest sheet.
+pub const SESSIONS: u64 = 2_198;
+const LARGEST_FROM: u64 = SESSIONS - 2;
+
+/// A call with the way it was made and the number that this calls for.
+pub struct Made {
+    pub name: &'static str,
+    pub call: Call,
+    pub lent: Lent,
+    pub expected: u32,
+}
+
+/// The arguments of a start.
+struct Start {
+    circuit: u32,
+    read: u32,
+    write: u32,
+    count: u32,
+    kind: u32,
+}
+
+impl Start {
+    fn call(self) -> Call {
+        let Start { circuit, read, write, count, kind } = self;
+        Call::Start { circuit, read, write, count, kind }
+    }
+}
+
+pub struct Generator {
+    pub random: Random,
+    plans: Vec<Plan>,
+    /// Which plan is loaded.
+    current: usize,
+    /// Circuits that are still to be started at first.
+    to_start: usize,
+    state_words: usize,
+    /// Cycles that the session has to carry out.
+    pub cycles: u32,
+    /// The number of the first period, where it is not 0.
+    pub first_period: Option<u32>,
+}
+
+fn memory_words_of(plan: &Plan) -> usize {
+    (plan.nodes() * plan.memory_words) as usize
+}
+
+impl Generator {
+    pub fn new(session: u64) -> Generator {
+        let mut random = Random::new(0x5E55_1000 + session);
+        let (columns, rows) = GRIDS[session as usize % GRIDS.len()];
+        let style = session / GRIDS.len() as u64 % 24;
+        let plan =
+            if session >= LARGEST_FROM { largest(session) } else { plan_of_style(&mut random, columns, rows, style) };
+        let (other_columns, other_rows) = random.choose(&GRIDS);
+        let other = plan_of_style(&mut random, other_columns, other_rows, 0);
+        let state_words = STATE_WORDS + random.choose(&[0, 0, 0, 1, SPARE_WORDS]);
+        let cycles = if session >= LARGEST_FROM { 300 } else { random.between(40, 170) };
+        let first_period = random.once_in(6).then(|| u32::MAX - random.between(0, 4));
+        let to_start = plan.circuits.len();
+        Generator { random, plans: vec![plan, other], current: 0, to_start, state_words, cycles, first_period }
+    }
+
+    /// Lent words of any content: the state's, and memory enough for every sheet of the session.
+    pub fn lent_words(&mut self) -> Words {
+        let memory_words = self.plans.iter().map(memory_words_of).max().unwrap_or(0);
+        let mut any = |count: usize| (0..count).map(|_| self.random.word()).collect();
+        Words { state: any(STATE_WORDS + SPARE_WORDS), memory: any(memory_words + SPARE_WORDS) }
+    }
+
+    pub fn first_load(&self) -> Made {
+        self.made("first load", Call::Load { sheet: self.plans[0].words() }, 0)
+    }
+
+    fn plan(&self) -> &Plan {
+        &self.plans[self.current]
+    }
+
+    fn made(&self, name: &'static str, call: Call, expected: u32) -> Made {
+        Made { name, call, lent: Lent { state: self.state_words, memory: memory_words_of(self.plan()) }, expected }
+    }
+
+    /// First most circuits are started, then calls come in any order.
+    pub fn next(&mut self, machine: &Machine) -> Made {
+        if self.to_start > 0 && !self.random.once_in(5) {
+            self.to_start -= 1;
+            return self.start_of(self.to_start, machine);
+        }
+        match self.random.between(0, 99) {
+            0..=54 => self.made("cycle", Call::Cycle, 0),
+            55..=66 => self.start(machine),
+            67..=70 => self.refused_start(machine),
+            71..=77 => self.store(machine),
+            78..=79 => self.refused_place(),
+            80..=83 => self.fetch(),
+            84..=89 => self.question(),
+            90..=91 => self.refused_question(),
+            92..=94 => self.order(machine),
+            95 => self.refused_order(machine),
+            96 => self.refused_load(),
+            97 if self.random.once_in(12) => self.further_load(),
+            97 => self.made("cycle", Call::Cycle, 0),
+            _ => self.wrong_buffers(machine),
+        }
+    }
+
+    /// A right start, mostly of a circuit that is free. Nothing to start: a cycle.
+    fn start(&mut self, machine: &Machine) -> Made {
+        if machine.senders.is_empty() {
+            return self.made("cycle", Call::Cycle, 0);
+        }
+        let is_free = |&circuit: &usize| machine.senders[circuit].left == 0;
+        let free: Vec<usize> = (0..machine.senders.len()).filter(is_free).collect();
+        let circuit = if free.is_empty() || self.random.once_in(8) {
+            self.random.position(machine.senders.len())
+        } else {
+            self.random.choose(&free)
+        };
+        self.start_of(circuit, machine)
+    }
+
+    /// A right start of a circuit, which words left still turn away.
+    fn start_of(&mut self, circuit: usize, machine: &Machine) -> Made {
+        let expected = if machine.senders[circuit].left == 0 { 0 } else { 17 };
+        let call = self.right_start(circuit).call();
+        self.made("start", call, expected)
+    }
+
+    fn right_start(&mut self, circuit: usize) -> Start {
+        let record = self.plan().circuits[circuit];
+        let most = record.read_length.min(record.receive_length);
+        let random = &mut self.random;
+        let kind = random.choose(&[DATA, DATA, DATA, INTERRUPT]);
+        let count = match kind {
+            INTERRUPT => 1,
+            _ if random.once_in(2) => most,
+            _ => random.between(1, most),
+        };
+        let read = record.read_offset + random.between(0, record.read_length - count);
+        let write = record.receive_offset + random.between(0, record.receive_length - count);
+        Start { circuit: circuit as u32, read, write, count, kind }
+    }
+
+    /// A start with one thing wrong. Numbers 15 and 16 come before 17, so the circuit may be busy.
+    fn refused_start(&mut self, machine: &Machine) -> Made {
+        if machine.senders.is_empty() {
+            let start = Start { circuit: 0, read: 0, write: 0, count: 1, kind: DATA };
+            return self.made("start: no such circuit", start.call(), 15);
+        }
+        let circuit = self.random.position(machine.senders.len());
+        let start = self.right_start(circuit);
+        if self.random.between(1, 12) <= 5 {
+            self.start_with_15(start)
+        } else {
+            self.start_with_16(start)
+        }
+    }
+
+    fn start_with_15(&mut self, mut start: Start) -> Made {
+        let memory_words = self.plan().memory_words;
+        let circuits = self.plan().circuits.len() as u32;
+        let random = &mut self.random;
+        let name = match random.between(0, 4) {
+            0 => {
+                start.circuit = random.choose(&[circuits, 64, u32::MAX]);
+                "start: no such circuit"
+            }
+            1 => {
+                start.read = random.choose(&[memory_words, u32::MAX]);
+                "start: no such read address"
+            }
+            2 => {
+                start.write = random.choose(&[memory_words, u32::MAX]);
+                "start: no such write address"
+            }
+            3 => {
+                start.kind = 1;
+                "start: kind 1"
+            }
+            _ => {
+                start.kind = random.choose(&[3, 4, 6, 1 << 30, u32::MAX]);
+                "start: no such kind"
+            }
+        };
+        self.made(name, start.call(), 15)
+    }
+
+    /// A region's end may be the memory's; the address behind it is then number 15.
+    fn start_with_16(&mut self, mut start: Start) -> Made {
+        let memory_words = self.plan().memory_words;
+        let record = self.plan().circuits[start.circuit as usize];
+        let random = &mut self.random;
+        let name = match random.between(0, 6) {
+            0 => {
+                start.count = 0;
+                "start: count 0"
+            }
+            1 => {
+                (start.kind, start.count) = (INTERRUPT, random.choose(&[0, 2, 3]));
+                "start: interrupt of another count"
+            }
+            2 => {
+                // The sum of address and count is small in 32 bits.
+                start.count = u32::MAX - random.between(0, 20);
+                "start: count that wraps"
+            }
+            3 if record.read_offset > 0 => {
+                start.read = record.read_offset - 1;
+                "start: reads before its region"
+            }
+            4 if record.receive_offset > 0 => {
+                start.write = record.receive_offset - 1;
+                "start: writes before its region"
+            }
+            5 => {
+                start.read = record.read_offset + record.read_length - start.count + 1;
+                "start: reads beyond its region"
+            }
+            _ => {
+                start.write = record.receive_offset + record.receive_length - start.count + 1;
+                "start: writes beyond its region"
+            }
+        };
+        let expected = if start.read < memory_words && start.write < memory_words { 16 } else { 15 };
+        self.made(name, start.call(), expected)
+    }
+
+    /// A place in memory, mostly in a circuit's regions, and there often one in use.
+    fn place(&mut self, machine: &Machine) -> (u32, u32) {
+        let plan = &self.plans[self.current];
+        let random = &mut self.random;
+        if plan.circuits.is_empty() || random.once_in(4) {
+            return (random.between(0, plan.nodes() - 1), random.between(0, plan.memory_words - 1));
+        }
+        let circuit = random.position(plan.circuits.len());
+        let record = plan.circuits[circuit];
+        let sender = &machine.senders[circuit];
+        match random.between(0, 2) {
+            0 if sender.left > 0 => (record.source, sender.read + random.between(0, sender.left - 1)),
+            1 => (record.source, record.read_offset + random.between(0, record.read_length - 1)),
+            _ => (record.destination, record.receive_offset + random.between(0, record.receive_length - 1)),
+        }
+    }
+
+    fn store(&mut self, machine: &Machine) -> Made {
+        let (node, address) = self.place(machine);
+        let word = self.random.word();
+        self.made("store", Call::Store { node, address, word }, 0)
+    }
+
+    fn fetch(&mut self) -> Made {
+        let (nodes, memory_words) = (self.plan().nodes(), self.plan().memory_words);
+        let node = self.random.between(0, nodes - 1);
+        let address = self.random.between(0, memory_words - 1);
+        self.made("fetch", Call::Fetch { node, address }, 0)
+    }
+
+    fn refused_place(&mut self) -> Made {
+        let (nodes, memory_words) = (self.plan().nodes(), self.plan().memory_words);
+        let random = &mut self.random;
+        let mut node = random.between(0, nodes - 1);
+        let mut address = random.between(0, memory_words - 1);
+        let no_such_node = random.once_in(2);
+        if no_such_node {
+            node = random.choose(&[nodes, 16, u32::MAX]);
+        } else {
+            address = random.choose(&[memory_words, 16_384, u32::MAX]);
+        }
+        let word = random.word();
+        match (random.once_in(2), no_such_node) {
+            (true, true) => self.made("store: no such node", Call::Store { node, address, word }, 15),
+            (true, false) => self.made("store: no such address", Call::Store { node, address, word }, 15),
+            (false, true) => self.made("fetch: no such node", Call::Fetch { node, address }, 15),
+            (false, false) => self.made("fetch: no such address", Call::Fetch { node, address }, 15),
+        }
+    }
+
+    /// A call that only answers.
+    fn question(&mut self) -> Made {
+        let circuits = self.plan().circuits.len() as u32;
+        let nodes = self.plan().nodes();
+        match self.random.between(0, 2) {
+            0 if circuits > 0 => {
+                let circuit = self.random.between(0, circuits - 1);
+                self.made("words left", Call::WordsLeft { circuit }, 0)
+            }
+            1 => self.made("period number", Call::PeriodNumber, 0),
+            _ => {
+                let node = self.random.between(0, nodes - 1);
+                let field = self.random.choose(&[0, 1, 2, 3, 4, u32::MAX]);
+                self.made("what landed", Call::WhatLanded { node, field }, 0)
+            }
+        }
+    }
+
+    fn refused_question(&mut self) -> Made {
+        let circuits = self.plan().circuits.len() as u32;
+        let nodes = self.plan().nodes();
+        if self.random.once_in(2) {
+            let circuit = self.random.choose(&[circuits, 64, u32::MAX]);
+            self.made("words left: no such circuit", Call::WordsLeft { circuit }, 15)
+        } else {
+            let node = self.random.choose(&[nodes, 16, u32::MAX]);
+            let field = self.random.between(0, 4);
+            self.made("what landed: no such node", Call::WhatLanded { node, field }, 15)
+        }
+    }
+
+    /// A right order, which a pending one still turns away.
+    fn order(&mut self, machine: &Machine) -> Made {
+        let schedules = self.plan().schedules.len() as u32;
+        let schedule = self.random.between(0, schedules - 1);
+        let ahead = match self.random.between(0, 29) {
+            0 => (1 << 31) - 1,
+            1..=7 => self.random.between(4, 6),
+            _ => 3,
+        };
+        let period_number = machine.period_number().wrapping_add(ahead);
+        let expected = if machine.clock.order.mark == 1 { 18 } else { 0 };
+        self.made("order", Call::Order { schedule, period_number }, expected)
+    }
+
+    fn refused_order(&mut self, machine: &Machine) -> Made {
+        let schedules = self.plan().schedules.len() as u32;
+        let now = machine.period_number();
+        if self.random.once_in(3) {
+            let schedule = self.random.choose(&[schedules, 8, u32::MAX]);
+            let period_number = now.wrapping_add(self.random.choose(&[3, 0]));
+            return self.made("order: no such schedule", Call::Order { schedule, period_number }, 15);
+        }
+        let (name, ahead) = match self.random.between(0, 2) {
+            0 => ("order: too soon", self.random.between(0, 2)),
+            1 => ("order: half way round", 1 << 31),
+            _ => ("order: behind", self.random.between((1 << 31) + 1, u32::MAX)),
+        };
+        let schedule = self.random.between(0, schedules - 1);
+        let expected = if machine.clock.order.mark == 1 { 18 } else { 19 };
+        self.made(name, Call::Order { schedule, period_number: now.wrapping_add(ahead) }, expected)
+    }
+
+    /// A load of a sheet with one fault, of each number in turn by chance.
+    fn refused_load(&mut self) -> Made {
+        let mut plan = self.random.choose(&[0, 1]);
+        let rich =
+            |plan: &Plan| plan.circuits.len() > 1 && plan.schedules.iter().all(|schedule| schedule.entries.len() > 1);
+        if !rich(&self.plans[plan]) {
+            plan = 1 - plan;
+        }
+        let number = self.random.between(1, 11);
+        let mut changed = self.plans[plan].clone();
+        let mut made = if number == 1 || !rich(&changed) {
+            let length = self.random.between(0, 4) as usize;
+            let sheet = changed.words()[..length].to_vec();
+            self.made("load: fault in the sheet", Call::Load { sheet }, 1)
+        } else {
+            let schedule = self.random.position(changed.schedules.len());
+            // Room for an entry more, so that number 11 is not 3.
+            changed.schedules[schedule].entries.truncate(255);
+            if add_fault(&mut self.random, &mut changed, number, schedule) {
+                self.made("load: fault in the sheet", Call::Load { sheet: changed.words() }, number)
+            } else {
+                let sheet = [changed.words(), vec![0]].concat();
+                self.made("load: fault in the sheet", Call::Load { sheet }, 3)
+            }
+        };
+        // The sheet is tested before the lent slices.
+        if self.random.once_in(3) {
+            made.lent.state = self.short_state();
+        }
+        made
+    }
+
+    /// A load that is carried out and starts another session.
+    fn further_load(&mut self) -> Made {
+        self.current = 1 - self.current;
+        self.to_start = self.plan().circuits.len();
+        self.made("further load", Call::Load { sheet: self.plan().words() }, 0)
+    }
+
+    fn short_state(&mut self) -> usize {
+        let any = self.random.position(STATE_WORDS);
+        self.random.choose(&[0, 1, MOVING_WORDS, MOVING_WORDS + 1, STATE_WORDS - 1, any])
+    }
+
+    /// A memory of another length than the sheet asks for.
+    fn wrong_memory(&mut self, right: usize) -> usize {
+        self.random.choose(&[0, right - 1, right + 1, right + SPARE_WORDS])
+    }
+
+    /// A call that would be carried out, or refused with a later number, on slices too short or too long.
+    fn wrong_buffers(&mut self, machine: &Machine) -> Made {
+        let mut made = match self.random.between(0, 9) {
+            0 => self.start(machine),
+            1 => self.store(machine),
+            2 => self.fetch(),
+            3 => self.question(),
+            4 => self.order(machine),
+            5 => self.made("load again", Call::Load { sheet: self.plan().words() }, 0),
+            6 => self.refused_place(),
+            7 => self.refused_order(machine),
+            _ => self.made("cycle", Call::Cycle, 0),
+        };
+        let lends_memory =
+            matches!(made.call, Call::Load { .. } | Call::Store { .. } | Call::Fetch { .. } | Call::Cycle);
+        let short = !lends_memory || self.random.once_in(2);
+        if lends_memory && (!short || self.random.once_in(2)) {
+            made.lent.memory = self.wrong_memory(made.lent.memory);
+            (made.name, made.expected) = ("memory of another length", 14);
+        }
+        if short {
+            made.lent.state = self.short_state();
+            (made.name, made.expected) = ("short state", 12);
+        }
+        made
+    }
+}
+
+/// What the usual sheets are like: crowded.
+fn usual_wish(random: &mut Random, columns: u32, rows: u32) -> Wish {
+    Wish {
+        columns,
+        rows,
+        memory_words: random.between(12, 64),
+        circuits: random.between(3, 18),
+        longest_region: random.between(2, 12),
+        schedules: 0,
+        period: None,
+        entries: random.between(8, 60),
+        length: random.choose(&[None, None, Some(2), Some(3), Some(5)]),
+    }
+}
+
+/// Sheets by style; more than half are usual ones of short periods.
+fn plan_of_style(random: &mut Random, columns: u32, rows: u32, style: u64) -> Plan {
+    let usual = usual_wish(random, columns, rows);
+    let some = random.between(1, 4);
+    let (wish, schedules, shortest, longest) = match style {
+        14 | 15 => {
+            let crowded = Wish { memory_words: 128, circuits: 64, longest_region: 4, entries: 180, ..usual };
+            (crowded, some, 24, 48)
+        }
+        16 => (Wish { memory_words: random.between(1, 3), longest_region: 2, ..usual }, some, 9, 32),
+        17 => (Wish { memory_words: 16_384, longest_region: 64, circuits: 24, ..usual }, some, 9, 32),
+        18 => (usual, 2, 49, 300),
+        19 => (Wish { entries: 100, ..usual }, random.choose(&[1, 8]), 1_000, 1_024),
+        20 => (Wish { circuits: 0, entries: 0, ..usual }, some, 9, 32),
+        21 => (usual, some, 9, 9),
+        _ => (usual, some, 9, 32),
+    };
+    let mut plan = passing_plan(random, &wish);
+    for _ in 0..schedules {
+        let period = random.between(shortest, longest);
+        // Now and then a schedule in which nothing is sent.
+        let entries = if random.once_in(10) { 0 } else { wish.entries };
+        let schedule = some_schedule(random, &plan, period, entries, wish.length);
+        plan.schedules.push(schedule);
+    }
+    plan
+}
