@@ -1,0 +1,184 @@
+//! Times the proved program `landings` against the same program in plain Rust, whose paths
+//! are the arguments: 65,536 cycles on three sheets, the least of several runs in turn. Then
+//! the exported cycle call against its parts. Exits 1 where a bar is missed.
+
+#[allow(dead_code)]
+#[path = "../tests/second"]
+mod second {
+    pub mod calls;
+    pub mod checker;
+    pub mod exports;
+    pub mod inputs;
+    pub mod lent;
+    pub mod listing;
+    pub mod machine;
+    pub mod sheets;
+}
+
+use second::calls::Calls;
+use second::exports::Exports;
+use second::inputs::{
+    all_transfers, bytes_of, input_words, largest_in_small_memory, middle_in_small_memory, some_memory, Transfer,
+};
+use second::lent::STATE_WORDS;
+use second::sheets::{sheet_a, Plan, Random};
+use std::fs::{self, File};
+use std::hint::black_box;
+use std::path::{Path, PathBuf};
+use std::process::{Command, ExitCode, Stdio};
+use std::time::Instant;
+
+const MOST_RATIO: f64 = 2.0;
+const MOST_CYCLE_RATIO: f64 = 1.3;
+const CYCLES: u32 = 65_536;
+const RUNS: usize = 9;
+const ROUNDS: usize = 21;
+const NANOSECONDS_PER_ROUND: f64 = 1_000_000.0;
+
+extern "C" {
+    fn argo_verdict(sheet: *const u32, length: usize) -> u32;
+}
+
+struct Subject {
+    name: &'static str,
+    plan: Plan,
+    memory: Vec<u32>,
+    transfers: Vec<Transfer>,
+}
+
+fn subjects() -> Vec<Subject> {
+    let mut random = Random::new(3);
+    let plans = [
+        ("sheet A", sheet_a()),
+        ("middle sheet", middle_in_small_memory(1)),
+        ("largest sheet", largest_in_small_memory(1)),
+    ];
+    let subject = |(name, plan): (&'static str, Plan)| {
+        let memory = some_memory(&mut random, &plan);
+        let transfers = all_transfers(&plan);
+        Subject { name, plan, memory, transfers }
+    };
+    plans.into_iter().map(subject).collect()
+}
+
+fn main() -> ExitCode {
+    let arguments: Vec<String> = std::env::args().skip(1).collect();
+    let [ours, rust] = &arguments[..] else {
+        eprintln!("usage: landings PATH_OF_LANDINGS PATH_OF_RUST_PROGRAM");
+        return ExitCode::FAILURE;
+    };
+    let subjects = subjects();
+    match time_programs(ours, rust, &subjects) {
+        Ok((seconds, good)) => {
+            if time_public_cycles(&subjects, &seconds) & good {
+                ExitCode::SUCCESS
+            } else {
+                ExitCode::FAILURE
+            }
+        }
+        Err(complaint) => {
+            println!("{complaint}");
+            ExitCode::FAILURE
+        }
+    }
+}
+
+/// Seconds of our program's cycles on each subject, and whether the bar is kept on all.
+fn time_programs(ours: &str, rust: &str, subjects: &[Subject]) -> Result<(Vec<f64>, bool), String> {
+    println!("{CYCLES} cycles, the least of {RUNS} runs");
+    println!("{:<14} {:>8} {:>12} {:>12} {:>6}", "sheet", "landings", "ours, s", "Rust, s", "ratio");
+    let mut seconds = Vec::new();
+    let mut good = true;
+    for subject in subjects {
+        let (our_seconds, rust_seconds, landings) = time_input(ours, rust, subject, CYCLES)?;
+        let (our_start, _, _) = time_input(ours, rust, subject, 0)?;
+        let ratio = our_seconds / rust_seconds;
+        println!("{:<14} {landings:>8} {our_seconds:>12.4} {rust_seconds:>12.4} {ratio:>6.2}", subject.name);
+        good &= ratio <= MOST_RATIO;
+        seconds.push(our_seconds - our_start);
+    }
+    Ok((seconds, good))
+}
+
+fn time_input(ours: &str, rust: &str, subject: &Subject, cycles: u32) -> Result<(f64, f64, usize), String> {
+    let words = input_words(&subject.plan.words(), &subject.memory, &subject.transfers, cycles);
+    let file = std::env::temp_dir().join(format!("landings_input_{}", std::process::id()));
+    fs::write(&file, bytes_of(&words)).map_err(|error| error.to_string())?;
+    let timed = time_both(ours, rust, &file);
+    let _ = fs::remove_file(&file);
+    timed.map_err(|what| format!("{}: {what}", subject.name))
+}
+
+/// Least seconds of both programs, run in turn on one input, and the landings printed.
+fn time_both(ours: &str, rust: &str, input: &PathBuf) -> Result<(f64, f64, usize), String> {
+    let (mut our_least, mut rust_least) = (f64::INFINITY, f64::INFINITY);
+    let mut landings = 0;
+    for _ in 0..RUNS {
+        let (our_seconds, our_output) = time_run(ours, input)?;
+        let (rust_seconds, rust_output) = time_run(rust, input)?;
+        if our_output != rust_output {
+            return Err("the two programs print different listings".to_string());
+        }
+        our_least = our_least.min(our_seconds);
+        rust_least = rust_least.min(rust_seconds);
+        landings = our_output.iter().filter(|&&byte| byte == b'\n').count() - 1;
+    }
+    Ok((our_least, rust_least, landings))
+}
+
+fn time_run(program: &str, input: &Path) -> Result<(f64, Vec<u8>), String> {
+    let file = File::open(input).map_err(|error| error.to_string())?;
+    let start = Instant::now();
+    let output =
+        Command::new(program).stdin(Stdio::from(file)).output().map_err(|error| format!("{program}: {error}"))?;
+    let seconds = start.elapsed().as_secs_f64();
+    if output.status.success() && !output.stdout.is_empty() {
+        Ok((seconds, output.stdout))
+    } else {
+        Err(format!("{program} ended with {}", output.status))
+    }
+}
+
+/// Whether the bar is kept on all: a cycle through the exports tests the state first, so it should cost about a verdict and
+/// an inner cycle; the latter is our program's time a cycle, less its time for no cycles.
+fn time_public_cycles(subjects: &[Subject], seconds: &[f64]) -> bool {
+    let mut good = true;
+    println!("an exported cycle call against its parts, medians of {ROUNDS} rounds");
+    println!("{:<14} {:>12} {:>12} {:>16} {:>6}", "sheet", "cycle, ns", "verdict, ns", "inner cycle, ns", "ratio");
+    for (subject, seconds) in subjects.iter().zip(seconds) {
+        let sheet = subject.plan.words();
+        let inner = seconds / f64::from(CYCLES) * 1e9;
+        let verdict = median_time(|| {
+            // The pointer and the length are those of a live slice.
+            black_box(unsafe { argo_verdict(sheet.as_ptr(), sheet.len()) });
+        });
+        let mut state = vec![0; STATE_WORDS];
+        let mut memory = subject.memory.clone();
+        assert_eq!(Exports.load(&sheet, &mut state, &memory), 0, "the sheet passes");
+        for &[circuit, read, write, count, kind] in &subject.transfers {
+            assert_eq!(Exports.start(&mut state, circuit, read, write, count, kind), 0, "a right start");
+        }
+        let cycle = median_time(|| {
+            black_box(Exports.cycle(&mut state, &mut memory));
+        });
+        let ratio = cycle / (verdict + inner);
+        println!("{:<14} {cycle:>12.1} {verdict:>12.1} {inner:>16.1} {ratio:>6.2}", subject.name);
+        good &= ratio <= MOST_CYCLE_RATIO;
+    }
+    good
+}
+
+/// Nanoseconds a call.
+fn median_time(mut call: impl FnMut()) -> f64 {
+    let mut round = |calls: u32| {
+        let start = Instant::now();
+        for _ in 0..calls {
+            call();
+        }
+        start.elapsed().as_nanos() as f64 / f64::from(calls)
+    };
+    let calls = ((NANOSECONDS_PER_ROUND / round(3)) as u32).max(3);
+    let mut times: Vec<f64> = (0..ROUNDS).map(|_| round(calls)).collect();
+    times.sort_by(f64::total_cmp);
+    times[ROUNDS / 2]
+}

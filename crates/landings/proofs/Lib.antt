@@ -1,0 +1,4 @@
+pub mod MessageLaws
+pub mod ReadyLaws
+pub mod PageLaws
+pub mod CallLaws

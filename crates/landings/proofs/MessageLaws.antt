@@ -1,0 +1,253 @@
+-- The message of an input, test by test, and what an input has whose words are all there.
+-- Assumes nothing.
+use Prim.Native.Nat.{ℕ, zero, suc, _+_, _*_, _<_, _≤_}
+use mathlib.Core.Bool.{Bool, true, false, false≢true}
+use mathlib.Core.List.{List}
+use mathlib.Core.Path.{_≡_, refl, sym, _∙_, ap}
+use native.Mathlib.Omega.{arith}
+use native.Mathlib.Decide.{decLe}
+use lib.ListN.{length, take, replicate, length-replicate}
+use lib.Seq.{length-take-le}
+use Rattle.words.specs.Tests.{_<?_, _=?_}
+use Rattle.words.specs.Words.{word, pick, tab}
+use Rattle.words.proofs.TestLaws.{yes<, no<, yes=, no=, is=}
+use Rattle.sheet.specs.Sheet.{columns, rows, nodes, memoryWords}
+use Rattle.sheet.specs.Rules.{verdict}
+use Rattle.octets.specs.Octets.{wordIn}
+use Rattle.soundness.proofs.SheetLaws.{sheet-bounds}
+use Rattle.session.proofs.ReadingLaws.{few-words}
+use Rattle.landings.specs.declared.input.Message.{Message}
+use Rattle.landings.specs.declared.input.Message.the-variants.{TooLarge, InputEnds, Refused, Runs}
+use Rattle.landings.specs.Input.{mostSheet, mostMemory, mostTransfers, mostCycles, sheetLength, sheetOf, memoryPlace, memorySize, transfersPlace, transfers, cyclesPlace, cycles}
+use Rattle.landings.specs.Messages.{cyclesMessage, transfersMessage, memoryMessage, checkedMessage, inputMessage}
+
+-- a test applies, or it does not and the rest decides
+stops : {t : Bool} (a b : Message) → t ≡ true → a ≡ pick t a b
+stops a b e = sym (ap (λ (t : Bool). pick t a b) e)
+
+goes : {t : Bool} (a b : Message) {v : Message} → t ≡ false → v ≡ b → v ≡ pick t a b
+goes a b e r = r ∙ sym (ap (λ (t : Bool). pick t a b) e)
+
+-- the cycles
+module _ (b : List ℕ) (at : ℕ) (p : at ≡ cyclesPlace b) where
+  pub cycles-end : length b < 4 * (at + 1) → InputEnds ≡ cyclesMessage b
+  unfolding cyclesMessage
+  cycles-end h = stops _ _ (yes< (omega (arith, p, h)))
+
+  module _ (h : 4 * (at + 1) ≤ length b) {count : ℕ} (e : count ≡ wordIn b at) where
+    cycles-are : count ≡ cycles b
+    unfolding cycles
+    cycles-are = e ∙ ap (wordIn b) p
+
+    pub cycles-over : mostCycles < count → TooLarge ≡ cyclesMessage b
+    unfolding cyclesMessage
+    cycles-over l = goes _ _ (no< (omega (arith, p, h))) (stops _ _ (yes< (omega (arith, cycles-are, l))))
+
+    pub cycles-run : count ≤ mostCycles → Runs ≡ cyclesMessage b
+    unfolding cyclesMessage
+    cycles-run l = goes _ _ (no< (omega (arith, p, h))) (goes _ _ (no< (omega (arith, cycles-are, l))) refl)
+
+-- the transfers
+module _ (b : List ℕ) (at : ℕ) (p : at ≡ transfersPlace b) where
+  pub transfers-end : length b < 4 * (at + 1) → InputEnds ≡ transfersMessage b
+  unfolding transfersMessage
+  transfers-end h = stops _ _ (yes< (omega (arith, p, h)))
+
+  module _ (h : 4 * (at + 1) ≤ length b) {count : ℕ} (e : count ≡ wordIn b at) where
+    transfers-are : count ≡ transfers b
+    unfolding transfers
+    transfers-are = e ∙ ap (wordIn b) p
+
+    pub transfers-over : mostTransfers < count → TooLarge ≡ transfersMessage b
+    unfolding transfersMessage
+    transfers-over l = goes _ _ (no< (omega (arith, p, h))) (stops _ _ (yes< (omega (arith, transfers-are, l))))
+
+    pub cycles-place : at + 1 + 5 * count ≡ cyclesPlace b
+    cycles-place = omega (arith, p, transfers-are)
+
+    pub transfers-on : {v : Message} → count ≤ mostTransfers → v ≡ cyclesMessage b → v ≡ transfersMessage b
+    unfolding transfersMessage
+    transfers-on l r = goes _ _ (no< (omega (arith, p, h))) (goes _ _ (no< (omega (arith, transfers-are, l))) r)
+
+-- the memories
+module _ (b : List ℕ) {size : ℕ} (e : size ≡ memorySize b) where
+  pub memory-over : mostMemory < size → TooLarge ≡ memoryMessage b
+  unfolding memoryMessage
+  memory-over l = stops _ _ (yes< (omega (arith, e, l)))
+
+  pub memory-on : {v : Message} → size ≤ mostMemory → v ≡ transfersMessage b → v ≡ memoryMessage b
+  unfolding memoryMessage
+  memory-on l r = goes _ _ (no< (omega (arith, e, l))) r
+
+-- their size, from the first three words of a sheet that passes
+module _ (z : List ℕ) (e : verdict z ≡ 0) {a b : ℕ} (p : a ≡ columns z) (q : b ≡ rows z) where
+  pub nodes-are : a * b ≡ nodes z
+  nodes-are = ap (λ x. x * b) p ∙ ap (λ x. columns z * x) q
+
+  pub few-nodes : a * b ≤ 16
+  few-nodes = omega (arith, nodes-are, sheet-bounds z e .few-nodes)
+
+  pub size-is : {c : ℕ} → c ≡ memoryWords z → a * b * c ≡ nodes z * memoryWords z
+  size-is {c} r = ap (λ x. x * c) nodes-are ∙ ap (λ x. nodes z * x) r
+
+  pub few-in-all : {c : ℕ} → c ≡ memoryWords z → a * b * c ≤ 262144
+  few-in-all r = omega (arith, size-is r, few-words z (sheet-bounds z e))
+
+-- the checker
+module _ (b : List ℕ) {sheet : List ℕ} {n : ℕ} (l : n ≡ sheetLength b) (q : sheet ≡ tab n (λ k. wordIn b (1 + k))) where
+  pub sheet-is : sheet ≡ sheetOf b
+  unfolding sheetOf
+  sheet-is = q ∙ ap (λ m. tab m (λ k. wordIn b (1 + k))) l
+
+  module _ {number : ℕ} (e : number ≡ verdict sheet) where
+    pub verdict-is : number ≡ verdict (sheetOf b)
+    verdict-is = e ∙ ap verdict sheet-is
+
+    pub checked-refused : (number ≡ 0 → ⊥) → Refused number ≡ checkedMessage b
+    unfolding checkedMessage
+    checked-refused ne = goes _ _ (no= (λ z. ne (verdict-is ∙ z))) (ap Refused verdict-is)
+
+    pub checked-on : {v : Message} → number ≡ 0 → v ≡ memoryMessage b → v ≡ checkedMessage b
+    unfolding checkedMessage
+    checked-on z r = r ∙ stops _ _ (yes= (sym verdict-is ∙ z))
+
+  pub memory-size-is : {size : ℕ} → size ≡ nodes sheet * memoryWords sheet → size ≡ memorySize b
+  unfolding memorySize
+  memory-size-is e = e ∙ ap (λ (z : List ℕ). nodes z * memoryWords z) sheet-is
+
+-- the sheet
+module _ (b : List ℕ) where
+  pub no-length : length b < 4 → InputEnds ≡ inputMessage b
+  unfolding inputMessage
+  no-length h = stops _ _ (yes< h)
+
+  module _ (h : 4 ≤ length b) {count : ℕ} (e : count ≡ wordIn b 0) where
+    pub sheet-over : mostSheet < count → TooLarge ≡ inputMessage b
+    unfolding inputMessage
+    sheet-over l = goes _ _ (no< h) (stops _ _ (yes< (omega (arith, e, l))))
+
+    module _ (l : count ≤ mostSheet) where
+      pub sheet-ends : length b < 4 * (1 + count) → InputEnds ≡ inputMessage b
+      unfolding inputMessage
+      sheet-ends k = goes _ _ (no< h) (goes _ _ (no< (omega (arith, e, l))) (stops _ _ (yes< (omega (arith, e, k)))))
+
+      pub sheet-on : {v : Message} → 4 * (1 + count) ≤ length b → v ≡ checkedMessage b → v ≡ inputMessage b
+      unfolding inputMessage
+      sheet-on k r = goes _ _ (no< h) (goes _ _ (no< (omega (arith, e, l))) (goes _ _ (no< (omega (arith, e, k))) r))
+
+-- the part of the room for a sheet, or for memories, that an input needs
+pub part-length : (n m : ℕ) → n ≤ m → length {A = ℕ} (take n (replicate m 0)) ≡ n
+part-length n m h = length-take-le n (replicate m 0) (omega (arith, length-replicate {A = ℕ} m 0))
+
+pub part-ready : (n m : ℕ) (b : List ℕ) → n ≤ m → m ≤ 8597 → 4 * (1 + n) ≤ length b → n ≡ sheetLength b
+    → (4 * (1 + length {A = ℕ} (take n (replicate m 0))) ≤ length b)
+    × (length {A = ℕ} (take n (replicate m 0)) ≡ sheetLength b)
+    × (length {A = ℕ} (take n (replicate m 0)) ≤ 8597)
+part-ready n m b h s k e = (omega (arith, part-length n m h), part-length n m h ∙ e, omega (arith, part-length n m h))
+
+-- what an input has whose words are all there
+pub record Whole (bytes : List ℕ) : Type 0 where
+  pub some : 4 ≤ length bytes
+  pub small-sheet : sheetLength bytes ≤ mostSheet
+  pub sheet-there : 4 * memoryPlace bytes ≤ length bytes
+  pub passes : verdict (sheetOf bytes) ≡ 0
+  pub small-memory : memorySize bytes ≤ mostMemory
+  pub few-transfers : transfers bytes ≤ mostTransfers
+  pub long : 4 * (cyclesPlace bytes + 1) ≤ length bytes
+  pub few-cycles : cycles bytes ≤ mostCycles
+
+abbrev isRuns : Message → Bool
+isRuns TooLarge = false
+isRuns InputEnds = false
+isRuns (Refused n) = false
+isRuns Runs = true
+
+-- a message that is none has passed the test before it
+passed : (t : Bool) (a b : Message) → isRuns a ≡ false → pick t a b ≡ Runs → (t ≡ false) × (b ≡ Runs)
+passed true a b n e = absurd (false≢true (sym n ∙ ap isRuns e))
+passed false a b n e = (refl, e)
+
+accepted : (t : Bool) (a b : Message) → isRuns b ≡ false → pick t a b ≡ Runs → (t ≡ true) × (a ≡ Runs)
+accepted true a b n e = (refl, e)
+accepted false a b n e = absurd (false≢true (sym n ∙ ap isRuns e))
+
+not-less : (a b : ℕ) → (a <? b) ≡ false → b ≤ a
+not-less a b e = go (decLe b a)
+  where
+    go : Dec (b ≤ a) → b ≤ a
+    go (yes p) = p
+    go (no p) = absurd (false≢true (sym e ∙ yes< (omega (arith, p))))
+
+module _ (b : List ℕ) where
+  cycles-passed : cyclesMessage b ≡ Runs → ((length b <? 4 * (cyclesPlace b + 1)) ≡ false) × ((mostCycles <? cycles b) ≡ false)
+  unfolding cyclesMessage
+  cycles-passed e =
+      let p = passed (length b <? 4 * (cyclesPlace b + 1)) InputEnds (pick (mostCycles <? cycles b) TooLarge Runs) refl e in
+      (p .0, passed (mostCycles <? cycles b) TooLarge Runs refl (p .1) .0)
+
+  transfers-passed : transfersMessage b ≡ Runs → ((mostTransfers <? transfers b) ≡ false) × (cyclesMessage b ≡ Runs)
+  unfolding transfersMessage
+  transfers-passed e =
+      let rest = pick (mostTransfers <? transfers b) TooLarge (cyclesMessage b) in
+      passed (mostTransfers <? transfers b) TooLarge (cyclesMessage b) refl
+      (passed (length b <? 4 * (transfersPlace b + 1)) InputEnds rest refl e .1)
+
+  room-passed : memoryMessage b ≡ Runs → ((mostMemory <? memorySize b) ≡ false) × (transfersMessage b ≡ Runs)
+  unfolding memoryMessage
+  room-passed e = passed (mostMemory <? memorySize b) TooLarge (transfersMessage b) refl e
+
+  checked-passed : checkedMessage b ≡ Runs → ((verdict (sheetOf b) =? 0) ≡ true) × (memoryMessage b ≡ Runs)
+  unfolding checkedMessage
+  checked-passed e = accepted (verdict (sheetOf b) =? 0) (memoryMessage b) (Refused (verdict (sheetOf b))) refl e
+
+  sheet-passed : inputMessage b ≡ Runs
+      → ((length b <? 4 * 1) ≡ false) × ((mostSheet <? sheetLength b) ≡ false) × ((length b <? 4 * memoryPlace b) ≡ false) × (checkedMessage b ≡ Runs)
+  unfolding inputMessage
+  sheet-passed e =
+      let last = pick (length b <? 4 * memoryPlace b) InputEnds (checkedMessage b) in
+      let p = passed (length b <? 4 * 1) InputEnds (pick (mostSheet <? sheetLength b) TooLarge last) refl e in
+      let q = passed (mostSheet <? sheetLength b) TooLarge last refl (p .1) in
+      let r = passed (length b <? 4 * memoryPlace b) InputEnds (checkedMessage b) refl (q .1) in
+      (p .0, q .0, r .0, r .1)
+
+  pub whole : inputMessage b ≡ Runs → Whole b
+  whole e =
+      let p = sheet-passed e in
+      let q = checked-passed (p .3) in
+      let r = room-passed (q .1) in
+      let t = transfers-passed (r .1) in
+      let c = cycles-passed (t .1) in
+      record {
+        some = not-less _ _ (p .0);
+        small-sheet = not-less _ _ (p .1);
+        sheet-there = not-less _ _ (p .2);
+        passes = is= _ _ (q .0);
+        small-memory = not-less _ _ (r .0);
+        few-transfers = not-less _ _ (t .0);
+        long = not-less _ _ (c .0);
+        few-cycles = not-less _ _ (c .1);
+      }
+
+  -- where its parts lie: the place of the transfers, their number, and the place of the cycles
+  module _ (e : inputMessage b ≡ Runs) (at : ℕ) (p : at ≡ transfersPlace b) where
+    pub transfers-there : (4 * at + 3 < length b) × (at ≤ 12694)
+    transfers-there =
+        let w = whole e in
+        (omega (arith, p, w .long), omega (arith, p, w .small-sheet, w .small-memory))
+
+    module _ {count : ℕ} (q : count ≡ wordIn b at) where
+      pub count-is : count ≡ transfers b
+      unfolding transfers
+      count-is = q ∙ ap (wordIn b) p
+
+      pub count-few : count ≤ 64
+      count-few = omega (arith, count-is, whole e .few-transfers)
+
+      pub all-there : 4 * (at + 1 + 5 * count) + 3 < length b
+      all-there = omega (arith, p, count-is, whole e .long)
+
+      pub cycles-is : {n : ℕ} → n ≡ wordIn b (at + 1 + 5 * count) → n ≡ cycles b
+      unfolding cycles
+      cycles-is r =
+          let there : at + 1 + 5 * count ≡ cyclesPlace b = omega (arith, p, count-is) in
+          r ∙ ap (wordIn b) there

@@ -1,0 +1,50 @@
+-- `landings::pages::put_landing` meets its contract: a landing has a line, and nothing landed has none.
+-- Assumes nothing.
+use Rattle.landings.proofs.PageLaws.{textOf, none-put, some-put}
+use mathlib.Core.Path.{ap}
+use denote.Ref.{now}
+use Rattle.session.specs.Calls.{lastLanding}
+use borrow.Author.Needs.{needs}
+use Rattle.landings.proofs.pages.put_landing.Statement.{statement}
+use Rattle.landings.proofs.pages.put_landing.Tie as tie
+
+landing-at-requires : tie.Need-landing-at-requires
+landing-at-requires c κs = search needs
+
+enum-told : tie.Need-enum-told
+enum-told c = search needs
+
+enum-known-kind : tie.Need-enum-known-kind
+enum-known-kind c = search needs
+
+put-line-requires : tie.Need-put-line-requires
+put-line-requires c κs = search needs
+
+enum-told-2 : tie.Need-enum-told-2
+enum-told-2 c = search needs
+
+returns : tie.Need-returns
+returns c = none-put _ _ (lastLanding (now (c .before .before .before .before .before .args .s)) (c .before .before .before .before .before .args .node)) (c .before .before .landing-at .ensures) (ap (textOf (c .before .before .before .before .before .args .time) (c .before .before .before .before .before .args .node)) (c .enum-told .given .1)) _ _
+
+same-length : tie.Need-same-length
+same-length c = search needs
+
+returns-2 : tie.Need-returns-2
+returns-2 c = some-put _ _ (lastLanding (now (c .before .before .before .before .before .before .before .before .before .before .args .s)) (c .before .before .before .before .before .before .before .before .before .before .args .node)) (c .before .before .before .before .before .before .before .landing-at .ensures) _ _ _ _ _ (c .before .before .before .before .before .kind .given .1) (c .before .before .put-line .ensures .0) (c .before .before .put-line .ensures .1)
+
+returns-3 : tie.Need-returns-3
+returns-3 c = none-put _ _ (lastLanding (now (c .before .before .before .before .before .args .s)) (c .before .before .before .before .before .args .node)) (c .before .before .landing-at .ensures) (ap (textOf (c .before .before .before .before .before .args .time) (c .before .before .before .before .before .args .node)) (c .enum-told2 .given .1)) _ _
+
+pub put-landing-spec : {M : Type 1} → statement M
+put-landing-spec =
+    tie.close
+    (tie.spec
+    landing-at-requires
+    enum-told
+    enum-known-kind
+    put-line-requires
+    enum-told-2
+    returns
+    same-length
+    returns-2
+    returns-3)

@@ -1,0 +1,37 @@
+-- `landings::run_input` meets its contract: the input's sheet fits in the room.
+-- Assumes nothing.
+use Rattle.landings.proofs.MessageLaws.{whole, part-length}
+use native.Mathlib.Omega.{arith}
+use mathlib.Core.Path.{sym, _∙_}
+use borrow.Author.Needs.{needs}
+use Rattle.landings.proofs.run_input.Statement.{statement}
+use Rattle.landings.proofs.run_input.Tie as tie
+
+word-in-requires : tie.Need-word-in-requires
+word-in-requires c κs = omega (arith, whole _ (c .before .pre) .some)
+
+cast-n : tie.Need-cast-n
+cast-n c = search needs
+
+array-borrow-prefix-sheet : tie.Need-array-borrow-prefix-sheet
+array-borrow-prefix-sheet c = omega (arith, c .word-in .ensures, whole _ (c .before .before .pre) .small-sheet)
+
+slice-aggregate-run : tie.Need-slice-aggregate-run
+slice-aggregate-run c = sym (part-length _ 8597 (omega (arith, c .before .word-in .ensures, whole _ (c .before .before .before .pre) .small-sheet)))
+
+run-requires : tie.Need-run-requires
+run-requires c κs = (c .before .before .before .pre, part-length _ 8597 (omega (arith, c .before .word-in .ensures, whole _ (c .before .before .before .pre) .small-sheet)) ∙ c .before .word-in .ensures)
+
+returns : tie.Need-returns
+returns c = search needs
+
+pub run-input-spec : {M : Type 1} → statement M
+run-input-spec =
+    tie.close
+    (tie.spec
+    word-in-requires
+    cast-n
+    array-borrow-prefix-sheet
+    slice-aggregate-run
+    run-requires
+    returns)

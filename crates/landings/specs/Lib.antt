@@ -1,0 +1,3 @@
+pub mod Input
+pub mod Messages
+pub mod Lines

@@ -1,0 +1,30 @@
+-- The listing of `landings`: cycle by cycle, then node by node, what landed.
+use Prim.Native.Nat.{ℕ, zero, suc, _+_}
+use mathlib.Core.List.{List, [], _++_}
+use Rattle.network.specs.View.{Landing, nothing, landed}
+use Rattle.session.specs.Calls.{Lent, Call, cycle, after, lastLanding}
+use Rattle.listing.specs.Text.{landingLine}
+
+-- what is lent, as one
+abbrev pub lent : List ℕ → List ℕ → Lent
+lent s m = record { state = s; memory = m }
+
+-- what was lent after so many cycles
+unfoldable pub cyclesOn : ℕ → Lent → Lent
+cyclesOn zero w = w
+cyclesOn (suc k) w = after cycle (cyclesOn k w)
+
+-- a node's line for a cycle, where something landed
+abbrev pub lineFor : ℕ → ℕ → Landing → List ℕ
+lineFor time node nothing = []
+lineFor time node (landed kind address payload) = landingLine time node address payload kind
+
+-- the lines of the first nodes for a cycle, from the state directly after it
+unfoldable pub cycleLines : ℕ → ℕ → List ℕ → List ℕ
+cycleLines zero time s = []
+cycleLines (suc n) time s = cycleLines n time s ++ lineFor time n (lastLanding s n)
+
+-- the lines of so many cycles, of which the first has a number since the load
+unfoldable pub cyclesLines : ℕ → ℕ → ℕ → Lent → List ℕ
+cyclesLines nodes first zero w = []
+cyclesLines nodes first (suc k) w = cyclesLines nodes first k w ++ cycleLines nodes (first + k) (cyclesOn (suc k) w .state)

@@ -1,0 +1,122 @@
+// What the input says before anything is run: the one line that it earns, or that its words are all there.
+ghost use mathlib.Core.Path.{_≡_};
+ghost use Prim.Native.Nat.{ℕ, _+_, _*_, _<_, _≤_};
+ghost use lib.ListN.{length};
+ghost use Rattle.sheet.specs.Sheet.{nodes, memoryWords};
+ghost use Rattle.sheet.specs.Rules.{verdict};
+ghost use Rattle.landings.specs.Input.{sheetLength, memoryPlace, memorySize, transfersPlace, cyclesPlace, cycles};
+ghost use Rattle.landings.specs.declared.input.Message.the-variants.{Runs};
+ghost use Rattle.landings.specs.Messages.{cyclesMessage, transfersMessage, memoryMessage, checkedMessage, inputMessage};
+
+pub const MOST_SHEET: u32 = 8597;
+
+const MOST_MEMORY: u32 = 4096;
+
+const MOST_TRANSFERS: u32 = 64;
+
+const MOST_CYCLES: u32 = 65536;
+
+// The line to print instead of a listing, or Runs.
+pub enum Message {
+    TooLarge,
+    InputEnds,
+    Refused(u32),
+    Runs,
+}
+
+// The cycles' word, at its place, which transfers_message has reckoned.
+fn cycles_message(bytes: &[u8], at: usize) -> Message
+    requires { ⌜ (at ≡ cyclesPlace (now bytes)) × (at ≤ 13015) ⌝ }
+    ensures { λ r. ⌜ r ≡ cyclesMessage (now (bytes .entry)) ⌝ }
+{
+    if bytes.len() < 4 * (at + 1) {
+        return Message::InputEnds;
+    }
+    if octets::word_in(bytes, at) > MOST_CYCLES {
+        return Message::TooLarge;
+    }
+    Message::Runs
+}
+
+// The number of transfers, at its place, which memory_message has reckoned.
+fn transfers_message(bytes: &[u8], at: usize) -> Message
+    requires { ⌜ (at ≡ transfersPlace (now bytes)) × (at ≤ 12694) ⌝ }
+    ensures { λ r. ⌜ r ≡ transfersMessage (now (bytes .entry)) ⌝ }
+{
+    if bytes.len() < 4 * (at + 1) {
+        return Message::InputEnds;
+    }
+    let count = octets::word_in(bytes, at);
+    if count > MOST_TRANSFERS {
+        return Message::TooLarge;
+    }
+    cycles_message(bytes, at + 1 + 5 * (count as usize))
+}
+
+// The memories' size, worked out by checked_message from a sheet that passes.
+fn memory_message(bytes: &[u8], at: usize, size: u32) -> Message
+    requires { ⌜ (at ≡ memoryPlace (now bytes)) × (at ≤ 8598) × (size ≡ memorySize (now bytes)) ⌝ }
+    ensures { λ r. ⌜ r ≡ memoryMessage (now (bytes .entry)) ⌝ }
+{
+    if size > MOST_MEMORY {
+        return Message::TooLarge;
+    }
+    transfers_message(bytes, at + size as usize)
+}
+
+// Memory words of all nodes; the callers' sheet has passed the checker.
+pub fn memory_size(sheet: &[u32]) -> u32
+    requires { ⌜ verdict (now sheet) ≡ 0 ⌝ }
+    ensures { λ r. ⌜ r ≡ nodes (now (sheet .entry)) * memoryWords (now (sheet .entry)) ⌝ }
+{
+    words::get(sheet, 0) * words::get(sheet, 1) * words::get(sheet, 2)
+}
+
+// The checker's number for a sheet whose words are all there, and what follows; input_message lends room for the sheet.
+fn checked_message(bytes: &[u8], sheet: &mut [u32]) -> Message
+    requires { ⌜ (4 * (1 + length (now sheet)) ≤ length (now bytes)) × (length (now sheet) ≡ sheetLength (now bytes)) × (length (now sheet) ≤ 8597) ⌝ }
+    ensures { λ r. ⌜ r ≡ checkedMessage (now (bytes .entry)) ⌝ }
+{
+    octets::read_words(bytes, 1, sheet);
+    let number = checker::verdict_number(sheet);
+    if number != 0 {
+        return Message::Refused(number);
+    }
+    let size = memory_size(sheet);
+    memory_message(bytes, 1 + sheet.len(), size)
+}
+
+// The message of an input, as far as it is read before the load.
+pub fn input_message(bytes: &[u8]) -> Message
+    ensures { λ r. ⌜ r ≡ inputMessage (now (bytes .entry)) ⌝ }
+{
+    if bytes.len() < 4 {
+        return Message::InputEnds;
+    }
+    let count = octets::word_in(bytes, 0);
+    if count > MOST_SHEET {
+        return Message::TooLarge;
+    }
+    let n = count as usize;
+    if bytes.len() < 4 * (1 + n) {
+        return Message::InputEnds;
+    }
+    let mut sheet = [0u32; 8597];
+    checked_message(bytes, &mut sheet[..n])
+}
+
+// How many nodes a sheet has that passes the checker.
+pub fn nodes_of(sheet: &[u32]) -> u32
+    requires { ⌜ verdict (now sheet) ≡ 0 ⌝ }
+    ensures { λ r. ⌜ (r ≡ nodes (now (sheet .entry))) × (r ≤ 16) ⌝ }
+{
+    words::get(sheet, 0) * words::get(sheet, 1)
+}
+
+// The cycles of an input whose words are all there, behind its transfers, which begin at a place.
+pub fn cycles_in(bytes: &[u8], at: usize) -> u32
+    requires { ⌜ (inputMessage (now bytes) ≡ Runs) × (at ≡ transfersPlace (now bytes)) ⌝ }
+    ensures { λ r. ⌜ r ≡ cycles (now (bytes .entry)) ⌝ }
+{
+    octets::word_in(bytes, at + 1 + 5 * (octets::word_in(bytes, at) as usize))
+}

@@ -1,0 +1,40 @@
+-- `listing::put_line` meets its contract: the five fields are put one behind the other.
+-- Assumes nothing.
+use native.Mathlib.Omega.{arith}
+use Rattle.listing.proofs.TextLaws.{field-short, line-place, line-bytes}
+use borrow.Author.Needs.{needs}
+use Rattle.listing.proofs.put_line.Statement.{statement}
+use Rattle.listing.proofs.put_line.Tie as tie
+
+put-field-requires : tie.Need-put-field-requires
+put-field-requires c κs = search needs
+
+put-field-requires-2 : tie.Need-put-field-requires-2
+put-field-requires-2 c κs = omega (arith, c .before .before .before .put-field .ensures .0, field-short (c .before .before .before .before .before .before .args .cycle) 32)
+
+put-field-requires-3 : tie.Need-put-field-requires-3
+put-field-requires-3 c κs = omega (arith, c .before .before .before .before .before .before .before .put-field .ensures .0, field-short (c .before .before .before .before .before .before .before .before .before .before .args .cycle) 32, c .before .before .before .put-field2 .ensures .0, field-short (c .before .before .before .before .before .before .before .before .before .before .args .node) 32)
+
+put-field-requires-4 : tie.Need-put-field-requires-4
+put-field-requires-4 c κs = omega (arith, c .before .before .before .before .before .before .before .before .before .before .before .put-field .ensures .0, field-short (c .before .before .before .before .before .before .before .before .before .before .before .before .before .before .args .cycle) 32, c .before .before .before .before .before .before .before .put-field2 .ensures .0, field-short (c .before .before .before .before .before .before .before .before .before .before .before .before .before .before .args .node) 32, c .before .before .before .put-field3 .ensures .0, field-short (c .before .before .before .before .before .before .before .before .before .before .before .before .before .before .args .address) 32)
+
+put-field-requires-5 : tie.Need-put-field-requires-5
+put-field-requires-5 c κs = omega (arith, c .before .before .before .before .before .before .before .before .before .before .before .before .before .before .before .put-field .ensures .0, field-short (c .before .before .before .before .before .before .before .before .before .before .before .before .before .before .before .before .before .before .args .cycle) 32, c .before .before .before .before .before .before .before .before .before .before .before .put-field2 .ensures .0, field-short (c .before .before .before .before .before .before .before .before .before .before .before .before .before .before .before .before .before .before .args .node) 32, c .before .before .before .before .before .before .before .put-field3 .ensures .0, field-short (c .before .before .before .before .before .before .before .before .before .before .before .before .before .before .before .before .before .before .args .address) 32, c .before .before .before .put-field4 .ensures .0, field-short (c .before .before .before .before .before .before .before .before .before .before .before .before .before .before .before .before .before .before .args .word) 32)
+
+same-length : tie.Need-same-length
+same-length c = search needs
+
+returns : tie.Need-returns
+returns c = (line-place _ _ _ _ _ _ (c .before .before .before .before .before .before .before .before .before .before .before .before .before .before .before .before .before .before .put-field .ensures .0) (c .before .before .before .before .before .before .before .before .before .before .before .before .before .before .put-field2 .ensures .0) (c .before .before .before .before .before .before .before .before .before .before .put-field3 .ensures .0) (c .before .before .before .before .before .before .put-field4 .ensures .0) (c .before .before .put-field5 .ensures .0), line-bytes _ _ _ _ _ _ (c .before .before .before .before .before .before .before .before .before .before .before .before .before .before .before .before .before .before .put-field .ensures .0) (c .before .before .before .before .before .before .before .before .before .before .before .before .before .before .put-field2 .ensures .0) (c .before .before .before .before .before .before .before .before .before .before .put-field3 .ensures .0) (c .before .before .before .before .before .before .put-field4 .ensures .0) _ (c .before .before .before .before .before .before .before .before .before .before .before .before .before .before .before .before .before .before .put-field .ensures .1) (c .before .before .before .before .before .before .before .before .before .before .before .before .before .before .put-field2 .ensures .1) (c .before .before .before .before .before .before .before .before .before .before .put-field3 .ensures .1) (c .before .before .before .before .before .before .put-field4 .ensures .1) (c .before .before .put-field5 .ensures .1))
+
+pub put-line-spec : {M : Type 1} → statement M
+put-line-spec =
+    tie.close
+    (tie.spec
+    put-field-requires
+    put-field-requires-2
+    put-field-requires-3
+    put-field-requires-4
+    put-field-requires-5
+    same-length
+    returns)

@@ -1,0 +1,25 @@
+-- The text of a listing of landings, as bytes in ASCII (document 01, "The key's examples": the program `landings`).
+use Prim.Native.Nat.{ℕ, _^_}
+use mathlib.Core.List.{List, [], _∷_, _++_}
+use Rattle.io.specs.Digits.{digits}
+use Rattle.words.specs.Tests.{_<?_}
+use Rattle.words.specs.Words.{leastFrom}
+
+abbrev pub space : ℕ
+space = 32
+
+abbrev pub lineEnd : ℕ
+lineEnd = 10
+
+-- the fewest digits that a word takes in decimal, of which it takes 1 to 10
+unfoldable pub places : ℕ → ℕ
+places n = leastFrom 10 1 (λ k. n <? 10 ^ k)
+
+-- a word in decimal, with what ends it
+unfoldable pub field : ℕ → ℕ → List ℕ
+field n end = digits 10 (places n) n ++ (end ∷ [])
+
+-- a landing's line
+unfoldable pub landingLine : ℕ → ℕ → ℕ → ℕ → ℕ → List ℕ
+landingLine cycle node address payload kind =
+    field cycle space ++ (field node space ++ (field address space ++ (field payload space ++ field kind lineEnd)))
