@@ -22,7 +22,7 @@ use Rattle.network.specs.Registers.{reg, sheetIn, clockRow, cyclePlace, schedul
 use Rattle.network.specs.Machine.{slotIn}
 use Rattle.network.specs.Paired.{Paired}
 use Rattle.network.proofs.SlotLaws.{found-inside, length-none, length-is, route-none, route-is}
-use Rattle.sources.specs.Slots.{slotTable, slotPut}
+use Rattle.sources.specs.Slots.{slotTable, slotPut, Behind}
 use Rattle.sources.proofs.TableLaws.{tab-same, tab-set}
 
 -- an entry put into the table, or not
@@ -91,6 +91,36 @@ module _ (z : List ℕ) (j cycle : ℕ) where
         let here = all-at _ (entryCount (entriesOf z j) - 1) in-order i l′ in
         or-cases _ _ here (λ less. (let x = is< _ _ less in omega arith)) (λ same. (let x = is= _ _ (and-left _ _ same) in omega arith))
 
+    -- so no entry in front of another begins later
+    no-later : (k n : ℕ) → k + n < entryCount (entriesOf z j) → entryAt (entriesOf z j) k .offset ≤ entryAt (entriesOf z j) (k + n) .offset
+    no-later k zero l =
+        let q : k ≡ k + 0 = sym (add-zero k) in
+        subst (λ (i : ℕ). entryAt (entriesOf z j) k .offset ≤ entryAt (entriesOf z j) i .offset) q (omega arith)
+    no-later k (suc n) l =
+        let before = no-later k n (omega arith) in
+        let up = ascends (k + n) (omega arith) in
+        let q : k + n + 1 ≡ k + suc n = omega arith in
+        subst (λ (i : ℕ). entryAt (entriesOf z j) k .offset ≤ entryAt (entriesOf z j) i .offset) q (omega arith)
+
+    -- sixteen more entries begin before the cycle where the last of them does
+    pub behind-more : (entries : List ℕ) (i : ℕ) → entries ≡ entriesOf z j → Behind entries cycle i → i + 16 ≤ entryCount entries
+        → (e : Entry) → e ≡ entryAt entries (i + 15) → e .offset < cycle → Behind entries cycle (i + 16)
+    behind-more entries i same g l e read early = record {
+      inside = l;
+      earlier = λ k kl. subst (λ (x : List ℕ). entryAt x k .offset < cycle) (sym same) (go k kl);
+    }
+      where
+        go : (k : ℕ) → k < i + 16 → entryAt (entriesOf z j) k .offset < cycle
+        go k kl =
+            let q : k + (i + 15 - k) ≡ i + 15 = omega arith in
+            let fits : entryCount entries ≡ entryCount (entriesOf z j) = ap entryCount same in
+            let last : entryAt (entriesOf z j) (i + 15) .offset < cycle =
+            subst (λ (x : Entry). x .offset < cycle) (read ∙ ap (λ (x : List ℕ). entryAt x (i + 15)) same) early in
+            let up = no-later k (i + 15 - k) (omega arith) in
+            let up′ : entryAt (entriesOf z j) k .offset ≤ entryAt (entriesOf z j) (i + 15) .offset =
+            subst (λ (n : ℕ). entryAt (entriesOf z j) k .offset ≤ entryAt (entriesOf z j) n .offset) q up in
+            omega arith
+
     module _ (i : ℕ) (late : cycle < entryAt (entriesOf z j) i .offset) where
       later : (n : ℕ) → i + n < entryCount (entriesOf z j) → cycle < entryAt (entriesOf z j) (i + n) .offset
       later zero l = subst (λ (k : ℕ). cycle < entryAt (entriesOf z j) k .offset) (sym (add-zero i)) late
@@ -109,12 +139,29 @@ module _ (z : List ℕ) (j cycle : ℕ) where
           ∙ sym (last-over (i + n) (entryAt (entriesOf z j) (i + n)) refl (λ e. omega arith) c)
           ∙ last-late n (omega arith) c
 
-  filling-start : (entries slots : List ℕ) → Framed z → j < schedules z → entries ≡ entriesOf z j → slots ≡ tab 64 (λ (c : ℕ). 0)
-      → Filling entries slots (entryCount entries) 0
+  -- of entries that begin before the cycle none begins in it
+  last-none : (n : ℕ) → ((k : ℕ) → k < n → entryAt (entriesOf z j) k .offset < cycle) → (c : ℕ) → lastBefore n c ≡ 0
   unfolding lastOf
-  filling-start entries slots f l e t =
+  last-none zero early c = refl
+  last-none (suc n) early c =
+      let here = early n (omega arith) in
+      let q : suc n ≡ n + 1 = omega arith in
+      ap (λ (k : ℕ). lastBefore k c) q
+      ∙ sym (last-over n (entryAt (entriesOf z j) n) refl (λ e. omega arith) c)
+      ∙ last-none n (λ k l. early k (omega arith)) c
+
+  filling-start : (entries slots : List ℕ) (i : ℕ) → Framed z → j < schedules z → entries ≡ entriesOf z j → slots ≡ tab 64 (λ (c : ℕ). 0)
+      → Behind entries cycle i → Filling entries slots (entryCount entries) i
+  filling-start entries slots i f l e t b =
       let q : entryCount entries ≡ entryCount (entriesOf z j) = ap entryCount e in
-      record { inside = omega arith; whole = q; few = omega (arith, entries-few z f j l); same = e; table = t }
+      record {
+        inside = b .inside;
+        whole = q;
+        few = omega (arith, entries-few z f j l);
+        same = e;
+        table = t ∙ tab-same 64 (λ (c : ℕ). 0) (lastBefore i)
+            (λ c h. sym (last-none i (λ k kl. subst (λ (x : List ℕ). entryAt x k .offset < cycle) e (b .earlier k kl)) c));
+      }
 
   module _ (entries slots : List ℕ) (count i : ℕ) (g : Filling entries slots count i) where
     -- entry i is one of the schedule's, and its number fits a word
@@ -163,10 +210,10 @@ module _ (s z : List ℕ) (g : Paired s z) where
   cycleNow = reg s clockRow cyclePlace
 
   -- the loop over the schedule in force
-  pub table-start : (cycle j : ℕ) (entries slots : List ℕ) → j ≡ inForce → entries ≡ entriesOf z j → slots ≡ tab 64 (λ (c : ℕ). 0)
-      → Filling z inForce cycle entries slots (entryCount entries) 0
-  table-start cycle j entries slots a e t =
-      filling-start z inForce cycle entries slots (g .framed) (g .in-force) (e ∙ ap (entriesOf z) a) t
+  pub table-start : (cycle j : ℕ) (entries slots : List ℕ) (i : ℕ) → j ≡ inForce → entries ≡ entriesOf z j → slots ≡ tab 64 (λ (c : ℕ). 0)
+      → Behind entries cycle i → Filling z inForce cycle entries slots (entryCount entries) i
+  table-start cycle j entries slots i a e t b =
+      filling-start z inForce cycle entries slots i (g .framed) (g .in-force) (e ∙ ap (entriesOf z) a) t b
 
   table-as : (cycle : ℕ) (slots : List ℕ) → cycle ≡ cycleNow → slots ≡ tab 64 (entryBeginning z inForce cycle) → slots ≡ slotTable s
   unfolding slotTable
@@ -217,3 +264,28 @@ module _ (s z : List ℕ) (g : Paired s z) where
 
       pub slot-route : (x : Entry) → x ≡ entryAt entries (found - 1) → x .route ≡ slotRoute (sheetIn s) inForce cycleNow c
       slot-route x r = route-is z inForce cycleNow c found found-is entries entries-own x r ne ∙ route-own
+
+-- no entry is passed yet
+pub behind-none : (entries : List ℕ) (cycle : ℕ) → Behind entries cycle 0
+behind-none entries cycle = record { inside = omega arith; earlier = λ k l. absurd (omega arith) }
+
+-- the loop that passes over entries in steps
+pub record Passing (entries : List ℕ) (cycle count i : ℕ) : Type 0 where
+  pub behind : Behind entries cycle i
+  pub whole : count ≡ entryCount entries
+  pub few : count ≤ 256
+
+pub passing-start : (z : List ℕ) (j cycle : ℕ) (entries : List ℕ) → Framed z → j < schedules z → entries ≡ entriesOf z j
+    → Passing entries cycle (entryCount entries) 0
+passing-start z j cycle entries f l e =
+    let q : entryCount entries ≡ entryCount (entriesOf z j) = ap entryCount e in
+    record { behind = behind-none entries cycle; whole = refl; few = omega (arith, entries-few z f j l) }
+
+pub passing-more : (z : List ℕ) (j cycle : ℕ) (entries : List ℕ) (count i : ℕ) → rule8 z ≡ true → j < schedules z → entries ≡ entriesOf z j
+    → Passing entries cycle count i → i + 16 ≤ count → (e : Entry) → e ≡ entryAt entries (i + 15) → e .offset < cycle
+    → Passing entries cycle count (i + 16)
+passing-more z j cycle entries count i r l same g fits e read early = record {
+  behind = behind-more z j cycle r l entries i same (g .behind) (omega (arith, g .whole)) e read early;
+  whole = g .whole;
+  few = g .few;
+}

@@ -6,14 +6,15 @@ ghost use Prim.Native.Nat.{ℕ, _+_, _*_, _<_, _≤_, min};
 ghost use Rattle.words.specs.Tests.{any, _and_, _or_, _≤?_, _=?_};
 ghost use Rattle.words.specs.Words.{word as wordAt, tab};
 ghost use Rattle.packet.specs.Header.{headerWord};
-ghost use Rattle.sheet.specs.Sheet.{circuits, nodes};
+ghost use Rattle.sheet.specs.Sheet.{circuits, schedules, nodes, entriesOf};
+ghost use Rattle.sheet.specs.Passed.{Framed};
 ghost use Rattle.sheet.specs.Rules.{rule8};
 ghost use Rattle.sheet.specs.Slots.{slotRoute, sourceOf};
 ghost use Rattle.network.specs.Registers.{reg as regOf, sheetIn, room, clockRow, cyclePlace, schedulePlace, leftRow, readRow, writeRow, kindRow, toGoRow};
 ghost use Rattle.network.specs.Machine.{slotIn, moveIn, sentMark, sentWord, sourceMark, sourceWord, crowdsIn, reopensIn, nextInRow};
 ghost use Rattle.network.specs.Paired.{Paired, Sendable};
 ghost use Rattle.network.specs.Stages.{stage};
-ghost use Rattle.sources.specs.Slots.{slotTable, slotPut};
+ghost use Rattle.sources.specs.Slots.{slotTable, slotPut, Behind};
 ghost use Rattle.sources.specs.Wires.{marksBefore, wordsBefore, putFree, crowdsAt};
 ghost use Rattle.sources.specs.Steps.{Sending, Steppable, sendWord, senderPut};
 use network::put_reg;
@@ -33,6 +34,24 @@ fn put_slot(entry: Entry, number: u32, cycle: u32, slots: &mut [u32])
     words::put(slots, entry.circuit as usize, number);
 }
 
+// So many entries of schedule j that begin before the cycle, counted in steps of sixteen: by rule 8 the last of a step begins last.
+fn entries_passed(z: &[u32], j: u32, entries: &[u32], cycle: u32) -> u32
+    requires { ⌜ (Framed (now z)) × (rule8 (now z) ≡ true) × (j < schedules (now z)) × (now entries ≡ entriesOf (now z) j) ⌝ }
+    ensures { λ r. ⌜ Behind (now (entries .entry)) cycle r ⌝ }
+{
+    let count = entries.len() / 4;
+    let mut i: u32 = 0;
+    while (i as usize) + 16 <= count {
+        let entry = Entry::at(entries, (i as usize) + 15);
+        if entry.offset < cycle {
+            i += 16;
+        } else {
+            return i;
+        }
+    }
+    i
+}
+
 // The slots that begin in this cycle, by circuit: one more than the entry's number, 0 where none begins. By rule 8 no entry behind
 // a later one begins. The call that found the state sound lends its sheet, here and below, and 64 zeros.
 pub fn slots_now(s: &[u32], z: &[u32], slots: &mut [u32])
@@ -40,9 +59,10 @@ pub fn slots_now(s: &[u32], z: &[u32], slots: &mut [u32])
     ensures { λ _. ⌜ now (slots .exit) ≡ slotTable (now (s .entry)) ⌝ }
 {
     let cycle = reg(s, network::CLOCK_ROW, network::CYCLE_PLACE);
-    let entries = sheet::entries_of(z, reg(s, network::CLOCK_ROW, network::SCHEDULE_PLACE));
+    let schedule = reg(s, network::CLOCK_ROW, network::SCHEDULE_PLACE);
+    let entries = sheet::entries_of(z, schedule);
     let count = entries.len() / 4;
-    let mut i: u32 = 0;
+    let mut i = entries_passed(z, schedule, entries, cycle);
     while (i as usize) < count {
         let entry = Entry::at(entries, i as usize);
         if cycle < entry.offset {

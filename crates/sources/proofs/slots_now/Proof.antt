@@ -1,21 +1,21 @@
--- `sources::slots_now` meets its contract: in the loop the entries before `i` are in the table; behind a later entry none begins.
+-- `sources::slots_now` meets its contract: in the loop the entries before `i` are in the table, of those passed none begins; behind a later entry none begins.
 -- Assumes nothing.
-use native.Mathlib.Omega.{arith}
-use borrow.Author.Needs.{needs}
 use Prim.Native.Nat.{_-_}
-use mathlib.Core.Path.{_∙_, sym, ap}
+use mathlib.Core.Path.{sym, _∙_, ap}
+use native.Mathlib.Omega.{arith}
 use lib.ListN.{length}
 use Rattle.words.proofs.WordLaws.{length-tab}
 use Rattle.network.specs.Registers.{reg, clockRow, schedulePlace}
-use Rattle.sources.proofs.BeginLaws.{Filling, filling-inside, filling-more, filling-length, table-start, table-stop, table-done}
+use Rattle.sources.proofs.BeginLaws.{Filling, table-start, filling-inside, filling-length, filling-more, table-stop, table-done}
+use borrow.Author.Needs.{needs}
 use Rattle.sources.proofs.slots_now.Statement.{statement}
 use Rattle.sources.proofs.slots_now.Tie as tie
 
 abbrev Inv-loop : tie.InvT-loop
-Inv-loop s z slots₀ cycle entries count i₀ slots i = Filling z (reg s clockRow schedulePlace) cycle entries slots count i
+Inv-loop s z slots₀ cycle schedule entries count i₀ slots i = Filling z (reg s clockRow schedulePlace) cycle entries slots count i
 
 abbrev μ-loop : tie.MeasureT-loop
-μ-loop s z slots₀ cycle entries count i₀ slots i = count - i
+μ-loop s z slots₀ cycle schedule entries count i₀ slots i = count - i
 
 reg-requires : tie.Need-reg-requires Inv-loop μ-loop
 reg-requires c κs = search needs
@@ -24,10 +24,13 @@ reg-requires-2 : tie.Need-reg-requires-2 Inv-loop μ-loop
 reg-requires-2 c κs = search needs
 
 entries-of-requires : tie.Need-entries-of-requires Inv-loop μ-loop
-entries-of-requires c κs = (c .before .before .before .before .before .pre .0 .framed, omega (arith, c .before .before .before .before .before .pre .0 .in-force))
+entries-of-requires c κs = (c .before .before .before .before .before .pre .0 .framed, omega (arith, c .before .before .before .before .before .pre .0 .in-force, c .reg2 .ensures))
+
+entries-passed-requires : tie.Need-entries-passed-requires Inv-loop μ-loop
+entries-passed-requires c κs = (c .before .before .before .before .before .before .pre .0 .framed, c .before .before .before .before .before .before .pre .1, omega (arith, c .before .before .before .before .before .before .pre .0 .in-force, c .before .reg2 .ensures), c .entries-of .ensures)
 
 loop-holds : tie.Need-loop-holds Inv-loop μ-loop
-loop-holds c = table-start _ _ (c .before .before .before .before .before .before .pre .0) _ _ _ _ (c .before .reg2 .ensures) (c .entries-of .ensures) (c .before .before .before .before .before .before .pre .2)
+loop-holds c = table-start _ _ (c .before .before .before .before .before .before .before .pre .0) _ _ _ _ _ (c .before .before .reg2 .ensures) (c .before .entries-of .ensures) (c .before .before .before .before .before .before .before .pre .2) (c .entries-passed .ensures)
 
 cast-loop : tie.Need-cast-loop Inv-loop μ-loop
 cast-loop c = search needs
@@ -39,10 +42,10 @@ at-requires : tie.Need-at-requires Inv-loop μ-loop
 at-requires c κs = filling-inside _ _ _ _ _ _ _ (c .before .loop .inv) (omega arith)
 
 same-length : tie.Need-same-length Inv-loop μ-loop
-same-length c = filling-length _ _ _ _ _ _ _ (c .before .before .before .before .loop .inv) ∙ sym (ap length (c .before .before .before .before .before .before .before .before .before .before .before .pre .2) ∙ length-tab 64 _)
+same-length c = filling-length _ _ _ _ _ _ _ (c .before .before .before .before .loop .inv) ∙ sym (ap length (c .before .before .before .before .before .before .before .before .before .before .before .before .pre .2) ∙ length-tab 64 _)
 
 returns : tie.Need-returns Inv-loop μ-loop
-returns c = table-stop _ _ (c .before .before .before .before .before .before .before .before .before .before .before .pre .0) (c .before .before .before .before .before .before .before .before .before .before .before .pre .1) _ _ _ _ _ (c .before .before .before .before .before .before .before .reg .ensures) (c .before .before .before .before .loop .inv) (omega arith) _ (c .before .before .at .ensures) (omega arith)
+returns c = table-stop _ _ (c .before .before .before .before .before .before .before .before .before .before .before .before .pre .0) (c .before .before .before .before .before .before .before .before .before .before .before .before .pre .1) _ _ _ _ _ (c .before .before .before .before .before .before .before .before .reg .ensures) (c .before .before .before .before .loop .inv) (omega arith) _ (c .before .before .at .ensures) (omega arith)
 
 add-put-slot : tie.Need-add-put-slot Inv-loop μ-loop
 add-put-slot c = omega (arith, c .before .before .before .before .loop .inv .few)
@@ -60,10 +63,10 @@ loop-again : tie.Need-loop-again Inv-loop μ-loop
 loop-again c = filling-more _ _ _ _ _ _ _ (c .before .before .before .before .before .before .before .before .loop .inv) (omega arith) _ (c .before .before .before .before .before .before .at .ensures) _ (c .before .before .put-slot .ensures)
 
 same-length-2 : tie.Need-same-length-2 Inv-loop μ-loop
-same-length-2 c = filling-length _ _ _ _ _ _ _ (c .before .loop .inv) ∙ sym (ap length (c .before .before .before .before .before .before .before .before .pre .2) ∙ length-tab 64 _)
+same-length-2 c = filling-length _ _ _ _ _ _ _ (c .before .loop .inv) ∙ sym (ap length (c .before .before .before .before .before .before .before .before .before .pre .2) ∙ length-tab 64 _)
 
 returns-2 : tie.Need-returns-2 Inv-loop μ-loop
-returns-2 c = table-done _ _ (c .before .before .before .before .before .before .before .before .pre .0) _ _ _ _ _ (c .before .before .before .before .reg .ensures) (c .before .loop .inv) (omega arith)
+returns-2 c = table-done _ _ (c .before .before .before .before .before .before .before .before .before .pre .0) _ _ _ _ _ (c .before .before .before .before .before .reg .ensures) (c .before .loop .inv) (omega arith)
 
 pub slots-now-spec : {M : Type 1} → statement M
 slots-now-spec =
@@ -74,6 +77,7 @@ slots-now-spec =
     reg-requires
     reg-requires-2
     entries-of-requires
+    entries-passed-requires
     loop-holds
     cast-loop
     cast-at
