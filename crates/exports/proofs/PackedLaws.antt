@@ -1,4 +1,4 @@
--- The numbers of the session's answers are those that the answers were made of.
+-- The numbers of the session's answers with a value are those that the answers were made of.
 -- Assumes nothing.
 use Prim.Native.Nat.{ℕ, zero, suc, _*_}
 use mathlib.Core.Path.{_≡_, refl, sym, _∙_, ap}
@@ -8,18 +8,10 @@ use Rattle.words.specs.Tests.{_=?_}
 use Rattle.words.specs.Words.{pick}
 use Rattle.words.proofs.TestLaws.{no=}
 use Rattle.network.specs.View.{Landing, nothing, landed}
-use Rattle.session.specs.declared.Answer.{Answer}
 use Rattle.session.specs.declared.Found.{Found}
 use Rattle.session.specs.declared.Landed.{Landed}
-use Rattle.session.specs.Answers.{answerOf, foundOf, landedOf}
-use Rattle.exports.specs.Packed.{packed, chosen, fieldOf, numberOf, packedFound, packedLanded}
-
-number-answer : (n : ℕ) → numberOf (answerOf n) ≡ n
-number-answer zero = refl
-number-answer (suc n) = refl
-
-pub number-is : (n r : ℕ) (a : Answer) → a ≡ answerOf n → r ≡ numberOf a → r ≡ n
-number-is n r a e f = f ∙ ap numberOf e ∙ number-answer n
+use Rattle.session.specs.Answers.{foundOf, landedOf}
+use Rattle.exports.specs.Packed.{packed, chosen, fieldOf, packedFound, packedLanded}
 
 refused : (n w : ℕ) → suc n * 4294967296 ≡ packed (suc n) w
 unfolding packed

@@ -4,8 +4,6 @@ use Prim.Native.Nat.{ℕ, _*_}
 use Rattle.words.specs.Tests.{_=?_}
 use Rattle.words.specs.Words.{pick}
 use Rattle.network.specs.View.{Landing, nothing, landed}
-use Rattle.session.specs.declared.Answer.{Answer}
-use Rattle.session.specs.declared.Answer.the-variants.{Done, Refused}
 use Rattle.session.specs.declared.Found.{Found}
 use Rattle.session.specs.declared.Found.the-variants.{Word as FoundWord, Refused as FoundRefused}
 use Rattle.session.specs.declared.Landed.{Landed}
@@ -23,11 +21,7 @@ abbrev pub fieldOf : ℕ → Landing → ℕ
 fieldOf field nothing = 0
 fieldOf field (landed kind address word) = chosen field kind address word
 
--- the numbers of the session's answers
-abbrev pub numberOf : Answer → ℕ
-numberOf Done = 0
-numberOf (Refused n) = n
-
+-- the numbers of the session's answers that have a value
 abbrev pub packedFound : Found → ℕ
 packedFound (FoundWord w) = w
 packedFound (FoundRefused n) = n * 4294967296

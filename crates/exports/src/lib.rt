@@ -8,11 +8,11 @@ ghost use Rattle.sheet.specs.Rules.{verdict};
 ghost use Rattle.network.specs.Registers.{stateWords};
 ghost use Rattle.network.specs.Machine.{nextState, nextMemory};
 ghost use Rattle.session.specs.Calls.{loadNumber, loaded, startNumber, started, placeNumber, stored, fetched, leftNumber, wordsLeft, stateNumber, periodNumberIn, landedNumber, lastLanding, orderNumber, ordered, cycleNumber};
-ghost use Rattle.session.specs.Answers.{answerOf, foundOf, landedOf};
-ghost use Rattle.exports.specs.Packed.{packed, chosen, fieldOf, numberOf, packedFound, packedLanded};
-use session::Answer;
+ghost use Rattle.session.specs.Answers.{foundOf, landedOf};
+ghost use Rattle.exports.specs.Packed.{packed, chosen, fieldOf, packedFound, packedLanded};
 use session::Found;
 use session::Landed;
+use session::number_of;
 
 // The verdict upon a sheet: 0 where it passes, else the number of its refusal.
 #[no_mangle]
@@ -28,16 +28,6 @@ pub extern "C" fn argo_state_words() -> u32
     ensures { λ r. ⌜ r ≡ stateWords ⌝ }
 {
     network::STATE_WORDS as u32
-}
-
-// The number of an answer without a value.
-fn number_of(answer: Answer) -> u32
-    ensures { λ r. ⌜ r ≡ numberOf answer ⌝ }
-{
-    match answer {
-        Answer::Done => 0,
-        Answer::Refused(n) => n,
-    }
 }
 
 // A word, or a number above it.

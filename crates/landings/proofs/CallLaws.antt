@@ -3,11 +3,10 @@
 use Prim.Native.Nat.{ℕ, zero, suc, _+_, _-_, _*_, _≤_, _<_}
 use mathlib.Core.Bool.{Bool, true, false, false≢true}
 use mathlib.Core.List.{List}
-use mathlib.Core.Path.{_≡_, refl, sym, _∙_, ap, subst}
+use mathlib.Core.Path.{_≡_, refl, sym, _∙_, ap}
 use native.Mathlib.Omega.{arith}
 use native.Mathlib.Nat.{add-suc, add-zero}
 use native.Mathlib.Numerals.{add-one}
-use native.Mathlib.Decide.{ℕ-discrete}
 use lib.ListN.{length, replicate}
 use Rattle.words.specs.Tests.{_=?_}
 use Rattle.words.specs.Words.{pick, tab}
@@ -17,24 +16,16 @@ use Rattle.sheet.specs.Rules.{verdict}
 use Rattle.octets.specs.Octets.{wordIn}
 use Rattle.network.specs.Registers.{stateWords}
 use Rattle.session.specs.declared.Answer.{Answer}
-use Rattle.session.specs.Answers.{answerOf}
-use Rattle.session.specs.Calls.{memoryNumber, loadNumber, loaded, startNumber, started, Lent, start, number}
-use Rattle.session.proofs.KeptLaws.{state-length-kept, load-length}
+use Rattle.session.specs.Answers.{answerOf, numberOf}
+use Rattle.session.specs.Calls.{memoryNumber, loadNumber, loaded, startNumber, started, start}
+use Rattle.session.proofs.AnswerLaws.{number-is}
 use Rattle.landings.specs.declared.input.Message.{Message}
 use Rattle.landings.specs.declared.input.Message.the-variants.{Runs}
-use Rattle.landings.specs.Input.{sheetLength, sheetOf, memorySize, memoryOf, memoryPlace, transfersPlace, transfers, transferPlace}
+use Rattle.landings.specs.Input.{sheetLength, sheetOf, memorySize, memoryOf, transfersPlace, transfers, transferPlace}
 use Rattle.landings.specs.Lines.{lent}
-use Rattle.landings.specs.Messages.{numberOf, Called, called, inputMessage, transferNumber, transferStarted, startNext, startsOn, callsOn, calls, refusalOf, callsMessage, message, behind}
+use Rattle.landings.specs.Messages.{Called, called, inputMessage, transferNumber, transferStarted, startNext, startsOn, callsOn, calls, refusalOf, callsMessage, message, behind}
 use Rattle.landings.proofs.MessageLaws.{whole}
 use Rattle.landings.proofs.ReadyLaws.{ready-loaded, ready-kept}
-
--- an answer's number
-pub number-is : (n : ℕ) {o : Answer} {r : ℕ} → o ≡ answerOf n → r ≡ numberOf o → r ≡ n
-number-is n e f = f ∙ ap numberOf e ∙ go n
-  where
-    go : (n : ℕ) → numberOf (answerOf n) ≡ n
-    go zero = refl
-    go (suc n) = refl
 
 -- five words at a place
 same-five : {A : Type 0} (f : ℕ → ℕ → ℕ → ℕ → ℕ → A) {a b c d e a′ b′ c′ d′ e′ : ℕ}

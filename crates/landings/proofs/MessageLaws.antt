@@ -1,6 +1,6 @@
 -- The message of an input, test by test, and what an input has whose words are all there.
 -- Assumes nothing.
-use Prim.Native.Nat.{ℕ, zero, suc, _+_, _*_, _<_, _≤_}
+use Prim.Native.Nat.{ℕ, _+_, _*_, _<_, _≤_}
 use mathlib.Core.Bool.{Bool, true, false, false≢true}
 use mathlib.Core.List.{List}
 use mathlib.Core.Path.{_≡_, refl, sym, _∙_, ap}
@@ -9,7 +9,7 @@ use native.Mathlib.Decide.{decLe}
 use lib.ListN.{length, take, replicate, length-replicate}
 use lib.Seq.{length-take-le}
 use Rattle.words.specs.Tests.{_<?_, _=?_}
-use Rattle.words.specs.Words.{word, pick, tab}
+use Rattle.words.specs.Words.{pick, tab}
 use Rattle.words.proofs.TestLaws.{yes<, no<, yes=, no=, is=}
 use Rattle.sheet.specs.Sheet.{columns, rows, nodes, memoryWords}
 use Rattle.sheet.specs.Rules.{verdict}

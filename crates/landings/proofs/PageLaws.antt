@@ -2,10 +2,10 @@
 -- Assumes nothing.
 use Prim.Native.Nat.{ℕ, zero, suc, _+_, _-_, _*_, _≤_, _<_}
 use mathlib.Core.Bool.{Bool, true, false}
-use mathlib.Core.List.{List, [], _∷_, _++_}
+use mathlib.Core.List.{List, [], _++_}
 use mathlib.Core.Path.{_≡_, refl, sym, _∙_, ap, subst}
 use native.Mathlib.Omega.{arith}
-use native.Mathlib.Nat.{add-zero, zero-add}
+use native.Mathlib.Nat.{add-zero}
 use native.Mathlib.Numerals.{add-one}
 use lib.ListN.{length, take, length-append}
 use Rattle.words.specs.Tests.{_=?_}
@@ -19,7 +19,7 @@ use Rattle.session.specs.declared.Answer.the-variants.{Done, Refused}
 use Rattle.session.specs.declared.Landed.{Landed}
 use Rattle.session.specs.declared.Landed.the-variants.{Nothing, Word as LandedWord, Refused as LandedRefused}
 use Rattle.session.specs.Answers.{answerOf, landedOf}
-use Rattle.session.specs.Calls.{memoryNumber, cycleNumber, lastLanding, Lent, cycle, number, does, after}
+use Rattle.session.specs.Calls.{memoryNumber, cycleNumber, lastLanding, Lent, cycle, does, after}
 use Rattle.session.proofs.KeptLaws.{state-length-kept, memory-length-kept}
 use Rattle.listing.specs.Text.{landingLine}
 use Rattle.listing.proofs.TextLaws.{line-short, put-behind, putAll-front}

@@ -1,14 +1,12 @@
 -- The lent words stay such that 12 to 14 do not apply: after the load, and after each call that is carried out.
 -- Assumes nothing.
-use Prim.Native.Nat.{ℕ, _*_, _≤_}
-use mathlib.Core.Bool.{Bool, true, false}
+use Prim.Native.Nat.{ℕ, _*_}
+use mathlib.Core.Bool.{false}
 use mathlib.Core.List.{List}
-use mathlib.Core.Path.{_≡_, refl, sym, _∙_, ap}
+use mathlib.Core.Path.{_≡_, sym, _∙_, ap}
 use native.Mathlib.Omega.{arith}
-use lib.ListN.{length}
 use Rattle.words.proofs.TestLaws.{yes=, yes≤}
 use Rattle.sheet.specs.Sheet.{nodes, memoryWords}
-use Rattle.network.specs.Registers.{sheetIn, room}
 use Rattle.session.specs.Calls.{stateNumber, memoryNumber, loadNumber, loaded, Lent, Call, number, does, isLoad}
 use Rattle.session.proofs.NumberLaws.{zero-then, zero-unless, MemoryPassed, memory-passed, load-passed}
 use Rattle.session.proofs.KeptLaws.{load-sound, load-length, loaded-sheet, sound-kept, state-length-kept, memory-length-kept, sheet-same}

@@ -2,7 +2,7 @@
 use Prim.Native.Nat.{ℕ, zero, suc, _+_}
 use mathlib.Core.List.{List, [], _++_}
 use Rattle.network.specs.View.{Landing, nothing, landed}
-use Rattle.session.specs.Calls.{Lent, Call, cycle, after, lastLanding}
+use Rattle.session.specs.Calls.{Lent, cycle, after, lastLanding}
 use Rattle.listing.specs.Text.{landingLine}
 
 -- what is lent, as one

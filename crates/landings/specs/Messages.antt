@@ -8,8 +8,6 @@ use Rattle.words.specs.Words.{pick}
 use Rattle.sheet.specs.Rules.{verdict}
 use Rattle.octets.specs.Octets.{wordIn}
 use Rattle.network.specs.Registers.{stateWords}
-use Rattle.session.specs.declared.Answer.{Answer}
-use Rattle.session.specs.declared.Answer.the-variants.{Done, Refused as RefusedCall}
 use Rattle.session.specs.Calls.{loadNumber, loaded, startNumber, started}
 use Rattle.landings.specs.declared.input.Message.{Message}
 use Rattle.landings.specs.declared.input.Message.the-variants.{TooLarge, InputEnds, Refused, Runs}
@@ -35,11 +33,6 @@ inputMessage bytes =
     pick (ends bytes 1) InputEnds
     (pick (mostSheet <? sheetLength bytes) TooLarge
     (pick (ends bytes (memoryPlace bytes)) InputEnds (checkedMessage bytes)))
-
--- the number of an answer
-abbrev pub numberOf : Answer → ℕ
-numberOf Done = 0
-numberOf (RefusedCall n) = n
 
 -- the calls before the cycles, up to the first refusal: its number, or 0, and the state afterwards
 pub record Called : Type 0 where

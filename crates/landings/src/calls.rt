@@ -9,19 +9,9 @@ ghost use Rattle.network.specs.Registers.{stateWords};
 ghost use Rattle.session.specs.Calls.{memoryNumber, startNumber, started};
 ghost use Rattle.landings.specs.declared.input.Message.the-variants.{Runs};
 ghost use Rattle.landings.specs.Input.{sheetOf, memorySize, memoryOf, transfersPlace, transfers};
-ghost use Rattle.landings.specs.Messages.{numberOf, inputMessage, startsOn, callsOn, calls, refusalOf, message};
+ghost use Rattle.landings.specs.Messages.{inputMessage, startsOn, callsOn, calls, refusalOf, message};
 use octets::word_in;
-use session::Answer;
-
-// The number of an answer, 0 where the call was carried out.
-fn number_of(answer: Answer) -> u32
-    ensures { λ r. ⌜ r ≡ numberOf answer ⌝ }
-{
-    match answer {
-        Answer::Done => 0,
-        Answer::Refused(n) => n,
-    }
-}
+use session::number_of;
 
 // Starts the transfer whose five words stand at a place, and answers the call's number; start_all has seen that they are there.
 fn start_transfer(bytes: &[u8], at: usize, s: &mut [u32]) -> u32

@@ -7,3 +7,4 @@ pub mod ReadingLaws
 pub mod WritingLaws
 pub mod CyclingLaws
 pub mod LoadingLaws
+pub mod AnswerLaws

@@ -13,6 +13,11 @@ abbrev pub answerOf : ℕ → Answer
 answerOf zero = Done
 answerOf (suc n) = Refused (suc n)
 
+-- and back: the number of such an answer
+abbrev pub numberOf : Answer → ℕ
+numberOf Done = 0
+numberOf (Refused n) = n
+
 -- fetch, words left, period number
 abbrev pub foundOf : ℕ → ℕ → Found
 foundOf zero w = FoundWord w

@@ -4,6 +4,8 @@ mod loading;
 mod reading;
 mod writing;
 
+ghost use mathlib.Core.Path.{_≡_};
+ghost use Rattle.session.specs.Answers.{numberOf};
 pub use cycling::cycle;
 pub use cycling::cycle_sound;
 pub use loading::load;
@@ -35,4 +37,14 @@ pub enum Landed {
     Nothing,
     Word { kind: u32, address: u32, word: u32 },
     Refused(u32),
+}
+
+// The number of an answer without a value: 0 where the call was carried out.
+pub fn number_of(answer: Answer) -> u32
+    ensures { λ r. ⌜ r ≡ numberOf answer ⌝ }
+{
+    match answer {
+        Answer::Done => 0,
+        Answer::Refused(n) => n,
+    }
 }

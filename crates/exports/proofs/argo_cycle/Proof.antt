@@ -1,6 +1,6 @@
 -- `exports::argo_cycle` meets its contract: the number is that of the session's answer, and the words are those that the session left.
 -- Assumes nothing.
-use Rattle.exports.proofs.PackedLaws.{number-is}
+use Rattle.session.proofs.AnswerLaws.{number-is}
 use borrow.Author.Needs.{needs}
 use Rattle.exports.proofs.argo_cycle.Statement.{statement}
 use Rattle.exports.proofs.argo_cycle.Tie as tie
@@ -18,7 +18,7 @@ same-length-2 : tie.Need-same-length-2
 same-length-2 c = search needs
 
 returns : tie.Need-returns
-returns c = (number-is _ _ _ (c .before .before .before .before .before .cycle .ensures .0) (c .number-of .ensures), c .before .before .before .before .before .cycle .ensures .1)
+returns c = (number-is _ (c .before .before .before .before .before .cycle .ensures .0) (c .number-of .ensures), c .before .before .before .before .before .cycle .ensures .1)
 
 pub argo-cycle-spec : {M : Type 1} → statement M
 argo-cycle-spec =
