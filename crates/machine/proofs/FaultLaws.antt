@@ -1,22 +1,14 @@
 -- The faults of a cycle, looked for one kind after the other.
 -- Assumes nothing.
-use Prim.Native.Nat.{ℕ, zero, suc, _<_}
-use mathlib.Core.Bool.{Bool, true, false, false≢true}
+use Prim.Native.Nat.{ℕ}
+use mathlib.Core.Bool.{Bool, true, false}
 use mathlib.Core.Path.{_≡_, refl, sym, _∙_, ap}
 use mathlib.Core.List.{List}
 use Rattle.words.specs.Tests.{any, _or_}
-use Rattle.words.proofs.AllLaws.{any-at}
 use Rattle.sheet.specs.Sheet.{circuits, nodes}
 use Rattle.network.specs.Registers.{sheetIn}
+use Rattle.routers.proofs.PlaceLaws.{any-or}
 use Rattle.network.specs.Machine.{collidesIn, headlessIn, crowdsIn, straysIn, reopensIn, faultyIn}
-
-mix : (a b c d : Bool) → ((a or b) or (c or d)) ≡ ((a or c) or (b or d))
-unfolding _or_
-mix true b c d = refl
-mix false true true d = refl
-mix false true false d = refl
-mix false false true d = refl
-mix false false false d = refl
 
 true-or : (a : Bool) → (true or a) ≡ true
 unfolding _or_
@@ -43,18 +35,8 @@ last-first false false true = refl
 last-first false false false = refl
 
 -- some place passes one of two tests
-any-or : (n : ℕ) (f g : ℕ → Bool) → any n (λ k. f k or g k) ≡ (any n f or any n g)
-unfolding any _or_
-any-or zero f g = refl
-any-or (suc n) f g = ap (λ (b : Bool). b or (f n or g n)) (any-or n f g) ∙ mix (any n f) (any n g) (f n) (g n)
-
--- no place passes a test that none passes
-pub any-never : (n : ℕ) (p : ℕ → Bool) → any n p ≡ false → (k : ℕ) → k < n → p k ≡ false
-any-never n p e k l = go (p k) refl
-  where
-    go : (b : Bool) → p k ≡ b → b ≡ false
-    go true q = absurd (false≢true (sym e ∙ any-at n p k l q))
-    go false q = refl
+some-or : (n : ℕ) (f g : ℕ → Bool) → any n (λ k. f k or g k) ≡ (any n f or any n g)
+some-or n f g = sym (any-or n f g)
 
 module _ (s : List ℕ) where
   abbrev pub collided : Bool
@@ -76,10 +58,10 @@ module _ (s : List ℕ) where
   unfolding faultyIn
   faults-are =
       ap (λ (b : Bool). b or reopened)
-      (any-or (nodes (sheetIn s)) (λ node. any 5 (collidesIn s node)) (λ node. any 5 (headlessIn s node) or crowdsIn s node or straysIn s node)
+      (some-or (nodes (sheetIn s)) (λ node. any 5 (collidesIn s node)) (λ node. any 5 (headlessIn s node) or crowdsIn s node or straysIn s node)
       ∙ ap (λ (b : Bool). collided or b)
-      (any-or (nodes (sheetIn s)) (λ node. any 5 (headlessIn s node)) (λ node. crowdsIn s node or straysIn s node)
-      ∙ ap (λ (b : Bool). headless or b) (any-or (nodes (sheetIn s)) (crowdsIn s) (straysIn s))))
+      (some-or (nodes (sheetIn s)) (λ node. any 5 (headlessIn s node)) (λ node. crowdsIn s node or straysIn s node)
+      ∙ ap (λ (b : Bool). headless or b) (some-or (nodes (sheetIn s)) (crowdsIn s) (straysIn s))))
 
   -- a fault of the kind that is looked for, or none of the kinds so far
   pub fault-collided : collided ≡ true → true ≡ faultyIn s

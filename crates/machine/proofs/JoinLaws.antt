@@ -29,10 +29,10 @@ use Rattle.network.proofs.FillLaws.{restated, stage-length, stage-rest, stage-s
 use Rattle.sources.specs.Slots.{slotTable}
 use Rattle.sources.specs.Steps.{Sending, Steppable}
 use Rattle.receivers.specs.Required.{Receivable, Clocked}
+use Rattle.receivers.proofs.StrayLaws.{none-strays}
 use Rattle.machine.specs.Ready.{Ready}
 use Rattle.machine.specs.Tables.{Tables}
 use Rattle.machine.proofs.RowCases.{by-row}
-use Rattle.machine.proofs.FaultLaws.{any-never}
 
 -- words with the same registers and the same behind them are the same
 same-words : (a b : List ℕ) → movingWords ≤ length a → movingWords ≤ length b → drop movingWords a ≡ drop movingWords b
@@ -273,7 +273,7 @@ module _ (s m slots source-marks source-words out-marks out-words : List ℕ)
         some-room = omega (arith, f, H .memory-low);
         small-room = omega (arith, f, H .memory-high);
         whole = R .whole ∙ ap₂ (λ a b. a * b) (sym e) (sym f);
-        calm = λ node l. strays-same node (omega (arith, e, l)) ∙ any-never (nodes (sheetIn s)) (straysIn s) calm node (omega (arith, e, l));
+        calm = λ node l. strays-same node (omega (arith, e, l)) ∙ none-strays s (nodes (sheetIn s)) calm node (omega (arith, e, l));
       }
 
       module _ (received : List ℕ) (by-units : received ≡ stage 9 15 (nodes (sheetIn linked)) (nextInRow linked []) linked) where

@@ -6,16 +6,16 @@ use mathlib.Core.List.{List}
 use mathlib.Core.Path.{_≡_, sym, _∙_, ap, ap₂, subst}
 use native.Mathlib.Omega.{arith}
 use native.Mathlib.Nat.{mul-le-mul}
-use lib.ListN.{replicate, length-replicate, getD-replicate}
+use lib.ListN.{replicate}
 use Rattle.words.specs.Tests.{_<?_}
 use Rattle.words.specs.Words.{word, pick, tab}
-use Rattle.words.proofs.WordLaws.{tab-is}
 use Rattle.sheet.specs.Sheet.{columns, rows, memoryWords, nodes}
 use Rattle.sheet.specs.Rules.{rule8}
 use Rattle.network.specs.Registers.{sheetIn}
 use Rattle.network.specs.Machine.{sourceMark, sourceWord, nextOutMark, nextOutWord}
 use Rattle.network.specs.Paired.{Paired, Sendable}
 use Rattle.sources.specs.Slots.{slotTable}
+use Rattle.sources.proofs.TableLaws.{tab-zeros}
 use Rattle.receivers.specs.Required.{Counted}
 use Rattle.machine.specs.Ready.{Ready}
 use Rattle.machine.specs.Tables.{Tables, Empty}
@@ -54,13 +54,9 @@ pub tables : {s m slots marks cells outs values : List ℕ} → slots ≡ slotTa
     → Tables s m slots marks cells outs values
 tables a b c d e = record { slot = a; source-mark = b; source-word = c; out-mark = d; out-word = e }
 
--- so many zeros
-pub zeros : (n : ℕ) → replicate n 0 ≡ tab n (λ k. 0)
-zeros n = tab-is (replicate n 0) n (λ k. 0) (length-replicate n 0) (λ k l. getD-replicate n k 0 0 l)
-
 -- the five tables of zeros
 pub empty : Empty (replicate 64 0) (replicate 16 0) (replicate 16 0) (replicate 80 0) (replicate 80 0)
-empty = record { slot = zeros 64; source-mark = zeros 16; source-word = zeros 16; out-mark = zeros 80; out-word = zeros 80 }
+empty = record { slot = tab-zeros 64; source-mark = tab-zeros 16; source-word = tab-zeros 16; out-mark = tab-zeros 80; out-word = tab-zeros 80 }
 
 -- the words after a cycle that has a fault, or none
 pub kept : {f : Bool} {r : Bool} (old new : List ℕ) → r ≡ f → r ≡ true → old ≡ pick f old new
