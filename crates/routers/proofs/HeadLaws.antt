@@ -1,15 +1,16 @@
 -- The header stage of one input, from the words that were read, and of all inputs, place by place.
 -- Assumes nothing.
-use Prim.Native.Nat.{ℕ, _+_, _%_, _<_, _≤_}
+use Prim.Native.Nat.{ℕ, _+_, _*_, _%_, _<_, _≤_}
 use mathlib.Core.List.{List, []}
-use mathlib.Core.Path.{_≡_, sym, subst, _∙_, ap, ap₂}
+use mathlib.Core.Path.{_≡_, refl, sym, subst, _∙_, ap, ap₂}
 use native.Mathlib.Omega.{arith}
 use lib.ListN.{length}
-use Rattle.words.proofs.TestLaws.{yes=, no=}
+use lib.Seq.{set-getD}
+use Rattle.words.proofs.TestLaws.{yes=, no=, no≤}
 use Rattle.network.specs.Cycle.{outputFor}
 use Rattle.network.specs.Registers.{reg, put, movingWords, linkMark, linkWord, headMark, headWord, choiceRow, latchRow}
 use Rattle.network.specs.Machine.{nextHeadWord, nextChoice, nextLatch, nextRows, nextInRow}
-use Rattle.network.proofs.PutLaws.{put-length}
+use Rattle.network.proofs.PutLaws.{put-other, put-length}
 use Rattle.network.proofs.FillLaws.{Wrote, wrote-one, wrote-then, Staged, stage-more, still, beside}
 use Rattle.routers.specs.Stepping.{headed}
 
@@ -43,6 +44,38 @@ head-is s k mark w word choice latch a b c d e s₁ s₂ s₃ s₄ p q r t =
     ∙ ap (λ x. put x latchRow k latch)
     (r ∙ ap (λ x. put x choiceRow k choice) (q ∙ ap (λ x. put x headWord k word) p))
     ∙ (λ i. put (put (put (put s headMark k (a i)) headWord k (c′ i)) choiceRow k (d i)) latchRow k (e i))
+
+-- an empty link register: its word goes on, and the latch stays
+module _ (mark : ℕ) (z : mark ≡ 0) where
+  head-none : (w : ℕ) → w ≡ nextHeadWord mark w
+  unfolding nextHeadWord
+  head-none w =
+      let other : mark ≡ 1 → ⊥ = λ e. (let a : ⊥ = omega (arith, e) in a) in
+      rw (no= other)
+
+  latch-none : (input latch w : ℕ) → latch ≡ nextLatch input latch mark w
+  unfolding nextLatch
+  latch-none input latch w =
+      let other : mark ≡ 1 → ⊥ = λ e. (let a : ⊥ = omega (arith, e) in a) in
+      let early : mark < 3 = omega arith in
+      rw (no= other, no≤ early)
+
+put-own : (s : List ℕ) (row k w : ℕ) → w ≡ reg s row k → s ≡ put s row k w
+unfolding reg
+put-own s row k w e = sym (ap (put s row k) e ∙ set-getD s (row * 80 + k) 0)
+
+pub head-empty : (s : List ℕ) (k mark w : ℕ) → mark ≡ reg s linkMark k → mark ≡ 0 → w ≡ reg s linkWord k
+    → (s₁ s₂ s₃ : List ℕ) → s₁ ≡ put s headMark k 0 → s₂ ≡ put s₁ headWord k w → s₃ ≡ put s₂ choiceRow k 0 → s₃ ≡ headed s k
+head-empty s k mark w a z b s₁ s₂ s₃ p q r =
+    let empty : reg s linkMark k ≡ 0 = sym a ∙ z in
+    let latch : reg s latchRow k ≡ reg s₃ latchRow k = sym
+    (ap (λ x. reg x latchRow k) r ∙ put-other s₂ choiceRow k 0 latchRow k (λ e. omega arith)
+    ∙ ap (λ x. reg x latchRow k) q ∙ put-other s₁ headWord k w latchRow k (λ e. omega arith)
+    ∙ ap (λ x. reg x latchRow k) p ∙ put-other s headMark k 0 latchRow k (λ e. omega arith)) in
+    head-is s k 0 w w 0 (reg s latchRow k) (sym empty) b (head-none 0 refl w)
+    (choice-none (k % 5) (reg s latchRow k) (reg s linkMark k) (reg s linkWord k) mark a z)
+    (latch-none (reg s linkMark k) empty (k % 5) (reg s latchRow k) (reg s linkWord k))
+    s₁ s₂ s₃ s₃ p q r (put-own s₃ latchRow k (reg s latchRow k) latch)
 
 -- one input more
 module _ (s now : List ℕ) (k : ℕ) (kl : k < 80) (long : movingWords ≤ length s) (g : Staged 3 6 k (nextInRow s []) s now) where

@@ -17,6 +17,10 @@ ghost use Rattle.routers.specs.Stepping.{linked, linkedBy, headed};
 use network::put_reg;
 use network::reg;
 
+// The nodes of the largest grid. No sheet has more, nor more places than a row has words; each loop below returns at once where there
+// were more, so that a compiler knows every place to be in its row, and leaves out the test at each access.
+const MOST_NODES: u32 = 16;
+
 // The word in link register k is payload, and no header has set the latch that would steer it.
 fn is_headless(s: &[u32], k: u32) -> bool
     ensures { λ r. ⌜ r ≡ (2 ≤? regOf (now (s .entry)) linkMark k and regOf (now (s .entry)) latchRow k =? 0) ⌝ }
@@ -32,6 +36,9 @@ pub fn has_headless(s: &[u32], count: u32) -> bool
     requires { ⌜ (count ≡ nodeCount (sheetIn (now s)) * 5) × (count ≤ 80) ⌝ }
     ensures { λ r. ⌜ r ≡ any (nodeCount (sheetIn (now (s .entry)))) (λ node. any 5 (headlessIn (now (s .entry)) node)) ⌝ }
 {
+    if network::ROW_WORDS < count as usize {
+        return false;
+    }
     let mut k: u32 = 0;
     while k < count {
         if is_headless(s, k) {
@@ -76,6 +83,9 @@ pub fn cross(s: &[u32], nodes: u32, marks: &mut [u32], cells: &mut [u32]) -> boo
     ensures cells { λ _. ⌜ now (cells .exit) ≡ tab 80 (λ k. pick (k <? nodeCount (sheetIn (now (s .entry))) * 5) (nextOutWord (now (s .entry)) (k / 5) (k % 5)) 0) ⌝ }
 {
     let count = nodes * 5;
+    if network::ROW_WORDS < count as usize {
+        return false;
+    }
     let mut hits: u32 = 0;
     let mut k: u32 = 0;
     while k < count {
@@ -99,11 +109,11 @@ fn next_choice(s: &[u32], k: u32) -> u32
     reg(s, network::LATCH_ROW, k)
 }
 
-// The header stage of input k: its mark, its word, its choice, and its latch.
-fn step_head(s: &mut [u32], k: u32)
+// The header stage of input k for a word that is there, whose mark step_head has read, which so meets the requires.
+fn step_head_word(s: &mut [u32], k: u32, mark: u32)
+    requires { ⌜ mark ≡ regOf (now s) linkMark k ⌝ }
     ensures { λ _. ⌜ now (s .exit) ≡ headed (now (s .entry)) k ⌝ }
 {
-    let mark = reg(s, network::LINK_MARK, k);
     let word = network::next_head_word(mark, reg(s, network::LINK_WORD, k));
     let choice = next_choice(s, k);
     let latch = network::next_latch(s, k);
@@ -113,11 +123,30 @@ fn step_head(s: &mut [u32], k: u32)
     put_reg(s, network::LATCH_ROW, k, latch);
 }
 
+// The header stage of input k: its mark, its word, its choice, and its latch, which is left alone where the link register is empty, as
+// most are.
+fn step_head(s: &mut [u32], k: u32)
+    ensures { λ _. ⌜ now (s .exit) ≡ headed (now (s .entry)) k ⌝ }
+{
+    let mark = reg(s, network::LINK_MARK, k);
+    if mark != 0 {
+        step_head_word(s, k, mark);
+        return;
+    }
+    let word = reg(s, network::LINK_WORD, k);
+    put_reg(s, network::HEAD_MARK, k, 0);
+    put_reg(s, network::HEAD_WORD, k, word);
+    put_reg(s, network::CHOICE_ROW, k, 0);
+}
+
 // The header stages of so many inputs.
 pub fn step_heads(s: &mut [u32], count: u32)
     requires { ⌜ (movingWords ≤ length (now s)) × (count ≤ 80) ⌝ }
     ensures { λ _. ⌜ now (s .exit) ≡ stage 3 6 count (nextInRow (now (s .entry)) []) (now (s .entry)) ⌝ }
 {
+    if network::ROW_WORDS < count as usize {
+        return;
+    }
     let mut k: u32 = 0;
     while k < count {
         step_head(s, k);
@@ -153,6 +182,9 @@ pub fn step_links(s: &mut [u32], marks: &[u32], cells: &[u32])
     let cols = words::get(sheet, 0);
     let rows = words::get(sheet, 1);
     let nodes = cols * rows;
+    if MOST_NODES < nodes {
+        return;
+    }
     let mut node: u32 = 0;
     while node < nodes {
         step_side(s, cols, rows, node, 0);
@@ -171,6 +203,9 @@ pub fn step_outs(s: &mut [u32], count: u32, marks: &[u32], cells: &[u32])
     requires { ⌜ (movingWords ≤ length (now s)) × (count ≤ 80) ⌝ }
     ensures { λ _. ⌜ now (s .exit) ≡ stage 7 8 count (outFrom (now (marks .entry)) (now (cells .entry))) (now (s .entry)) ⌝ }
 {
+    if network::ROW_WORDS < count as usize {
+        return;
+    }
     let mut k: u32 = 0;
     while k < count {
         let mark = words::get(marks, k as usize);

@@ -8,7 +8,7 @@ use native.Mathlib.Omega.{arith}
 use native.Mathlib.Nat.{mul-le-mul}
 use Rattle.words.specs.Tests.{all, _and_, _or_, _≤?_, _<?_, _=?_}
 use Rattle.words.specs.Words.{word}
-use Rattle.words.proofs.TestLaws.{and-no, and-on, or-yes, or-on, yes≤, no≤, yes<, no<, yes=, no=, yes≠, no≠}
+use Rattle.words.proofs.TestLaws.{and-no, and-on, and-left, and-right, or-yes, or-on, yes≤, no≤, yes<, no<, yes=, no=, yes≠, no≠, is=}
 use Rattle.words.proofs.AllLaws.{all-more, all-done, all-fails}
 use Rattle.packet.specs.Header.{kindOf}
 use Rattle.sheet.specs.declared.circuits.Region.{Region}
@@ -16,8 +16,14 @@ use Rattle.sheet.specs.declared.circuits.Circuit.{Circuit}
 use Rattle.sheet.specs.Sheet.{columns, rows, circuits, schedules, nodes, circuitAt, period}
 use Rattle.sheet.specs.Passed.{Framed}
 use Rattle.sheet.specs.Rules.{verdict}
-use Rattle.network.specs.Registers.{reg, sheetLength, sheetIn, clockRow, cyclePlace, schedulePlace, orderMarkPlace, orderSchedulePlace, receiveMark, receiveKind, landingMark, leftRow, readRow, writeRow, kindRow, toGoRow}
+use Rattle.network.specs.Registers.{reg, sheetLength, sheetIn, clockRow, cyclePlace, schedulePlace, orderMarkPlace, orderSchedulePlace, linkMark, headMark, outMark, latchRow, receiveMark, receiveKind, landingMark, leftRow, readRow, writeRow, kindRow, toGoRow}
 use Rattle.soundness.specs.Sound.{sheetSound, clockSound, orderSound, kindTravels, liesIn, transferSound, cellSound, routerSound, nodeSound, sound}
+
+-- a test of three parts, with the first two taken together
+and-over : (a b d : Bool) → ((a and b) and d) ≡ (a and b and d)
+unfolding _and_
+and-over true b d = refl
+and-over false b d = refl
 
 -- a kind that travels
 pub travels-data : (kind : ℕ) → kind ≡ 0 → true ≡ kindTravels kind
@@ -38,19 +44,38 @@ pub lies-rest : (r : Region) (address count : ℕ) → r .offset ≤ address
 unfolding liesIn
 lies-rest r address count l = and-on (yes≤ l) refl
 
--- a cell on a wire
-module _ (mark w : ℕ) where
-  pub cell-high : 3 < mark → false ≡ cellSound mark w
+-- a cell on a wire, from the mark that was read
+module _ (mark w m : ℕ) (p : m ≡ mark) where
+  pub cell-high : 3 < m → false ≡ cellSound mark w
   unfolding cellSound
-  cell-high l = and-no _ (no≤ l)
+  cell-high l = and-no _ (no≤ (let h : 3 < mark = omega arith in h))
 
-  pub cell-other : mark ≤ 3 → (mark ≡ 1 → ⊥) → true ≡ cellSound mark w
+  pub cell-other : m ≤ 3 → (m ≡ 1 → ⊥) → true ≡ cellSound mark w
   unfolding cellSound
-  cell-other l ne = and-on (yes≤ l) (or-yes _ (yes≠ ne))
+  cell-other l ne = and-on (yes≤ (let h : mark ≤ 3 = omega arith in h)) (or-yes _ (yes≠ (λ h. ne (p ∙ h))))
 
-  pub cell-header : (kind : ℕ) {v : Bool} → mark ≡ 1 → kind ≡ kindOf w → v ≡ kindTravels kind → v ≡ cellSound mark w
+  pub cell-header : (x kind : ℕ) {v : Bool} → m ≡ 1 → x ≡ w → kind ≡ kindOf x → v ≡ kindTravels kind → v ≡ cellSound mark w
   unfolding cellSound
-  cell-header kind e k q = and-on (yes≤ (let l : mark ≤ 3 = omega arith in l)) (or-on (no≠ e) (q ∙ ap kindTravels k))
+  cell-header x kind e q k r =
+      and-on (yes≤ (let h : mark ≤ 3 = omega arith in h)) (or-on (no≠ (sym p ∙ e)) (r ∙ ap kindTravels (k ∙ ap kindOf q)))
+
+-- a place of a router
+module _ (s : List ℕ) (k : ℕ) where
+  cell-empty : (mark w : ℕ) → (mark =? 0) ≡ true → cellSound mark w ≡ true
+  cell-empty mark w e = let none : mark ≡ 0 = is= mark 0 e in sym (cell-other mark w mark refl (omega arith) (λ h. omega arith))
+
+  -- no cell is there, so that the latch decides
+  pub router-idle : (latch : ℕ) {v : Bool} → v ≡ (reg s linkMark k =? 0 and reg s headMark k =? 0 and reg s outMark k =? 0) → v ≡ true
+      → latch ≡ reg s latchRow k → (latch ≤? 5) ≡ routerSound s k
+  unfolding routerSound
+  router-idle latch idle t e =
+      let marks : (reg s linkMark k =? 0 and reg s headMark k =? 0 and reg s outMark k =? 0) ≡ true = sym idle ∙ t in
+      let link : (reg s linkMark k =? 0) ≡ true = and-left _ _ marks in
+      let head : (reg s headMark k =? 0) ≡ true = and-left _ _ (and-right _ _ marks) in
+      let out : (reg s outMark k =? 0) ≡ true = and-right _ _ (and-right _ _ marks) in
+      and-on (cell-empty _ _ link)
+      (and-on (cell-empty _ _ head)
+      (and-on (cell-empty _ _ out) (and-on (sym (or-yes _ head)) (ap (λ (x : ℕ). x ≤? 5) e))))
 
 -- the rest of a transfer that has words left
 abbrev pub restSound : Circuit → ℕ → ℕ → ℕ → ℕ → Bool
@@ -86,26 +111,33 @@ module _ (s : List ℕ) (c left toGo : ℕ) (p : left ≡ reg s leftRow c) (q : 
       ∙ ap (λ (x : ℕ). restSound (circuitAt (sheetIn s) c) (reg s kindRow c) (reg s readRow c) x left) e
       ∙ ap (λ (x : ℕ). restSound (circuitAt (sheetIn s) c) (reg s kindRow c) (reg s readRow c) (reg s writeRow c) x) p))
 
--- a node's receive unit and stored landing
+-- a node's receive unit
+abbrev pub receiveSound : List ℕ → ℕ → Bool
+receiveSound s n = reg s receiveMark n ≤? 1 and (reg s receiveMark n =? 0 or kindTravels (reg s receiveKind n))
+
 module _ (s : List ℕ) (n mark : ℕ) (p : mark ≡ reg s receiveMark n) where
-  pub node-high : 1 < mark → false ≡ nodeSound s n
+  pub receive-high : 1 < mark → false ≡ receiveSound s n
+  receive-high l = and-no _ (no≤ (let h : 1 < reg s receiveMark n = omega arith in h))
+
+  receive-mark : mark ≤ 1 → (reg s receiveMark n ≤? 1) ≡ true
+  receive-mark l = yes≤ (let h : reg s receiveMark n ≤ 1 = omega arith in h)
+
+  pub receive-none : mark ≤ 1 → mark ≡ 0 → true ≡ receiveSound s n
+  receive-none l e = and-on (receive-mark l) (or-yes _ (yes= (sym p ∙ e)))
+
+  pub receive-rest : (kind : ℕ) {v : Bool} → kind ≡ reg s receiveKind n → mark ≤ 1 → (mark ≡ 0 → ⊥) → v ≡ kindTravels kind
+      → v ≡ receiveSound s n
+  receive-rest kind k l ne r = and-on (receive-mark l) (or-on (no= (λ h. ne (p ∙ h))) (r ∙ ap kindTravels k))
+
+-- a node's receive unit and stored landing
+module _ (s : List ℕ) (n : ℕ) {v : Bool} (r : v ≡ receiveSound s n) where
+  pub node-stays : v ≡ false → false ≡ nodeSound s n
   unfolding nodeSound
-  node-high l = and-no _ (no≤ (let h : 1 < reg s receiveMark n = omega arith in h))
+  node-stays e = and-no _ (sym r ∙ e) ∙ and-over _ _ _
 
-  module _ (l : mark ≤ 1) (kind : ℕ) (t v : Bool) (k : kind ≡ reg s receiveKind n) (q : t ≡ kindTravels kind) (r : v ≡ (mark =? 0 or t)) where
-    beside-is : v ≡ (reg s receiveMark n =? 0 or kindTravels (reg s receiveKind n))
-    beside-is = r ∙ ap₂ (λ (m : ℕ) (x : Bool). m =? 0 or x) p (q ∙ ap kindTravels k)
-
-    known : (reg s receiveMark n ≤? 1) ≡ true
-    known = yes≤ (let h : reg s receiveMark n ≤ 1 = omega arith in h)
-
-    pub node-stays : v ≡ false → false ≡ nodeSound s n
-    unfolding nodeSound
-    node-stays e = and-on known (and-no _ (sym beside-is ∙ e))
-
-    pub node-rest : (landing : ℕ) → landing ≡ reg s landingMark n → v ≡ true → (landing ≤? 1) ≡ nodeSound s n
-    unfolding nodeSound
-    node-rest landing f e = and-on known (and-on (sym beside-is ∙ e) (ap (λ (x : ℕ). x ≤? 1) f))
+  pub node-rest : (landing : ℕ) → landing ≡ reg s landingMark n → v ≡ true → (landing ≤? 1) ≡ nodeSound s n
+  unfolding nodeSound
+  node-rest landing f e = and-on (sym r ∙ e) (ap (λ (x : ℕ). x ≤? 1) f) ∙ and-over _ _ _
 
 -- the clock
 module _ (s z : List ℕ) (own : z ≡ sheetIn s) where

@@ -4,7 +4,7 @@ ghost use Prim.Native.Nat.{ℕ, _*_};
 ghost use Rattle.words.specs.Tests.{all, _and_, _or_, _≤?_, _=?_};
 ghost use Rattle.sheet.specs.Sheet.{circuits, nodes as nodesOf};
 ghost use Rattle.sheet.specs.Passed.{Framed};
-ghost use Rattle.network.specs.Registers.{reg as regOf, sheetIn};
+ghost use Rattle.network.specs.Registers.{reg as regOf, sheetIn, linkMark, headMark, outMark, choiceRow, receiveMark, receiveKind};
 ghost use Rattle.soundness.specs.Sound.{kindTravels, liesIn, clockSound, orderSound, transferSound, cellSound, routerSound, nodeSound, sound};
 use network::reg;
 use packet::Header;
@@ -42,24 +42,18 @@ pub fn holds_beside(mark: u32, test: bool) -> bool
     test
 }
 
-// A cell on a wire: its mark is a known one, and a header's kind travels.
-fn cell_sound(mark: u32, w: u32) -> bool
-    ensures { λ r. ⌜ r ≡ cellSound mark w ⌝ }
+// The cell in register k of two rows: its mark is a known one, and a header's kind travels; only a header's word is read.
+fn wire_sound(s: &[u32], marks: u32, cells: u32, k: u32) -> bool
+    ensures { λ r. ⌜ r ≡ cellSound (regOf (now (s .entry)) marks k) (regOf (now (s .entry)) cells k) ⌝ }
 {
+    let mark = reg(s, marks, k);
     if 3 < mark {
         return false;
     }
     if mark != 1 {
         return true;
     }
-    kind_travels(Header(w).kind())
-}
-
-// The cell in register k of two rows.
-fn wire_sound(s: &[u32], marks: u32, cells: u32, k: u32) -> bool
-    ensures { λ r. ⌜ r ≡ cellSound (regOf (now (s .entry)) marks k) (regOf (now (s .entry)) cells k) ⌝ }
-{
-    cell_sound(reg(s, marks, k), reg(s, cells, k))
+    kind_travels(Header(reg(s, cells, k)).kind())
 }
 
 // The rest of a transfer, which has words left: its kind travels, and so many words lie in both of its regions.
@@ -101,17 +95,40 @@ fn transfer_sound(s: &[u32], z: &[u32], c: u32) -> bool
     )
 }
 
-// The three cells beside input k, the choice beside a cell that is there, and the latch.
+// No cell is at place k: the marks of its three cells are 0.
+fn is_idle(s: &[u32], k: u32) -> bool
+    ensures { λ r. ⌜ r ≡ (regOf (now (s .entry)) linkMark k =? 0 and regOf (now (s .entry)) headMark k =? 0 and regOf (now (s .entry)) outMark k =? 0) ⌝ }
+{
+    if reg(s, network::LINK_MARK, k) != 0 {
+        return false;
+    }
+    if reg(s, network::HEAD_MARK, k) != 0 {
+        return false;
+    }
+    reg(s, network::OUT_MARK, k) == 0
+}
+
+// The choice beside a cell that is there; it is read nowhere else.
+fn choice_sound(s: &[u32], k: u32) -> bool
+    ensures { λ r. ⌜ r ≡ (regOf (now (s .entry)) headMark k =? 0 or regOf (now (s .entry)) choiceRow k ≤? 5) ⌝ }
+{
+    if reg(s, network::HEAD_MARK, k) == 0 {
+        return true;
+    }
+    reg(s, network::CHOICE_ROW, k) <= network::OUTPUTS
+}
+
+// The three cells beside input k, the choice beside a cell that is there, and the latch; an idle place has its latch alone.
 fn router_sound(s: &[u32], k: u32) -> bool
     ensures { λ r. ⌜ r ≡ routerSound (now (s .entry)) k ⌝ }
 {
+    if is_idle(s, k) {
+        return reg(s, network::LATCH_ROW, k) <= network::OUTPUTS;
+    }
     if wire_sound(s, network::LINK_MARK, network::LINK_WORD, k) {
         if wire_sound(s, network::HEAD_MARK, network::HEAD_WORD, k) {
             if wire_sound(s, network::OUT_MARK, network::OUT_WORD, k) {
-                if holds_beside(
-                    reg(s, network::HEAD_MARK, k),
-                    reg(s, network::CHOICE_ROW, k) <= network::OUTPUTS,
-                ) {
+                if choice_sound(s, k) {
                     return reg(s, network::LATCH_ROW, k) <= network::OUTPUTS;
                 }
                 return false;
@@ -123,15 +140,25 @@ fn router_sound(s: &[u32], k: u32) -> bool
     false
 }
 
-// Node n's receive unit and stored landing.
-fn node_sound(s: &[u32], n: u32) -> bool
-    ensures { λ r. ⌜ r ≡ nodeSound (now (s .entry)) n ⌝ }
+// Node n's receive unit: its mark is a known one, and the kind of a packet that arrives travels.
+fn receive_sound(s: &[u32], n: u32) -> bool
+    ensures { λ r. ⌜ r ≡ (regOf (now (s .entry)) receiveMark n ≤? 1 and (regOf (now (s .entry)) receiveMark n =? 0 or kindTravels (regOf (now (s .entry)) receiveKind n))) ⌝ }
 {
     let mark = reg(s, network::RECEIVE_MARK, n);
     if 1 < mark {
         return false;
     }
-    if holds_beside(mark, kind_travels(reg(s, network::RECEIVE_KIND, n))) {
+    if mark == 0 {
+        return true;
+    }
+    kind_travels(reg(s, network::RECEIVE_KIND, n))
+}
+
+// Node n's receive unit and stored landing.
+fn node_sound(s: &[u32], n: u32) -> bool
+    ensures { λ r. ⌜ r ≡ nodeSound (now (s .entry)) n ⌝ }
+{
+    if receive_sound(s, n) {
         return reg(s, network::LANDING_MARK, n) <= 1;
     }
     false

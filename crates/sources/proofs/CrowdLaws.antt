@@ -151,7 +151,7 @@ pub crowded-start : (s : List ℕ) → crowdedBefore s 0 ≡ false
 unfolding countOf
 crowded-start s = any-none (nodes (sheetIn s)) _ (λ k l. no≤ (omega arith))
 
-or-false : (a : Bool) → a ≡ a or false
+pub or-false : (a : Bool) → a ≡ a or false
 unfolding _or_
 or-false true = refl
 or-false false = refl

@@ -23,7 +23,7 @@ use Rattle.network.proofs.RowLaws.{sender-same}
 use Rattle.network.proofs.FillLaws.{Wrote, wrote-one, wrote-then, wrote-nothing, Staged, stage-start, stage-more, still, beside, staged-sheet, staged-is}
 use Rattle.sources.specs.Slots.{slotTable}
 use Rattle.sources.specs.Steps.{Sending, Steppable, sendWord, senderPut}
-use Rattle.sources.proofs.SourceLaws.{opening, open-no, open-rest, moves-open, moves-on}
+use Rattle.sources.proofs.SourceLaws.{opening, open-no, open-rest, none-to-go, moves-open, moves-on}
 
 -- a payload word is sent, from the registers that were read and set
 module _ (s : List ℕ) (c left read write remaining : ℕ) where
@@ -58,15 +58,9 @@ module _ (s : List ℕ) (c left : ℕ) (a : left ≡ reg s leftRow c) where
   pub step-none : Sending s c → left ≡ 0 → s ≡ senderPut (moveIn s c) s c
   unfolding senderPut
   step-none g h =
-      let over : reg s toGoRow c < 1 = go (ℕ-discrete (reg s toGoRow c) 0) in
+      let over : reg s toGoRow c < 1 = omega (arith, none-to-go s c left a g h) in
       put-by rests
       (moves-on s c false (open-no s c left a h) refl ∙ ap (λ (b : Bool). pick b sends rests) (no≤ over)) s refl
-    where
-      go : Dec (reg s toGoRow c ≡ 0) → reg s toGoRow c < 1
-      go (yes e) = omega arith
-      go (no ne) =
-          let some = g .some-left (omega (arith, ne)) in
-          absurd (omega arith)
 
   module _ (ne : left ≡ 0 → ⊥) (slot : ℕ) (b : slot ≡ slotIn s c) where
     some : (1 ≤? reg s leftRow c) ≡ true

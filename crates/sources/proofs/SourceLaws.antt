@@ -5,6 +5,7 @@ use mathlib.Core.Bool.{Bool, true, false, false≢true}
 use mathlib.Core.List.{List}
 use mathlib.Core.Path.{_≡_, refl, sym, _∙_, ap}
 use native.Mathlib.Omega.{arith}
+use native.Mathlib.Decide.{ℕ-discrete}
 use Rattle.words.specs.Tests.{_and_, _≤?_}
 use Rattle.words.specs.Words.{pick}
 use Rattle.words.proofs.TestLaws.{and-no, and-on, yes=, no=, yes≤, no≤}
@@ -15,6 +16,7 @@ use Rattle.network.specs.Cycle.{Move, rests, opens, sends, moveOf}
 use Rattle.network.specs.Registers.{reg, sheetIn, leftRow, toGoRow}
 use Rattle.network.specs.Machine.{slotIn, moveIn, markOf, sentMark}
 use Rattle.network.specs.Paired.{Paired}
+use Rattle.sources.specs.Steps.{Sending}
 
 -- a circuit opens a packet
 module _ (s : List ℕ) (c : ℕ) where
@@ -27,6 +29,16 @@ module _ (s : List ℕ) (c : ℕ) where
 
     pub open-rest : (slot : ℕ) → slot ≡ slotIn s c → (left ≡ 0 → ⊥) → (1 ≤? slot) ≡ opening
     open-rest slot q ne = and-on (yes≤ (let l : 1 ≤ reg s leftRow c = omega (arith, ne) in l)) (ap (λ (n : ℕ). 1 ≤? n) q)
+
+-- a circuit that has no words left has none to go
+pub none-to-go : (s : List ℕ) (c left : ℕ) → left ≡ reg s leftRow c → Sending s c → left ≡ 0 → reg s toGoRow c ≡ 0
+none-to-go s c left a g h = go (ℕ-discrete (reg s toGoRow c) 0)
+  where
+    go : Dec (reg s toGoRow c ≡ 0) → reg s toGoRow c ≡ 0
+    go (yes e) = e
+    go (no ne) =
+        let some = g .some-left (omega (arith, ne)) in
+        absurd (omega arith)
 
 -- a circuit that opens no packet sends its present packet's next word, or rests
 closed : (left slot going : Bool) → left and slot ≡ false → moveOf slot left going ≡ pick going sends rests
@@ -74,6 +86,10 @@ module _ (s : List ℕ) (c : ℕ) (o : Bool) (e : o ≡ opening s c) where
 
     pub mark-more : (toGo ≡ 0 → ⊥) → (toGo ≡ 1 → ⊥) → 2 ≡ sentMark s c
     mark-more some ne = ap (λ (x : Bool). pick {A = ℕ} x 3 2) (sym (no= ne)) ∙ mark-by true (going some)
+
+-- a circuit that has no words left puts no mark on its wire
+pub mark-none : (s : List ℕ) (c left : ℕ) → left ≡ reg s leftRow c → Sending s c → left ≡ 0 → 0 ≡ sentMark s c
+mark-none s c left a g h = mark-rests s c false (open-no s c left a h) refl (reg s toGoRow c) refl (none-to-go s c left a g h)
 
 -- a circuit's source, from the circuit that was read
 pub source-read : (s z : List ℕ) → Paired s z → (c : ℕ) (x : Circuit) → x ≡ circuitAt z c → x .read .node ≡ sourceOf (sheetIn s) c

@@ -22,10 +22,11 @@ use Rattle.network.specs.Cycle.{moveOf}
 use Rattle.network.specs.Registers.{reg, sheetIn, leftRow, toGoRow}
 use Rattle.network.specs.Machine.{slotIn, markOf, sentMark, sentWord, ownMark, firstMark, firstWord, sourceMark, sourceWord, crowdsIn, reopensIn}
 use Rattle.network.specs.Paired.{Sendable}
+use Rattle.sources.specs.Steps.{Steppable}
 use Rattle.sources.specs.Wires.{marksBefore, wordsBefore, putFree, crowdsAt}
 use Rattle.sources.proofs.TableLaws.{tab-same, tab-set}
-use Rattle.sources.proofs.SourceLaws.{source-read}
-use Rattle.sources.proofs.CrowdLaws.{first-new, first-old, first-idle, word-new, word-old, word-idle, own-here, own-other, own-empty, crowdedBefore, crowded-start, crowded-more}
+use Rattle.sources.proofs.SourceLaws.{mark-none, source-read}
+use Rattle.sources.proofs.CrowdLaws.{first-new, first-old, first-idle, word-new, word-old, word-idle, own-here, own-other, own-empty, or-false, crowdedBefore, crowded-start, crowded-more}
 
 -- a wire that is taken, and one that is free
 module _ (marks : List ℕ) (node v : ℕ) (e : v ≡ word marks node) where
@@ -254,6 +255,18 @@ module _ (s z m : List ℕ) (g : Sendable s z) (count : ℕ) where
               ∙ or-pairs (crowdedBefore s c) (any c (reopensIn s)) (crowdsAt s c) (reopensIn s c)
               ∙ ap₂ _or_ (sym (count-more s z g c inside)) (sym (any-more (reopensIn s) c));
         }
+
+    -- a circuit that has no words left leaves all as it is
+    pub wiring-rests : Steppable s → c < count → (left : ℕ) → left ≡ reg s leftRow c → left ≡ 0
+        → Wiring s z m count marks cells fault (c + 1)
+    wiring-rests p l left a h =
+        wiring-more l marks cells false fault (idle-marks s c 0 none refl marks (w .marks-done))
+        (idle-words s c 0 none refl m cells (w .words-done)) (idle-fault s c 0 none refl) (or-false fault)
+      where
+        none : 0 ≡ sentMark s c
+        none =
+            let same : circuits z ≡ circuits (sheetIn s) = ap circuits (g .paired .own) in
+            mark-none s c left a (p .sending c (omega (arith, w .whole))) h
 
     module _ (l : count ≤ c) where
       all-done : c ≡ circuits (sheetIn s)

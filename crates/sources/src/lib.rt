@@ -228,8 +228,8 @@ fn put_circuit(
 }
 
 // The marks and the words on the source wires, each of the first circuit that wants the wire, and whether a source is at fault: two
-// circuits want one wire, or one opens a packet within a packet. The call that found the state sound lends the sheet and the
-// slots, and 16 zeros twice.
+// circuits want one wire, or one opens a packet within a packet. A circuit that has no words left has none to go, and rests. The
+// call that found the state sound gives the requires: it lends the sheet and the slots, and 16 zeros twice.
 pub fn source_wires(
     s: &[u32],
     z: &[u32],
@@ -238,7 +238,7 @@ pub fn source_wires(
     marks: &mut [u32],
     cells: &mut [u32],
 ) -> bool
-    requires { ⌜ (Sendable (now s) (now z)) × (now slots ≡ slotTable (now s)) × (now marks ≡ tab 16 (λ (n : ℕ). 0)) × (now cells ≡ tab 16 (λ (n : ℕ). 0)) ⌝ }
+    requires { ⌜ (Sendable (now s) (now z)) × (Steppable (now s)) × (now slots ≡ slotTable (now s)) × (now marks ≡ tab 16 (λ (n : ℕ). 0)) × (now cells ≡ tab 16 (λ (n : ℕ). 0)) ⌝ }
     ensures fault { λ r. ⌜ r ≡ (any (nodes (sheetIn (now (s .entry)))) (crowdsIn (now (s .entry))) or any (circuits (sheetIn (now (s .entry)))) (reopensIn (now (s .entry)))) ⌝ }
     ensures marks { λ _. ⌜ now (marks .exit) ≡ tab 16 (sourceMark (now (s .entry))) ⌝ }
     ensures cells { λ _. ⌜ now (cells .exit) ≡ tab 16 (sourceWord (now (s .entry)) (now (m .entry))) ⌝ }
@@ -247,6 +247,10 @@ pub fn source_wires(
     let mut fault = false;
     let mut c: u32 = 0;
     while c < count {
+        if reg(s, network::LEFT_ROW, c) == 0 {
+            c += 1;
+            continue;
+        }
         fault = either(fault, put_circuit(s, z, m, slots, c, marks, cells));
         c += 1;
     }

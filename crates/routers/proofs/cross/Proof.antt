@@ -18,8 +18,14 @@ abbrev μ-loop : tie.MeasureT-loop
 mul-count : tie.Need-mul-count Inv-loop μ-loop
 mul-count c = omega arith
 
+cast-if1 : tie.Need-cast-if1 Inv-loop μ-loop
+cast-if1 c = omega arith
+
+returns : tie.Need-returns Inv-loop μ-loop
+returns c = absurd (omega arith)
+
 loop-holds : tie.Need-loop-holds Inv-loop μ-loop
-loop-holds c = (refl, crossing-start _ _ _ _ (c .before .before .before .pre .2) (c .before .before .before .pre .3))
+loop-holds c = (refl, crossing-start _ _ _ _ (c .before .before .before .before .pre .2) (c .before .before .before .before .pre .3))
 
 cross-input-requires : tie.Need-cross-input-requires Inv-loop μ-loop
 cross-input-requires c κs = (omega arith, c .before .before .before .loop .inv .1 .marks-length, c .before .before .before .loop .inv .1 .cells-length)
@@ -37,14 +43,14 @@ loop-again : tie.Need-loop-again Inv-loop μ-loop
 loop-again c = (refl, crossing-more _ _ _ _ _ _ _ _ _ (omega arith) (omega arith) (c .before .before .before .before .before .before .before .before .loop .inv .1) (c .before .before .before .before .cross-input .ensures))
 
 same-length : tie.Need-same-length Inv-loop μ-loop
-same-length c = same-long _ _ (c .before .loop .inv .1 .marks-length) (c .before .before .before .before .before .pre .2)
+same-length c = same-long _ _ (c .before .loop .inv .1 .marks-length) (c .before .before .before .before .before .before .pre .2)
 
 same-length-2 : tie.Need-same-length-2 Inv-loop μ-loop
-same-length-2 c = same-long _ _ (c .before .loop .inv .1 .cells-length) (c .before .before .before .before .before .pre .3)
+same-length-2 c = same-long _ _ (c .before .loop .inv .1 .cells-length) (c .before .before .before .before .before .before .pre .3)
 
-returns : tie.Need-returns Inv-loop μ-loop
+returns-2 : tie.Need-returns-2 Inv-loop μ-loop
 unfolding _≤?_
-returns c = (crossed-met _ _ _ _ _ _ (c .before .before .before .before .before .pre .0) (c .before .loop .inv .1) (omega arith), (crossed-marks _ _ _ _ _ _ (c .before .before .before .before .before .pre .0) (c .before .loop .inv .1) (omega arith), crossed-cells _ _ _ _ _ _ (c .before .before .before .before .before .pre .0) (c .before .loop .inv .1) (omega arith)))
+returns-2 c = (crossed-met _ _ _ _ _ _ (c .before .before .before .before .before .before .pre .0) (c .before .loop .inv .1) (omega arith), (crossed-marks _ _ _ _ _ _ (c .before .before .before .before .before .before .pre .0) (c .before .loop .inv .1) (omega arith), crossed-cells _ _ _ _ _ _ (c .before .before .before .before .before .before .pre .0) (c .before .loop .inv .1) (omega arith)))
 
 pub cross-spec : {M : Type 1} → statement M
 cross-spec =
@@ -53,6 +59,8 @@ cross-spec =
     Inv-loop
     μ-loop
     mul-count
+    cast-if1
+    returns
     loop-holds
     cross-input-requires
     add-hits
@@ -61,4 +69,4 @@ cross-spec =
     loop-again
     same-length
     same-length-2
-    returns)
+    returns-2)

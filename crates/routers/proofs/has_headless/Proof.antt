@@ -15,14 +15,17 @@ Inv-loop s count k₀ k = (k ≤ count) × (any k (headlessAt s) ≡ false)
 abbrev μ-loop : tie.MeasureT-loop
 μ-loop s count k₀ k = count - k
 
+returns : tie.Need-returns Inv-loop μ-loop
+returns c = absurd (omega arith)
+
 loop-holds : tie.Need-loop-holds Inv-loop μ-loop
 loop-holds c = (omega arith, any-nothing _)
 
 is-headless-requires : tie.Need-is-headless-requires Inv-loop μ-loop
 is-headless-requires c κs = tt
 
-returns : tie.Need-returns Inv-loop μ-loop
-returns c = headless-found _ _ (c .before .before .before .before .before .pre .0) _ _ (omega arith) (c .before .is-headless .ensures) (c .if1 .taken)
+returns-2 : tie.Need-returns-2 Inv-loop μ-loop
+returns-2 c = headless-found _ _ (c .before .before .before .before .before .before .pre .0) _ _ (omega arith) (c .before .is-headless .ensures) (c .if2 .taken)
 
 add-k : tie.Need-add-k Inv-loop μ-loop
 add-k c = omega arith
@@ -31,10 +34,10 @@ loop-less : tie.Need-loop-less Inv-loop μ-loop
 loop-less c = omega arith
 
 loop-again : tie.Need-loop-again Inv-loop μ-loop
-loop-again c = (omega arith, any-more _ _ (c .before .before .before .loop .inv .1) (sym (c .before .is-headless .ensures) ∙ c .if1 .left))
+loop-again c = (omega arith, any-more _ _ (c .before .before .before .loop .inv .1) (sym (c .before .is-headless .ensures) ∙ c .if2 .left))
 
-returns-2 : tie.Need-returns-2 Inv-loop μ-loop
-returns-2 c = headless-none _ _ (c .before .before .before .pre .0) _ (c .before .loop .inv .1) (omega arith) (omega arith)
+returns-3 : tie.Need-returns-3 Inv-loop μ-loop
+returns-3 c = headless-none _ _ (c .before .before .before .before .pre .0) _ (c .before .loop .inv .1) (omega arith) (omega arith)
 
 pub has-headless-spec : {M : Type 1} → statement M
 has-headless-spec =
@@ -42,10 +45,11 @@ has-headless-spec =
     (tie.spec
     Inv-loop
     μ-loop
+    returns
     loop-holds
     is-headless-requires
-    returns
+    returns-2
     add-k
     loop-less
     loop-again
-    returns-2)
+    returns-3)

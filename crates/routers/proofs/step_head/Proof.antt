@@ -1,6 +1,8 @@
--- `routers::step_head` meets its contract: all is read before the first register is set.
+-- `routers::step_head` meets its contract: an empty link register makes an empty header stage, and its latch stays, which so need not be
+-- set; the rest is step_head_word.
 -- Assumes nothing.
-use Rattle.routers.proofs.HeadLaws.{head-is}
+use native.Mathlib.Omega.{arith}
+use Rattle.routers.proofs.HeadLaws.{head-empty}
 use borrow.Author.Needs.{needs}
 use Rattle.routers.proofs.step_head.Statement.{statement}
 use Rattle.routers.proofs.step_head.Tie as tie
@@ -8,17 +10,17 @@ use Rattle.routers.proofs.step_head.Tie as tie
 reg-requires : tie.Need-reg-requires
 reg-requires c κs = search needs
 
+step-head-word-requires : tie.Need-step-head-word-requires
+step-head-word-requires c κs = search needs
+
+same-length : tie.Need-same-length
+same-length c = search needs
+
+returns : tie.Need-returns
+returns c = search needs
+
 reg-requires-2 : tie.Need-reg-requires-2
 reg-requires-2 c κs = search needs
-
-next-head-word-requires : tie.Need-next-head-word-requires
-next-head-word-requires c κs = search needs
-
-next-choice-requires : tie.Need-next-choice-requires
-next-choice-requires c κs = search needs
-
-next-latch-requires : tie.Need-next-latch-requires
-next-latch-requires c κs = search needs
 
 put-reg-requires : tie.Need-put-reg-requires
 put-reg-requires c κs = search needs
@@ -29,27 +31,23 @@ put-reg-requires-2 c κs = search needs
 put-reg-requires-3 : tie.Need-put-reg-requires-3
 put-reg-requires-3 c κs = search needs
 
-put-reg-requires-4 : tie.Need-put-reg-requires-4
-put-reg-requires-4 c κs = search needs
+same-length-2 : tie.Need-same-length-2
+same-length-2 c = search needs
 
-same-length : tie.Need-same-length
-same-length c = search needs
-
-returns : tie.Need-returns
-returns c = head-is _ _ _ _ _ _ _ (c .before .before .before .before .before .before .before .before .before .before .before .before .before .before .before .before .before .before .before .before .before .before .before .reg .ensures) (c .before .before .before .before .before .before .before .before .before .before .before .before .before .before .before .before .before .before .before .before .before .reg2 .ensures) (c .before .before .before .before .before .before .before .before .before .before .before .before .before .before .before .before .before .before .before .before .next-head-word .ensures) (c .before .before .before .before .before .before .before .before .before .before .before .before .before .before .before .before .before .before .next-choice .ensures) (c .before .before .before .before .before .before .before .before .before .before .before .before .before .before .before .before .next-latch .ensures) _ _ _ _ (c .before .before .before .before .before .before .before .before .before .before .before .before .before .before .put-reg .ensures) (c .before .before .before .before .before .before .before .before .before .before .put-reg2 .ensures) (c .before .before .before .before .before .before .put-reg3 .ensures) (c .before .before .put-reg4 .ensures)
+returns-2 : tie.Need-returns-2
+returns-2 c = head-empty _ _ _ _ (c .before .before .before .before .before .before .before .before .before .before .before .before .before .before .before .reg .ensures) (omega arith) (c .before .before .before .before .before .before .before .before .before .before .before .before .reg2 .ensures) _ _ _ (c .before .before .before .before .before .before .before .before .before .before .put-reg .ensures) (c .before .before .before .before .before .before .put-reg2 .ensures) (c .before .before .put-reg3 .ensures)
 
 pub step-head-spec : {M : Type 1} → statement M
 step-head-spec =
     tie.close
     (tie.spec
     reg-requires
+    step-head-word-requires
+    same-length
+    returns
     reg-requires-2
-    next-head-word-requires
-    next-choice-requires
-    next-latch-requires
     put-reg-requires
     put-reg-requires-2
     put-reg-requires-3
-    put-reg-requires-4
-    same-length
-    returns)
+    same-length-2
+    returns-2)

@@ -16,6 +16,9 @@ Inv-loop s₀ count k₀ s k = (k ≤ count) × Staged 3 6 k (nextInRow s₀ [])
 abbrev μ-loop : tie.MeasureT-loop
 μ-loop s₀ count k₀ s k = count - k
 
+returns : tie.Need-returns Inv-loop μ-loop
+returns c = absurd (omega arith)
+
 loop-holds : tie.Need-loop-holds Inv-loop μ-loop
 loop-holds c = (omega arith, stage-start _ _ _ _)
 
@@ -29,13 +32,13 @@ loop-less : tie.Need-loop-less Inv-loop μ-loop
 loop-less c = omega arith
 
 loop-again : tie.Need-loop-again Inv-loop μ-loop
-loop-again c = (omega arith, heads-more _ _ _ (omega arith) (c .before .before .before .before .before .before .before .pre .0) (c .before .before .before .before .before .loop .inv .1) _ (c .before .before .step-head .ensures))
+loop-again c = (omega arith, heads-more _ _ _ (omega arith) (c .before .before .before .before .before .before .before .before .pre .0) (c .before .before .before .before .before .loop .inv .1) _ (c .before .before .step-head .ensures))
 
 same-length : tie.Need-same-length Inv-loop μ-loop
 same-length c = c .before .loop .inv .1 .same-length
 
-returns : tie.Need-returns Inv-loop μ-loop
-returns c = filled _ _ _ _ _ _ _ (c .before .before .before .pre .0) (c .before .loop .inv .1) (omega arith) (omega arith)
+returns-2 : tie.Need-returns-2 Inv-loop μ-loop
+returns-2 c = filled _ _ _ _ _ _ _ (c .before .before .before .before .pre .0) (c .before .loop .inv .1) (omega arith) (omega arith)
 
 pub step-heads-spec : {M : Type 1} → statement M
 step-heads-spec =
@@ -43,10 +46,11 @@ step-heads-spec =
     (tie.spec
     Inv-loop
     μ-loop
+    returns
     loop-holds
     step-head-requires
     add-k
     loop-less
     loop-again
     same-length
-    returns)
+    returns-2)

@@ -3,6 +3,7 @@
 use Rattle.routers.proofs.LinkLaws.{few-read, Linking, linking-start, linking-grid, linking-more, linking-done}
 use native.Mathlib.Omega.{arith}
 use Prim.Native.Nat.{_-_}
+use mathlib.Core.Path.{refl}
 use Rattle.routers.proofs.step_links.Statement.{statement}
 use Rattle.routers.proofs.step_links.Tie as tie
 
@@ -24,8 +25,14 @@ get-requires-2 c κs = tt
 mul-nodes : tie.Need-mul-nodes Inv-loop μ-loop
 mul-nodes c = omega (arith, few-read _ _ (c .before .before .sheet-of .ensures) _ _ (c .before .get .ensures) (c .get2 .ensures) (c .before .before .before .before .before .before .before .pre .0))
 
+same-length : tie.Need-same-length Inv-loop μ-loop
+same-length c = refl
+
+returns : tie.Need-returns Inv-loop μ-loop
+returns c = absurd (omega (arith, few-read _ _ (c .before .before .before .sheet-of .ensures) _ _ (c .before .before .get .ensures) (c .before .get2 .ensures) (c .before .before .before .before .before .before .before .before .pre .0)))
+
 loop-holds : tie.Need-loop-holds Inv-loop μ-loop
-loop-holds c = linking-start _ _ (c .before .before .sheet-of .ensures) _ _ (c .before .get .ensures) (c .get2 .ensures) (c .before .before .before .before .before .before .before .pre .0) _ _ (c .before .before .before .before .before .before .before .pre .1)
+loop-holds c = linking-start _ _ (c .before .before .before .sheet-of .ensures) _ _ (c .before .before .get .ensures) (c .before .get2 .ensures) (c .before .before .before .before .before .before .before .before .pre .0) _ _ (c .before .before .before .before .before .before .before .before .pre .1)
 
 step-side-requires : tie.Need-step-side-requires Inv-loop μ-loop
 step-side-requires c κs = (linking-grid _ _ _ _ _ _ _ _ (c .before .before .loop .inv) (omega arith), omega arith)
@@ -69,11 +76,11 @@ loop-less c = omega (arith, c .before .before .before .before .before .before .b
 loop-again : tie.Need-loop-again Inv-loop μ-loop
 loop-again c = linking-more _ _ _ _ _ _ _ _ (c .before .before .before .before .before .before .before .before .before .before .before .before .before .before .before .before .before .before .before .before .before .before .before .loop .inv) (c .before .before .before .before .before .before .before .before .before .before .before .before .before .before .before .before .before .before .before .before .before .before .loop-test .taken) _ _ _ _ _ (c .before .before .before .before .before .before .before .before .before .before .before .before .before .before .before .before .before .before .before .before .step-side .ensures) (c .before .before .before .before .before .before .before .before .before .before .before .before .before .before .before .before .step-side2 .ensures) (c .before .before .before .before .before .before .before .before .before .before .before .before .step-side3 .ensures) (c .before .before .before .before .before .before .before .before .step-side4 .ensures) _ _ (c .before .before .before .before .before .get3 .ensures) (c .before .before .before .before .get4 .ensures) (c .before .before .put-link .ensures)
 
-same-length : tie.Need-same-length Inv-loop μ-loop
-same-length c = c .before .loop .inv .so-far .same-length
+same-length-2 : tie.Need-same-length-2 Inv-loop μ-loop
+same-length-2 c = c .before .loop .inv .so-far .same-length
 
-returns : tie.Need-returns Inv-loop μ-loop
-returns c = linking-done _ _ _ _ _ _ _ _ (c .before .loop .inv) (omega arith)
+returns-2 : tie.Need-returns-2 Inv-loop μ-loop
+returns-2 c = linking-done _ _ _ _ _ _ _ _ (c .before .loop .inv) (omega arith)
 
 pub step-links-spec : {M : Type 1} → statement M
 step-links-spec =
@@ -85,6 +92,8 @@ step-links-spec =
     get-requires
     get-requires-2
     mul-nodes
+    same-length
+    returns
     loop-holds
     step-side-requires
     step-side-requires-2
@@ -100,5 +109,5 @@ step-links-spec =
     add-node
     loop-less
     loop-again
-    same-length
-    returns)
+    same-length-2
+    returns-2)

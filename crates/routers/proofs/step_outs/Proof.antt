@@ -14,6 +14,9 @@ Inv-loop s₀ count marks cells k₀ s k = (k ≤ count) × Staged 7 8 k (outFro
 abbrev μ-loop : tie.MeasureT-loop
 μ-loop s₀ count marks cells k₀ s k = count - k
 
+returns : tie.Need-returns Inv-loop μ-loop
+returns c = absurd (omega arith)
+
 loop-holds : tie.Need-loop-holds Inv-loop μ-loop
 loop-holds c = (omega arith, stage-start _ _ _ _)
 
@@ -42,13 +45,13 @@ loop-less : tie.Need-loop-less Inv-loop μ-loop
 loop-less c = omega arith
 
 loop-again : tie.Need-loop-again Inv-loop μ-loop
-loop-again c = (omega arith, outs-more _ _ _ _ _ (omega arith) (c .before .before .before .before .before .before .before .before .before .before .before .before .before .before .before .pre .0) (c .before .before .before .before .before .before .before .before .before .before .before .loop .inv .1) _ _ (c .before .before .before .before .before .before .before .before .before .get .ensures) (c .before .before .before .before .before .before .before .before .get2 .ensures) _ _ (c .before .before .before .before .before .before .put-reg .ensures) (c .before .before .put-reg2 .ensures))
+loop-again c = (omega arith, outs-more _ _ _ _ _ (omega arith) (c .before .before .before .before .before .before .before .before .before .before .before .before .before .before .before .before .pre .0) (c .before .before .before .before .before .before .before .before .before .before .before .loop .inv .1) _ _ (c .before .before .before .before .before .before .before .before .before .get .ensures) (c .before .before .before .before .before .before .before .before .get2 .ensures) _ _ (c .before .before .before .before .before .before .put-reg .ensures) (c .before .before .put-reg2 .ensures))
 
 same-length : tie.Need-same-length Inv-loop μ-loop
 same-length c = c .before .loop .inv .1 .same-length
 
-returns : tie.Need-returns Inv-loop μ-loop
-returns c = filled _ _ _ _ _ _ _ (c .before .before .before .before .before .pre .0) (c .before .loop .inv .1) (omega arith) (omega arith)
+returns-2 : tie.Need-returns-2 Inv-loop μ-loop
+returns-2 c = filled _ _ _ _ _ _ _ (c .before .before .before .before .before .before .pre .0) (c .before .loop .inv .1) (omega arith) (omega arith)
 
 pub step-outs-spec : {M : Type 1} → statement M
 step-outs-spec =
@@ -56,6 +59,7 @@ step-outs-spec =
     (tie.spec
     Inv-loop
     μ-loop
+    returns
     loop-holds
     cast-get
     get-requires
@@ -67,4 +71,4 @@ step-outs-spec =
     loop-less
     loop-again
     same-length
-    returns)
+    returns-2)

@@ -1,7 +1,7 @@
--- `soundness::wire_sound` meets its contract: the cell is the one in the two registers.
+-- `soundness::wire_sound` meets its contract: the mark is compared with 3 and 1, and a header's kind decides.
 -- Assumes nothing.
-use mathlib.Core.Path.{_∙_, ap₂}
-use Rattle.soundness.specs.Sound.{cellSound}
+use native.Mathlib.Omega.{arith}
+use Rattle.soundness.proofs.SoundnessLaws.{cell-high, cell-other, cell-header}
 use borrow.Author.Needs.{needs}
 use Rattle.soundness.proofs.wire_sound.Statement.{statement}
 use Rattle.soundness.proofs.wire_sound.Tie as tie
@@ -9,14 +9,32 @@ use Rattle.soundness.proofs.wire_sound.Tie as tie
 reg-requires : tie.Need-reg-requires
 reg-requires c κs = search needs
 
+returns : tie.Need-returns
+returns c = cell-high _ _ _ (c .before .reg .ensures) (omega arith)
+
+returns-2 : tie.Need-returns-2
+returns-2 c = cell-other _ _ _ (c .before .before .reg .ensures) (omega arith) (c .if2 .taken)
+
 reg-requires-2 : tie.Need-reg-requires-2
 reg-requires-2 c κs = search needs
 
-cell-sound-requires : tie.Need-cell-sound-requires
-cell-sound-requires c κs = search needs
+kind-requires : tie.Need-kind-requires
+kind-requires c κs = search needs
 
-returns : tie.Need-returns
-returns c = c .cell-sound .ensures ∙ ap₂ cellSound (c .before .before .reg .ensures) (c .before .reg2 .ensures)
+kind-travels-requires : tie.Need-kind-travels-requires
+kind-travels-requires c κs = search needs
+
+returns-3 : tie.Need-returns-3
+returns-3 c = cell-header _ _ _ (c .before .before .before .before .before .reg .ensures) _ _ (c .before .before .before .if2 .left) (c .before .before .reg2 .ensures) (c .before .kind .ensures) (c .kind-travels .ensures)
 
 pub wire-sound-spec : {M : Type 1} → statement M
-wire-sound-spec = tie.close (tie.spec reg-requires reg-requires-2 cell-sound-requires returns)
+wire-sound-spec =
+    tie.close
+    (tie.spec
+    reg-requires
+    returns
+    returns-2
+    reg-requires-2
+    kind-requires
+    kind-travels-requires
+    returns-3)

@@ -1,4 +1,4 @@
--- `sources::source_wires` meets its contract: in the loop the circuits before `c` are on the wires, and `fault` says whether one of them was at fault.
+-- `sources::source_wires` meets its contract: in the loop the circuits before `c` are on the wires, those that have no words left put nothing there, and `fault` says whether one of them was at fault.
 -- Assumes nothing.
 use native.Mathlib.Omega.{arith}
 use Prim.Native.Nat.{_-_}
@@ -6,7 +6,7 @@ use mathlib.Core.Path.{_∙_, sym, ap}
 use lib.ListN.{length}
 use borrow.Author.Needs.{needs}
 use Rattle.words.proofs.WordLaws.{length-tab}
-use Rattle.sources.proofs.WireLaws.{Wiring, wiring-start, wiring-more, wiring-fault, wiring-marks, wiring-words, marks-length, words-length}
+use Rattle.sources.proofs.WireLaws.{Wiring, wiring-start, wiring-more, wiring-rests, wiring-fault, wiring-marks, wiring-words, marks-length, words-length}
 use Rattle.sources.proofs.source_wires.Statement.{statement}
 use Rattle.sources.proofs.source_wires.Tie as tie
 
@@ -20,13 +20,10 @@ get-requires : tie.Need-get-requires Inv-loop μ-loop
 get-requires c κs = search needs
 
 loop-holds : tie.Need-loop-holds Inv-loop μ-loop
-loop-holds c = wiring-start _ _ _ (c .before .before .before .before .before .before .before .pre .0) _ _ _ (c .get .ensures) (c .before .before .before .before .before .before .before .pre .2) (c .before .before .before .before .before .before .before .pre .3)
+loop-holds c = wiring-start _ _ _ (c .before .before .before .before .before .before .before .pre .0) _ _ _ (c .get .ensures) (c .before .before .before .before .before .before .before .pre .3) (c .before .before .before .before .before .before .before .pre .4)
 
-put-circuit-requires : tie.Need-put-circuit-requires Inv-loop μ-loop
-put-circuit-requires c κs = (c .before .before .before .before .before .before .before .before .before .before .before .pre .0, c .before .before .before .before .before .before .before .before .before .before .before .pre .1, omega (arith, c .before .before .before .loop .inv .whole), c .before .before .before .loop .inv .marks-done, c .before .before .before .loop .inv .words-done)
-
-either-requires : tie.Need-either-requires Inv-loop μ-loop
-either-requires c κs = search needs
+reg-requires : tie.Need-reg-requires Inv-loop μ-loop
+reg-requires c κs = search needs
 
 add-c : tie.Need-add-c Inv-loop μ-loop
 add-c c = omega arith
@@ -35,13 +32,28 @@ loop-less : tie.Need-loop-less Inv-loop μ-loop
 loop-less c = omega arith
 
 loop-again : tie.Need-loop-again Inv-loop μ-loop
-loop-again c = wiring-more _ _ _ (c .before .before .before .before .before .before .before .before .before .before .before .before .before .before .before .before .before .pre .0) _ _ _ _ _ (c .before .before .before .before .before .before .before .before .before .loop .inv) (omega arith) _ _ _ _ (c .before .before .before .before .before .put-circuit .ensures .1 .0) (c .before .before .before .before .before .put-circuit .ensures .1 .1) (c .before .before .before .before .before .put-circuit .ensures .0) (c .either .ensures)
+loop-again c = wiring-rests _ _ _ (c .before .before .before .before .before .before .before .before .before .before .before .pre .0) _ _ _ _ _ (c .before .before .before .loop .inv) (c .before .before .before .before .before .before .before .before .before .before .before .pre .1) (omega arith) _ (c .before .reg .ensures) (c .if1 .taken)
+
+put-circuit-requires : tie.Need-put-circuit-requires Inv-loop μ-loop
+put-circuit-requires c κs = (c .before .before .before .before .before .before .before .before .before .before .before .before .before .pre .0, c .before .before .before .before .before .before .before .before .before .before .before .before .before .pre .2, omega (arith, c .before .before .before .before .before .loop .inv .whole), c .before .before .before .before .before .loop .inv .marks-done, c .before .before .before .before .before .loop .inv .words-done)
+
+either-requires : tie.Need-either-requires Inv-loop μ-loop
+either-requires c κs = search needs
+
+add-c-2 : tie.Need-add-c-2 Inv-loop μ-loop
+add-c-2 c = omega arith
+
+loop-less-2 : tie.Need-loop-less-2 Inv-loop μ-loop
+loop-less-2 c = omega arith
+
+loop-again-2 : tie.Need-loop-again-2 Inv-loop μ-loop
+loop-again-2 c = wiring-more _ _ _ (c .before .before .before .before .before .before .before .before .before .before .before .before .before .before .before .before .before .before .before .pre .0) _ _ _ _ _ (c .before .before .before .before .before .before .before .before .before .before .before .loop .inv) (omega arith) _ _ _ _ (c .before .before .before .before .before .put-circuit .ensures .1 .0) (c .before .before .before .before .before .put-circuit .ensures .1 .1) (c .before .before .before .before .before .put-circuit .ensures .0) (c .either .ensures)
 
 same-length : tie.Need-same-length Inv-loop μ-loop
-same-length c = marks-length _ _ _ (c .before .loop .inv .marks-done) ∙ sym (ap length (c .before .before .before .before .before .before .before .before .before .pre .2) ∙ length-tab 16 _)
+same-length c = marks-length _ _ _ (c .before .loop .inv .marks-done) ∙ sym (ap length (c .before .before .before .before .before .before .before .before .before .pre .3) ∙ length-tab 16 _)
 
 same-length-2 : tie.Need-same-length-2 Inv-loop μ-loop
-same-length-2 c = words-length _ _ _ _ (c .before .loop .inv .words-done) ∙ sym (ap length (c .before .before .before .before .before .before .before .before .before .pre .3) ∙ length-tab 16 _)
+same-length-2 c = words-length _ _ _ _ (c .before .loop .inv .words-done) ∙ sym (ap length (c .before .before .before .before .before .before .before .before .before .pre .4) ∙ length-tab 16 _)
 
 returns : tie.Need-returns Inv-loop μ-loop
 returns c = (wiring-fault _ _ _ (c .before .before .before .before .before .before .before .before .before .pre .0) _ _ _ _ _ (c .before .loop .inv) (omega arith), (wiring-marks _ _ _ (c .before .before .before .before .before .before .before .before .before .pre .0) _ _ _ _ _ (c .before .loop .inv) (omega arith), wiring-words _ _ _ (c .before .before .before .before .before .before .before .before .before .pre .0) _ _ _ _ _ (c .before .loop .inv) (omega arith)))
@@ -54,11 +66,15 @@ source-wires-spec =
     μ-loop
     get-requires
     loop-holds
-    put-circuit-requires
-    either-requires
+    reg-requires
     add-c
     loop-less
     loop-again
+    put-circuit-requires
+    either-requires
+    add-c-2
+    loop-less-2
+    loop-again-2
     same-length
     same-length-2
     returns)
