@@ -1,7 +1,7 @@
-//! A second machine, coded from document 01 and the article alone: routers of three
-//! stages, senders, receive units, the clock and the order, and the nine calls upon them.
-//! Every register of docs/STATE.md is a field here. A machine's sheet has passed the
-//! second checker once, when the machine was made.
+//! A second machine, coded from document 01, the article and docs/STATE.md, without our code or definitions: routers of
+//! three stages, senders, receive units, the clock and the order, and the nine calls upon them. What the papers leave free and
+//! the causes of number 20 are as docs/STATE.md lists them. Every register there is a field here. A machine's sheet has
+//! passed the second checker once, when the machine was made.
 
 use super::checker::{self, Entry, Schedule, Sheet, Side};
 use std::ops::Range;
