@@ -13,14 +13,19 @@ use Rattle.sheet.specs.declared.circuits.Circuit.{Circuit}
 use Rattle.sheet.specs.Sheet.{circuitAt, period}
 use Rattle.sheet.specs.Slots.{slotLength, sourceOf, destinationOf}
 use Rattle.isolation.specs.Sessions.{Event, started, wrote, ordered, cycled}
-use Rattle.isolation.specs.Reckoning.{Calendar, Item, none, item, Reckoned, owed, nextCalendar, flightCycles, landingIn, storedBy, leavesIn, nextItem, cycleOn, startOn, storeOn, orderOn, reckonEvent, reckonAll}
+use Rattle.isolation.specs.Calendar.{Calendar, nextCalendar, orderCalendar, calendarAll}
+use Rattle.isolation.specs.Reckoning.{Item, none, item, Reckoned, owed, flightCycles, landingIn, landedLast, storedBy, leavesIn, nextItem, cycleOn, startOn, storeOn, reckonEvent, reckonAll}
 use Rattle.isolation.specs.Demand.{inRegion, Act, began, readStored, receiveStored, actOf, actsAfter}
+use Rattle.isolation.proofs.Dates.{next-cycles}
 use Rattle.isolation.proofs.Points.{stretch}
 
--- two reckonings agree in what matters to a circuit with these regions: the calendars only in the cycle within the period
+-- two calendars agree in the cycles since the load and in the cycle within the period
+pub record SameTime (k k′ : Calendar) : Type 0 where
+  pub same-cycles : k .cycles ≡ k′ .cycles
+  pub same-cycle : k .cycle ≡ k′ .cycle
+
+-- two reckonings agree in what matters to a circuit with these regions
 pub record Same (m : Circuit) (r q : Reckoned) : Type 0 where
-  pub same-cycles : r .cycles ≡ q .cycles
-  pub same-cycle : r .calendar .cycle ≡ q .calendar .cycle
   pub same-readAddress : r .readAddress ≡ q .readAddress
   pub same-writeAddress : r .writeAddress ≡ q .writeAddress
   pub same-count : r .count ≡ q .count
@@ -33,8 +38,6 @@ pub record Same (m : Circuit) (r q : Reckoned) : Type 0 where
 
 pub same-sym : {m : Circuit} {r q : Reckoned} → Same m r q → Same m q r
 same-sym h = record {
-  same-cycles = sym (h .same-cycles);
-  same-cycle = sym (h .same-cycle);
   same-readAddress = sym (h .same-readAddress);
   same-writeAddress = sym (h .same-writeAddress);
   same-count = sym (h .same-count);
@@ -48,8 +51,6 @@ same-sym h = record {
 
 pub same-trans : {m : Circuit} {r q p : Reckoned} → Same m r q → Same m q p → Same m r p
 same-trans h g = record {
-  same-cycles = h .same-cycles ∙ g .same-cycles;
-  same-cycle = h .same-cycle ∙ g .same-cycle;
   same-readAddress = h .same-readAddress ∙ g .same-readAddress;
   same-writeAddress = h .same-writeAddress ∙ g .same-writeAddress;
   same-count = h .same-count ∙ g .same-count;
@@ -64,8 +65,6 @@ same-trans h g = record {
 -- the words changed: what a store into a region does
 abbrev withWords : Reckoned → (ℕ → ℕ) → (ℕ → ℕ) → Reckoned
 withWords r reads receives = record {
-  cycles = r .cycles;
-  calendar = r .calendar;
   readAddress = r .readAddress;
   writeAddress = r .writeAddress;
   count = r .count;
@@ -79,7 +78,7 @@ withWords r reads receives = record {
 
 -- an act, and some acts, on a reckoning: no sheet needed
 abbrev pub actOn : Act → Reckoned → Reckoned
-actOn (began readAddress writeAddress count kind) r = startOn [] 0 readAddress writeAddress count kind r
+actOn (began readAddress writeAddress count kind) r = startOn readAddress writeAddress count kind r
 actOn (readStored address new) r = withWords r (λ at. pick (at =? address) new (r .readWords at)) (r .receiveWords)
 actOn (receiveStored address new) r = withWords r (r .readWords) (λ at. pick (at =? address) new (r .receiveWords at))
 
@@ -93,10 +92,8 @@ act-append (x ∷ xs) ys r = act-append xs ys (actOn x r)
 
 -- a start on both
 start-same : {m : Circuit} {r q : Reckoned} (readAddress writeAddress count kind : ℕ) → Same m r q
-    → Same m (startOn [] 0 readAddress writeAddress count kind r) (startOn [] 0 readAddress writeAddress count kind q)
+    → Same m (startOn readAddress writeAddress count kind r) (startOn readAddress writeAddress count kind q)
 start-same readAddress writeAddress count kind h = record {
-  same-cycles = h .same-cycles;
-  same-cycle = h .same-cycle;
   same-readAddress = refl;
   same-writeAddress = refl;
   same-count = refl;
@@ -114,8 +111,6 @@ words-same : {m : Circuit} {r q : Reckoned} (reads receives reads′ receives′
     → ((address : ℕ) → inRegion (m .receive) address ≡ true → receives address ≡ receives′ address)
     → Same m (withWords r reads receives) (withWords q reads′ receives′)
 words-same reads receives reads′ receives′ h f g = record {
-  same-cycles = h .same-cycles;
-  same-cycle = h .same-cycle;
   same-readAddress = h .same-readAddress;
   same-writeAddress = h .same-writeAddress;
   same-count = h .same-count;
@@ -154,29 +149,13 @@ store-acts {q} true false address new f g h e i = words-same f g _ _ h e i
 store-acts {q} false true address new f g h e i = words-same f g _ _ h e i
 store-acts {q} false false address new f g h e i = words-same f g (q .readWords) (q .receiveWords) h e i
 
--- an order on one of them
-order-same : {m : Circuit} {r q : Reckoned} (schedule periodNumber : ℕ) → Same m r q → Same m (orderOn [] 0 schedule periodNumber r) q
-order-same schedule periodNumber h = record {
-  same-cycles = h .same-cycles;
-  same-cycle = h .same-cycle;
-  same-readAddress = h .same-readAddress;
-  same-writeAddress = h .same-writeAddress;
-  same-count = h .same-count;
-  same-kind = h .same-kind;
-  same-gone = h .same-gone;
-  same-opened = h .same-opened;
-  same-leaving = h .same-leaving;
-  same-readWords = h .same-readWords;
-  same-receiveWords = h .same-receiveWords;
-}
-
 module _ (z : List ℕ) (circuit : ℕ) where
-  start-acts : {r q : Reckoned} (c readAddress writeAddress count kind : ℕ) → Same (circuitAt z circuit) r q
-      → Same (circuitAt z circuit) (reckonEvent z circuit (started c readAddress writeAddress count kind) r)
+  start-acts : {r q : Reckoned} (k : Calendar) (c readAddress writeAddress count kind : ℕ) → Same (circuitAt z circuit) r q
+      → Same (circuitAt z circuit) (reckonEvent z circuit (started c readAddress writeAddress count kind) k r)
       (actAll (actOf z circuit (started c readAddress writeAddress count kind)) q)
-  start-acts {r} {q} c readAddress writeAddress count kind h = go (c =? circuit)
+  start-acts {r} {q} k c readAddress writeAddress count kind h = go (c =? circuit)
     where
-      go : (b : Bool) → Same (circuitAt z circuit) (pick b (startOn z circuit readAddress writeAddress count kind r) r)
+      go : (b : Bool) → Same (circuitAt z circuit) (pick b (startOn readAddress writeAddress count kind r) r)
           (actAll (pick b (began readAddress writeAddress count kind ∷ []) []) q)
       go true = start-same readAddress writeAddress count kind h
       go false = h
@@ -195,35 +174,52 @@ module _ (z : List ℕ) (circuit : ℕ) where
   acts-on {r} xs ys q h = subst (λ (p : Reckoned). Same (circuitAt z circuit) r p) (sym (act-append xs ys q)) h
 
   -- a stretch without cycles does what its acts do
-  pub stretch-acts : (es : List Event) (t : ℕ) (r q : Reckoned) → Same (circuitAt z circuit) r q
-      → Same (circuitAt z circuit) (reckonAll z circuit (stretch es t) r) (actAll (actsAfter z circuit es t) q)
-  stretch-acts [] t r q h = h
-  stretch-acts (cycled ∷ es) zero r q h = h
-  stretch-acts (cycled ∷ es) (suc t) r q h = stretch-acts es t r q h
-  stretch-acts (started c readAddress writeAddress count kind ∷ es) zero r q h =
+  pub stretch-acts : (es : List Event) (t : ℕ) (k : Calendar) (r q : Reckoned) → Same (circuitAt z circuit) r q
+      → Same (circuitAt z circuit) (reckonAll z circuit (stretch es t) k r) (actAll (actsAfter z circuit es t) q)
+  stretch-acts [] t k r q h = h
+  stretch-acts (cycled ∷ es) zero k r q h = h
+  stretch-acts (cycled ∷ es) (suc t) k r q h = stretch-acts es t k r q h
+  stretch-acts (started c readAddress writeAddress count kind ∷ es) zero k r q h =
       acts-on (actOf z circuit (started c readAddress writeAddress count kind)) (actsAfter z circuit es zero) q
-      (stretch-acts es zero _ _ (start-acts c readAddress writeAddress count kind h))
-  stretch-acts (started c readAddress writeAddress count kind ∷ es) (suc t) r q h = stretch-acts es (suc t) r q h
-  stretch-acts (wrote node address new ∷ es) zero r q h =
+      (stretch-acts es zero k _ _ (start-acts k c readAddress writeAddress count kind h))
+  stretch-acts (started c readAddress writeAddress count kind ∷ es) (suc t) k r q h = stretch-acts es (suc t) k r q h
+  stretch-acts (wrote node address new ∷ es) zero k r q h =
       acts-on (actOf z circuit (wrote node address new)) (actsAfter z circuit es zero) q
-      (stretch-acts es zero _ _ (wrote-acts node address new h))
-  stretch-acts (wrote node address new ∷ es) (suc t) r q h = stretch-acts es (suc t) r q h
-  stretch-acts (ordered schedule periodNumber ∷ es) zero r q h = stretch-acts es zero _ _ (order-same schedule periodNumber h)
-  stretch-acts (ordered schedule periodNumber ∷ es) (suc t) r q h = stretch-acts es (suc t) r q h
+      (stretch-acts es zero k _ _ (wrote-acts node address new h))
+  stretch-acts (wrote node address new ∷ es) (suc t) k r q h = stretch-acts es (suc t) k r q h
+  stretch-acts (ordered schedule at ∷ es) zero k r q h = stretch-acts es zero (orderCalendar schedule at k) r q h
+  stretch-acts (ordered schedule at ∷ es) (suc t) k r q h = stretch-acts es (suc t) k r q h
 
-  -- the cycle within the period after a cycle
-  cycle-next : (k : Calendar) → nextCalendar z k .cycle ≡ pick (k .cycle + 1 =? period z (k .schedule)) 0 (k .cycle + 1)
-  cycle-next k = go (k .cycle + 1 =? period z (k .schedule)) refl
-    where
-      go : (b : Bool) → (k .cycle + 1 =? period z (k .schedule)) ≡ b
-          → nextCalendar z k .cycle ≡ pick (k .cycle + 1 =? period z (k .schedule)) 0 (k .cycle + 1)
-      go true e = rw e refl
-      go false e = rw e refl
+-- a stretch without cycles keeps the time
+pub stretch-time : (z : List ℕ) (es : List Event) (t : ℕ) (k : Calendar) → SameTime (calendarAll z (stretch es t) k) k
+stretch-time z [] t k = record { same-cycles = refl; same-cycle = refl }
+stretch-time z (cycled ∷ es) zero k = record { same-cycles = refl; same-cycle = refl }
+stretch-time z (cycled ∷ es) (suc t) k = stretch-time z es t k
+stretch-time z (started c readAddress writeAddress count kind ∷ es) zero k = stretch-time z es zero k
+stretch-time z (started c readAddress writeAddress count kind ∷ es) (suc t) k = stretch-time z es (suc t) k
+stretch-time z (wrote node address new ∷ es) zero k = stretch-time z es zero k
+stretch-time z (wrote node address new ∷ es) (suc t) k = stretch-time z es (suc t) k
+stretch-time z (ordered schedule at ∷ es) zero k =
+    let h = stretch-time z es zero (orderCalendar schedule at k) in record { same-cycles = h .same-cycles; same-cycle = h .same-cycle }
+stretch-time z (ordered schedule at ∷ es) (suc t) k = stretch-time z es (suc t) k
+
+pub time-trans : {a b c : Calendar} → SameTime a b → SameTime b c → SameTime a c
+time-trans h g = record { same-cycles = h .same-cycles ∙ g .same-cycles; same-cycle = h .same-cycle ∙ g .same-cycle }
+
+pub time-sym : {a b : Calendar} → SameTime a b → SameTime b a
+time-sym h = record { same-cycles = sym (h .same-cycles); same-cycle = sym (h .same-cycle) }
+
+-- the cycle within the period after a cycle
+cycle-next : (z : List ℕ) (k : Calendar) → nextCalendar z k .cycle ≡ pick (k .cycle + 1 =? period z (k .schedule)) 0 (k .cycle + 1)
+cycle-next z k = go (k .cycle + 1 =? period z (k .schedule)) refl
+  where
+    go : (b : Bool) → (k .cycle + 1 =? period z (k .schedule)) ≡ b
+        → nextCalendar z k .cycle ≡ pick (k .cycle + 1 =? period z (k .schedule)) 0 (k .cycle + 1)
+    go true e = rw e refl
+    go false e = rw e refl
 
 pub same-refl : {m : Circuit} (r : Reckoned) → Same m r r
 same-refl r = record {
-  same-cycles = refl;
-  same-cycle = refl;
   same-readAddress = refl;
   same-writeAddress = refl;
   same-count = refl;
@@ -235,11 +231,11 @@ same-refl r = record {
   same-receiveWords = λ at i. refl;
 }
 
-leaves-same : {m : Circuit} {r q : Reckoned} → Same m r q → leavesIn r (r .cycles) ≡ leavesIn q (q .cycles)
+leaves-same : {m : Circuit} {r q : Reckoned} {n n′ : ℕ} → n ≡ n′ → Same m r q → leavesIn r n ≡ leavesIn q n′
 unfolding leavesIn
-leaves-same {r} {q} h =
-    any-same (r .cycles) _ (λ s. r .cycles ≤? s + q .opened s) (λ s l. ap (λ (k : ℕ). r .cycles ≤? s + k) (h .same-opened s))
-    ∙ ap (λ (t : ℕ). any t (λ s. t ≤? s + q .opened s)) (h .same-cycles)
+leaves-same {r} {q} {n} e h =
+    any-same n _ (λ s. n ≤? s + q .opened s) (λ s l. ap (λ (k : ℕ). n ≤? s + k) (h .same-opened s))
+    ∙ ap (λ (t : ℕ). any t (λ s. t ≤? s + q .opened s)) e
 
 -- a function set at one place
 at-same : {A : Type 0} (t : ℕ) {u u′ : ℕ} {x x′ y y′ : A} → u ≡ u′ → x ≡ x′ → y ≡ y′ → pick (t =? u) x y ≡ pick (t =? u′) x′ y′
@@ -253,59 +249,69 @@ pub record Sheets (z z′ : List ℕ) (c d : ℕ) (k k′ : Calendar) : Type 0 w
   pub same-length : period z (k .schedule) ≡ period z′ (k′ .schedule)
   pub same-slot : (offset : ℕ) → slotLength z (k .schedule) offset c ≡ slotLength z′ (k′ .schedule) offset d
 
-module _ (z z′ : List ℕ) (c d : ℕ) {m : Circuit} (r q : Reckoned) (s : Sheets z z′ c d (r .calendar) (q .calendar)) (h : Same m r q)
-  where
-    -- what is reckoned to land
-    pub landing-same : landingIn z c r (r .cycles) ≡ landingIn z′ d q (q .cycles)
-    unfolding landingIn
-    landing-same =
-        ap₂ (λ (f t : ℕ). pick (f ≤? t) (r .leaving (t - f)) none) (s .same-flight) (h .same-cycles)
-        ∙ ap (λ (i : Item). pick (flightCycles z′ d ≤? q .cycles) i none) (h .same-leaving (q .cycles - flightCycles z′ d))
+-- what is reckoned to land, and to have landed last
+landing-same : (z z′ : List ℕ) (c d : ℕ) {m : Circuit} (r q : Reckoned) (n n′ : ℕ) → flightCycles z c ≡ flightCycles z′ d → n ≡ n′
+    → Same m r q → landingIn z c r n ≡ landingIn z′ d q n′
+unfolding landingIn
+landing-same z z′ c d r q n n′ f e h =
+    ap₂ (λ (f t : ℕ). pick (f ≤? t) (r .leaving (t - f)) none) f e
+    ∙ ap (λ (i : Item). pick (flightCycles z′ d ≤? n′) i none) (h .same-leaving (n′ - flightCycles z′ d))
 
-    next-cycle-same : nextCalendar z (r .calendar) .cycle ≡ nextCalendar z′ (q .calendar) .cycle
-    next-cycle-same =
-        cycle-next z c (r .calendar)
-        ∙ ap₂ (λ (k p : ℕ). pick (k + 1 =? p) 0 (k + 1)) (h .same-cycle) (s .same-length)
-        ∙ sym (cycle-next z′ d (q .calendar))
+pub landed-same : (z z′ : List ℕ) (c d : ℕ) {m : Circuit} (r q : Reckoned) (n n′ : ℕ) → flightCycles z c ≡ flightCycles z′ d → n ≡ n′
+    → Same m r q → landedLast z c r n ≡ landedLast z′ d q n′
+landed-same z z′ c d r q n n′ f e h =
+    ap₂ (λ (t : ℕ) (i : Item). pick (1 ≤? t) i none) e (landing-same z z′ c d r q (n - 1) (n′ - 1) f (ap (λ (t : ℕ). t - 1) e) h)
 
-    opens-same : min (slotLength z (r .calendar .schedule) (r .calendar .cycle) c - 1) (owed r)
-        ≡ min (slotLength z′ (q .calendar .schedule) (q .calendar .cycle) d - 1) (owed q)
-    opens-same =
-        let slots = s .same-slot (r .calendar .cycle)
-        ∙ ap (λ (k : ℕ). slotLength z′ (q .calendar .schedule) k d) (h .same-cycle) in
-        ap₂ (λ (k o : ℕ). min (k - 1) o) slots (ap₂ (λ (n g : ℕ). n - g) (h .same-count) (h .same-gone))
+-- a cycle on both calendars
+pub time-next : (z z′ : List ℕ) (c d : ℕ) (k k′ : Calendar) → Sheets z z′ c d k k′ → SameTime k k′
+    → SameTime (nextCalendar z k) (nextCalendar z′ k′)
+time-next z z′ c d k k′ s time = record {
+  same-cycles = next-cycles z k ∙ ap (λ (t : ℕ). t + 1) (time .same-cycles) ∙ sym (next-cycles z′ k′);
+  same-cycle =
+      cycle-next z k ∙ ap₂ (λ (t p : ℕ). pick (t + 1 =? p) 0 (t + 1)) (time .same-cycle) (s .same-length) ∙ sym (cycle-next z′ k′);
+}
 
-    -- the next word, where its address lies in the read region
-    item-same : inRegion (m .read) (r .readAddress + r .gone) ≡ true → nextItem r ≡ nextItem q
-    item-same i =
-        ap (λ (w : ℕ). item (r .kind) (r .writeAddress + r .gone) w) (h .same-readWords (r .readAddress + r .gone) i)
-        ∙ ap (λ (a : ℕ). item (r .kind) (r .writeAddress + r .gone) (q .readWords (a + r .gone))) (h .same-readAddress)
-        ∙ ap (λ (a : ℕ). item (r .kind) (a + r .gone) (q .readWords (q .readAddress + r .gone))) (h .same-writeAddress)
-        ∙ ap₂ (λ (k g : ℕ). item k (q .writeAddress + g) (q .readWords (q .readAddress + g))) (h .same-kind) (h .same-gone)
+module _ (z z′ : List ℕ) (c d : ℕ) {m : Circuit} (k k′ : Calendar) (r q : Reckoned) (s : Sheets z z′ c d k k′) (time : SameTime k k′)
+    (h : Same m r q) where
+  opens-same : min (slotLength z (k .schedule) (k .cycle) c - 1) (owed r) ≡ min (slotLength z′ (k′ .schedule) (k′ .cycle) d - 1) (owed q)
+  opens-same =
+      let slots = s .same-slot (k .cycle) ∙ ap (λ (t : ℕ). slotLength z′ (k′ .schedule) t d) (time .same-cycle) in
+      ap₂ (λ (t o : ℕ). min (t - 1) o) slots (ap₂ (λ (n g : ℕ). n - g) (h .same-count) (h .same-gone))
 
-    leaving-same : (leavesIn r (r .cycles) ≡ true → inRegion (m .read) (r .readAddress + r .gone) ≡ true)
-        → pick (leavesIn r (r .cycles)) (nextItem r) none ≡ pick (leavesIn q (q .cycles)) (nextItem q) none
-    leaving-same i = go (leavesIn r (r .cycles)) (leavesIn q (q .cycles)) refl (leaves-same h)
-      where
-        go : (b b′ : Bool) → leavesIn r (r .cycles) ≡ b → b ≡ b′ → pick b (nextItem r) none ≡ pick b′ (nextItem q) none
-        go true true e f = item-same (i e)
-        go true false e f = absurd (false≢true (sym f))
-        go false true e f = absurd (false≢true f)
-        go false false e f = refl
+  -- the next word, where its address lies in the read region
+  item-same : inRegion (m .read) (r .readAddress + r .gone) ≡ true → nextItem r ≡ nextItem q
+  item-same i =
+      ap (λ (w : ℕ). item (r .kind) (r .writeAddress + r .gone) w) (h .same-readWords (r .readAddress + r .gone) i)
+      ∙ ap (λ (a : ℕ). item (r .kind) (r .writeAddress + r .gone) (q .readWords (a + r .gone))) (h .same-readAddress)
+      ∙ ap (λ (a : ℕ). item (r .kind) (a + r .gone) (q .readWords (q .readAddress + r .gone))) (h .same-writeAddress)
+      ∙ ap₂ (λ (a g : ℕ). item a (q .writeAddress + g) (q .readWords (q .readAddress + g))) (h .same-kind) (h .same-gone)
 
-    -- a cycle on both
-    pub cycle-same : (leavesIn r (r .cycles) ≡ true → inRegion (m .read) (r .readAddress + r .gone) ≡ true)
-        → Same m (cycleOn z c r) (cycleOn z′ d q)
-    cycle-same i = record {
-      same-cycles = ap (λ (t : ℕ). t + 1) (h .same-cycles);
-      same-cycle = next-cycle-same;
-      same-readAddress = h .same-readAddress;
-      same-writeAddress = h .same-writeAddress;
-      same-count = h .same-count;
-      same-kind = h .same-kind;
-      same-gone = ap₂ (λ (b : Bool) (g : ℕ). pick b (g + 1) g) (leaves-same h) (h .same-gone);
-      same-opened = λ t. at-same t (h .same-cycles) opens-same (h .same-opened t);
-      same-leaving = λ t. at-same t (h .same-cycles) (leaving-same i) (h .same-leaving t);
-      same-readWords = h .same-readWords;
-      same-receiveWords = λ at j. ap₂ (λ (o : Item) (w : ℕ). storedBy o at w) landing-same (h .same-receiveWords at j);
-    }
+  leaves : leavesIn r (k .cycles) ≡ leavesIn q (k′ .cycles)
+  leaves = leaves-same (time .same-cycles) h
+
+  leaving-same : (leavesIn r (k .cycles) ≡ true → inRegion (m .read) (r .readAddress + r .gone) ≡ true)
+      → pick (leavesIn r (k .cycles)) (nextItem r) none ≡ pick (leavesIn q (k′ .cycles)) (nextItem q) none
+  leaving-same i = go (leavesIn r (k .cycles)) (leavesIn q (k′ .cycles)) refl leaves
+    where
+      go : (b b′ : Bool) → leavesIn r (k .cycles) ≡ b → b ≡ b′ → pick b (nextItem r) none ≡ pick b′ (nextItem q) none
+      go true true e f = item-same (i e)
+      go true false e f = absurd (false≢true (sym f))
+      go false true e f = absurd (false≢true f)
+      go false false e f = refl
+
+  -- a cycle on both reckonings
+  pub cycle-same : (leavesIn r (k .cycles) ≡ true → inRegion (m .read) (r .readAddress + r .gone) ≡ true)
+      → Same m (cycleOn z c k r) (cycleOn z′ d k′ q)
+  cycle-same i = record {
+    same-readAddress = h .same-readAddress;
+    same-writeAddress = h .same-writeAddress;
+    same-count = h .same-count;
+    same-kind = h .same-kind;
+    same-gone = ap₂ (λ (b : Bool) (g : ℕ). g + pick b 1 0) leaves (h .same-gone);
+    same-opened = λ t. at-same t (time .same-cycles) opens-same (h .same-opened t);
+    same-leaving = λ t. at-same t (time .same-cycles) (leaving-same i) (h .same-leaving t);
+    same-readWords = h .same-readWords;
+    same-receiveWords = λ at j.
+        ap₂ (λ (o : Item) (w : ℕ). storedBy o at w) (landing-same z z′ c d r q (k .cycles) (k′ .cycles) (s .same-flight) (time .same-cycles) h)
+        (h .same-receiveWords at j);
+  }

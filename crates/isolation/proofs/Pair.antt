@@ -1,51 +1,56 @@
--- Demand 3 applied to two different sessions on one grid: another sheet, route, memory, store, start and order leave a circuit undisturbed.
+-- Demand 3 applied to two sessions on one grid that differ in all that the theorem leaves free: the sheet, the memory's size, the circuit's
+-- number and routes, schedules' numbers and orders, other circuits' transfers, other stores, questions and refused calls.
 -- Assumes nothing.
-use Prim.Native.Nat.{ℕ, zero, suc, _+_, _-_, _*_, _%_, _≤_, _<_}
-use mathlib.Core.Bool.{Bool, true, false, not, false≢true}
+use Prim.Native.Nat.{ℕ, zero, suc, _+_, _-_, _≤_, _<_}
+use mathlib.Core.Bool.{Bool, true, false}
 use mathlib.Core.List.{List, [], _∷_, _++_}
-use mathlib.Core.Path.{_≡_, refl, sym, _∙_, ap, subst}
+use mathlib.Core.Path.{_≡_, refl, sym, _∙_, ap}
 use native.Mathlib.Omega.{arith}
-use lib.ListN.{length, replicate, drop}
+use lib.ListN.{length, replicate, getD}
 use Rattle.words.specs.Words.{leastFrom, lastOf, pick, word}
 use Rattle.words.specs.Tests.{all, any, between, _and_, _or_, _≤?_, _<?_, _=?_, _≠?_}
-use Rattle.words.proofs.TestLaws.{and-both, yes≤, no≤, yes<, yes=, no=}
 use Rattle.torus.specs.Torus.{neighbourOf, walks, distanceOf}
 use Rattle.torus.specs.Route.{exitOf, follow, routeFrom}
 use Rattle.sheet.specs.declared.circuits.Circuit.{Circuit}
-use Rattle.sheet.specs.Sheet.{memoryWords, circuits, schedules, nodes, schedulePlace, circuitAt, period, entriesOf, entryAt}
+use Rattle.sheet.specs.Sheet.{schedulePlace, circuitAt, period, entriesOf, entryAt}
 use Rattle.sheet.specs.Slots.{beginsAt, entryBeginning, slotLength, sourceOf, destinationOf}
 use Rattle.sheet.specs.Wires.{sameWire, same, during, occupied, member, meet}
 use Rattle.sheet.specs.Rules.{rule1, rule2, scheduleFits, rule3, firstBroken, verdict}
 use Rattle.sheet.specs.Rules.{regionFits, circuitFits, rule4, precedes, circuitPrecedes, rule5, apart, receiveApart, rule6}
 use Rattle.sheet.specs.Rules.{eachEntry, entryFits, rule7At, rule7, entryPrecedes, rule8At, rule8}
 use Rattle.sheet.specs.Rules.{entryRoute, entryLeads, rule9, entryEnds, rule10, entryOccupied, rule11At, rule11}
-use Rattle.network.specs.Registers.{reg, stateWords, clockRow, numberPlace, orderMarkPlace, leftRow}
+use Rattle.network.specs.Registers.{stateWords}
 use Rattle.session.specs.declared.Found.the-variants.{Word as FoundWord}
 use Rattle.soundness.specs.Sound.{kindTravels, liesIn}
-use Rattle.session.specs.Calls.{Lent, Call, start, store, fetch, order, cycle, isLoad, number, after, loadNumber, startNamed, startFits, isBusy, startNumber, isPending, ahead, orderNumber}
-use Rattle.session.proofs.NumberLaws.{zero-then, zero-unless}
-use Rattle.session.proofs.RegisterLaws.{loaded-register, started-other}
-use Rattle.isolation.specs.Sessions.{LoadsRefused, Session, opened, standing, Event, started, wrote, ordered, cycled, eventOf, events, eventsBefore}
-use Rattle.isolation.specs.Reckoning.{Calendar, Item, item, Reckoned, landingIn, leavesIn, reckon}
-use Rattle.isolation.specs.Demand.{fetchAnswer, inRegion, itsRecord, landingAt, actsAfter, calendarIn, cycleCall, Alike, Undisturbed}
-use Rattle.isolation.proofs.Stream.{Fine, fine-parts, fine-does, fine-opened, after-done}
+use Rattle.session.specs.Calls.{Call, load, start, store, fetch, left, periodNumber, landed, order, cycle}
+use Rattle.isolation.specs.Sessions.{Session, opened, Event, started, wrote, ordered, cycled}
+use Rattle.isolation.specs.Calendar.{Calendar, calendarAfter}
+use Rattle.isolation.specs.Reckoning.{Item, item, landingIn, leavesIn}
+use Rattle.isolation.specs.Demand.{fetchAnswer, inRegion, itsRecord, landingAt, pointAfter, actsAfter, scheduleIn, Alike, Undisturbed}
 use Rattle.isolation.proofs.Regions.{in-high}
-use Rattle.isolation.proofs.Reckons.{state-zero, place-zero, at-point, as-reckoned}
-use Rattle.isolation.proofs.Points.{Carried, carried-session, upTo, split}
-use Rattle.isolation.proofs.Examples.{sheetA}
+use Rattle.isolation.proofs.Points.{upTo}
+use Rattle.isolation.proofs.Deciding.{decided}
+use Rattle.isolation.proofs.Reckons.{as-reckoned}
+use Rattle.isolation.proofs.Undisturbed.{eventsOf, all-events, time-before}
 use Rattle.isolation.proofs.Whole.{demand3}
+use Rattle.isolation.proofs.Witness.{badLoads, bad-loads, load-zero, zeros, zeros-long, events-are, lastLanded, landed-by, table, table-at}
 
--- sheet A: circuit 0 from node 0 to node 1, one schedule, its slot by route 13 (east)
+-- the first sheet: 8 memory words a node, and one circuit, 0, from node 0 to node 1; its slots go by route 13 (east), at offset 0 for two
+-- words in schedule 0 of period 10, at offset 2 for one word in schedule 1 of period 12
 abbrev pub oneSheet : List ℕ
-oneSheet = sheetA 0 13 []
+oneSheet =
+    (2 ∷ 2 ∷ 8 ∷ 1 ∷ 2 ∷ []) ++ (0 ∷ 1 ∷ 0 ∷ 4 ∷ 0 ∷ 4 ∷ [])
+    ++ (10 ∷ 1 ∷ []) ++ (0 ∷ 3 ∷ 0 ∷ 13 ∷ [])
+    ++ (12 ∷ 1 ∷ []) ++ (2 ∷ 2 ∷ 0 ∷ 13 ∷ [])
 
--- the same grid and circuit 0, a circuit 1 from node 2 to node 3, and two schedules: circuit 0's slot by route 7 (west), circuit 1's by
--- route 13 in schedule 0 and by route 7 in schedule 1
+-- the other: 9 memory words a node, a circuit 0 from node 3 to node 0, and that circuit as number 1; its slots go by route 7 (west) in
+-- schedule 0 and by route 13 in schedule 2, which has the lengths and slots of the first sheet's schedule 1
 abbrev pub otherSheet : List ℕ
 otherSheet =
-    (2 ∷ 2 ∷ 8 ∷ 2 ∷ 2 ∷ []) ++ (0 ∷ 1 ∷ 0 ∷ 4 ∷ 0 ∷ 4 ∷ []) ++ (2 ∷ 3 ∷ 0 ∷ 4 ∷ 0 ∷ 4 ∷ [])
-    ++ (9 ∷ 2 ∷ []) ++ (0 ∷ 3 ∷ 0 ∷ 7 ∷ []) ++ (0 ∷ 3 ∷ 1 ∷ 13 ∷ [])
-    ++ (9 ∷ 2 ∷ []) ++ (0 ∷ 3 ∷ 0 ∷ 7 ∷ []) ++ (0 ∷ 3 ∷ 1 ∷ 7 ∷ [])
+    (2 ∷ 2 ∷ 9 ∷ 2 ∷ 3 ∷ []) ++ (3 ∷ 0 ∷ 0 ∷ 4 ∷ 4 ∷ 2 ∷ []) ++ (0 ∷ 1 ∷ 0 ∷ 4 ∷ 0 ∷ 4 ∷ [])
+    ++ (10 ∷ 2 ∷ []) ++ (0 ∷ 3 ∷ 0 ∷ 28 ∷ []) ++ (0 ∷ 3 ∷ 1 ∷ 7 ∷ [])
+    ++ (11 ∷ 0 ∷ [])
+    ++ (12 ∷ 2 ∷ []) ++ (1 ∷ 3 ∷ 0 ∷ 28 ∷ []) ++ (2 ∷ 2 ∷ 1 ∷ 13 ∷ [])
 
 -- both sheets pass
 abbrev passTable : List ℕ
@@ -63,40 +68,37 @@ unfolding verdict firstBroken
     leastFrom all any between _and_ _or_ _≤?_ _<?_ _=?_ _≠?_
 sheets-pass = refl
 
--- the memories: 32 words each, the same in the first four words of nodes 0 and 1, and different elsewhere
+-- the memories: the same in the first four words of nodes 0 and 1, and different elsewhere
 abbrev pub oneMemory : List ℕ
-oneMemory = 11 ∷ 22 ∷ 33 ∷ replicate 29 0
+oneMemory = 11 ∷ 22 ∷ 33 ∷ 44 ∷ replicate 28 0
 
 abbrev pub otherMemory : List ℕ
-otherMemory = 11 ∷ 22 ∷ 33 ∷ 0 ∷ replicate 4 7 ++ (replicate 4 0 ++ replicate 20 5)
+otherMemory = 11 ∷ 22 ∷ 33 ∷ 44 ∷ replicate 5 7 ++ (replicate 4 0 ++ replicate 23 5)
 
--- the calls: a start of three words, then 30 cycles
+-- the first session's calls, 40 cycles among them: four words are started; after three cycles schedule 1 is ordered for period 3, two
+-- stores go into the read region, and a load is refused; after eight a start is refused (the circuit is busy), and a store goes into the
+-- receive region; after 25 an interrupt is started
 abbrev pub oneCalls : List Call
-oneCalls = start 0 0 0 3 0 ∷ replicate 30 cycle
+oneCalls =
+    (start 0 0 0 4 0 ∷ replicate 3 cycle)
+    ++ (order 1 3 ∷ store 0 3 76 ∷ store 0 3 77 ∷ load [] ∷ replicate 5 cycle)
+    ++ (start 0 0 0 1 0 ∷ store 1 3 55 ∷ replicate 17 cycle)
+    ++ (start 0 1 2 1 2 ∷ replicate 15 cycle)
 
--- a store outside the regions, a start of two words on circuit 1, the same start on circuit 0, an order of schedule 1 for period 3, a
--- fetch, then 30 cycles, the last three of them in schedule 1
+-- the other's: the same starts and stores on circuit 1, each after as many cycles; between them transfers of circuit 0, stores elsewhere,
+-- questions, another load and another start that are refused, and schedule 2 ordered for period 3 after nine cycles
 abbrev pub otherCalls : List Call
-otherCalls = store 3 5 99 ∷ start 1 0 0 2 0 ∷ start 0 0 0 3 0 ∷ order 1 3 ∷ fetch 0 5 ∷ replicate 30 cycle
+otherCalls =
+    (start 0 0 4 2 0 ∷ store 3 5 99 ∷ start 1 0 0 4 0 ∷ fetch 0 5 ∷ replicate 3 cycle)
+    ++ (store 0 3 76 ∷ landed 0 ∷ store 0 3 77 ∷ replicate 5 cycle)
+    ++ (store 1 3 55 ∷ store 0 6 12 ∷ load (2 ∷ []) ∷ start 7 0 0 1 0 ∷ left 1 ∷ cycle ∷ [])
+    ++ (order 2 3 ∷ periodNumber ∷ replicate 16 cycle)
+    ++ (start 1 1 2 1 2 ∷ start 0 0 4 1 2 ∷ replicate 15 cycle)
 
--- calls without a load: every load among them is refused, for there is none
-abbrev pub noLoads : List Call → Bool
-noLoads [] = true
-noLoads (x ∷ calls) = pick (isLoad x) false (noLoads calls)
-
-pub no-loads : (calls : List Call) (w : Lent) → noLoads calls ≡ true → LoadsRefused calls w
-no-loads [] w e = tt
-no-loads (x ∷ calls) w e = go (isLoad x) refl e (λ r. no-loads calls (after x w) r)
-  where
-    go : (b : Bool) → isLoad x ≡ b → pick b false (noLoads calls) ≡ true
-        → (noLoads calls ≡ true → LoadsRefused calls (after x w)) → LoadsRefused (x ∷ calls) w
-    go true q r h = absurd (false≢true r)
-    go false q r h = (λ l n. absurd (false≢true (sym q ∙ l)), h r)
-
--- a load of a sheet that passes, on a long state and a memory of the sheet's length, is carried out
-pub load-zero : (z s m : List ℕ) → verdict z ≡ 0 → stateWords ≤ length s → length m ≡ nodes z * memoryWords z → loadNumber z s m ≡ 0
-unfolding loadNumber
-load-zero z s m v l e = zero-then v (zero-then (zero-unless 12 (yes≤ l)) (zero-unless 14 (yes= e)))
+-- the loads among them are refused: their sheets have fewer than five words
+pub loads-bad : (badLoads oneCalls ∷ badLoads otherCalls ∷ []) ≡ true ∷ true ∷ []
+unfolding verdict firstBroken rule1 _≤?_ _=?_
+loads-bad = refl
 
 -- both sessions, on any lent state
 abbrev pub oneOn : (s : List ℕ) → stateWords ≤ length s → Session
@@ -105,7 +107,7 @@ oneOn s long = record {
   sheet = oneSheet;
   calls = oneCalls;
   carried-out = load-zero oneSheet s oneMemory (ap (λ (l : List ℕ). word l 0) sheets-pass) long refl;
-  loads-refused = no-loads oneCalls _ refl;
+  loads-refused = bad-loads oneCalls _ (ap (λ (l : List Bool). getD l 0 false) loads-bad);
 }
 
 abbrev pub otherOn : (s : List ℕ) → stateWords ≤ length s → Session
@@ -114,242 +116,121 @@ otherOn s long = record {
   sheet = otherSheet;
   calls = otherCalls;
   carried-out = load-zero otherSheet s otherMemory (ap (λ (l : List ℕ). word l 1) sheets-pass) long refl;
-  loads-refused = no-loads otherCalls _ refl;
+  loads-refused = bad-loads otherCalls _ (ap (λ (l : List Bool). getD l 1 false) loads-bad);
 }
 
--- the numbers of the calls before the first cycle
-module _ (z : List ℕ) (w : Lent) (f : Fine z w) where
-  -- a start that names what exists and fits, on a free circuit
-  start-zero : (circuit readAddress writeAddress count kind : ℕ)
-      → (circuit <? circuits z and readAddress <? memoryWords z and writeAddress <? memoryWords z and kindTravels kind) ≡ true
-      → (1 ≤? count and (kind =? 0 or count =? 1) and liesIn (circuitAt z circuit .read) readAddress count
-      and liesIn (circuitAt z circuit .receive) writeAddress count) ≡ true
-      → reg (w .state) leftRow circuit ≡ 0 → startNumber (w .state) circuit readAddress writeAddress count kind ≡ 0
-  unfolding startNumber startNamed startFits isBusy
-  start-zero circuit readAddress writeAddress count kind named fits free =
-      zero-then (state-zero z w f)
-      (zero-then
-      (zero-unless 15
-      (subst (λ (y : List ℕ).
-      (circuit <? circuits y and readAddress <? memoryWords y and writeAddress <? memoryWords y and kindTravels kind) ≡ true)
-      (sym (f .sheet-is)) named))
-      (zero-then
-      (zero-unless 16
-      (subst (λ (y : List ℕ).
-      (1 ≤? count and (kind =? 0 or count =? 1) and liesIn (circuitAt y circuit .read) readAddress count
-      and liesIn (circuitAt y circuit .receive) writeAddress count) ≡ true)
-      (sym (f .sheet-is)) fits))
-      (zero-unless 17 (ap not (no≤ (omega (arith, free)))))))
+-- the events of both: the refused calls and the questions have none
+abbrev pub oneEvents : List Event
+oneEvents =
+    (started 0 0 0 4 0 ∷ replicate 3 cycled)
+    ++ (ordered 1 3 ∷ wrote 0 3 76 ∷ wrote 0 3 77 ∷ replicate 5 cycled)
+    ++ (wrote 1 3 55 ∷ replicate 17 cycled)
+    ++ (started 0 1 2 1 2 ∷ replicate 15 cycled)
 
-  -- in period 0, with none pending, an order of a schedule of the sheet for period 3
-  order-zero : (schedule : ℕ) → schedule < schedules z → reg (w .state) clockRow orderMarkPlace ≡ 0
-      → reg (w .state) clockRow numberPlace ≡ 0 → orderNumber (w .state) schedule 3 ≡ 0
-  unfolding orderNumber isPending ahead
-  order-zero schedule l mark first =
-      let far : (3 + 4294967296 - reg (w .state) clockRow numberPlace) % 4294967296 ≡ 3 =
-      ap (λ (n : ℕ). (3 + 4294967296 - n) % 4294967296) first in
-      zero-then (state-zero z w f)
-      (zero-then (zero-unless 15 (yes< (omega (arith, l, ap schedules (f .sheet-is)))))
-      (zero-then (zero-unless 18 (ap not (no≤ (omega (arith, mark)))))
-      (zero-unless 19 (and-both (yes≤ (omega (arith, far))) (yes< (omega (arith, far)))))))
+abbrev pub otherEvents : List Event
+otherEvents =
+    (started 0 0 4 2 0 ∷ wrote 3 5 99 ∷ started 1 0 0 4 0 ∷ replicate 3 cycled)
+    ++ (wrote 0 3 76 ∷ wrote 0 3 77 ∷ replicate 5 cycled)
+    ++ (wrote 1 3 55 ∷ wrote 0 6 12 ∷ cycled ∷ [])
+    ++ (ordered 2 3 ∷ replicate 16 cycled)
+    ++ (started 1 1 2 1 2 ∷ started 0 0 4 1 2 ∷ replicate 15 cycled)
 
--- lent words of a session before its first cycle: no order, period 0, and the circuits below a number are free
-record Clear (z : List ℕ) (w : Lent) (bound : ℕ) : Type 0 where
-  fine : Fine z w
-  free : (circuit : ℕ) → circuit < bound → reg (w .state) leftRow circuit ≡ 0
-  unordered : reg (w .state) clockRow orderMarkPlace ≡ 0
-  first-period : reg (w .state) clockRow numberPlace ≡ 0
+one-decided : decided oneSheet oneMemory oneCalls [] ≡ oneEvents
+unfolding landingIn leavesIn slotLength entryBeginning beginsAt schedulePlace circuitAt entriesOf entryAt lastOf any _and_ _or_ _≤?_ _<?_ _=?_
+    kindTravels liesIn
+one-decided = refl
 
--- directly after the load
-clear-opened : (l : Session) → Clear (l .sheet) (opened l) 2
-clear-opened l = record {
-  fine = fine-opened l;
-  free = λ circuit p. loaded-register (l .sheet) (l .lent .state) leftRow circuit (omega arith) (omega arith);
-  unordered = loaded-register (l .sheet) (l .lent .state) clockRow orderMarkPlace (omega arith) (omega arith);
-  first-period = loaded-register (l .sheet) (l .lent .state) clockRow numberPlace (omega arith) (omega arith);
-}
+other-decided : decided otherSheet otherMemory otherCalls [] ≡ otherEvents
+unfolding landingIn leavesIn slotLength entryBeginning beginsAt schedulePlace circuitAt entriesOf entryAt lastOf any _and_ _or_ _≤?_ _<?_ _=?_
+    kindTravels liesIn
+other-decided = refl
 
--- a store changes no state
-clear-store : (z : List ℕ) (w : Lent) (bound node address new : ℕ) → number (store node address new) w ≡ 0 → Clear z w bound
-    → Clear z (after (store node address new) w) bound
-clear-store z w bound node address new e x =
-    subst (λ (y : Lent). Clear z y bound) (sym (after-done (store node address new) w e))
-    (record {
-      fine = fine-does z (store node address new) w refl e (x .fine);
-      free = x .free;
-      unordered = x .unordered;
-      first-period = x .first-period;
-    })
+pub one-events : (s : List ℕ) (long : stateWords ≤ length s) → eventsOf (oneOn s long) ≡ oneEvents
+one-events s long = events-are (oneOn s long) ∙ one-decided
 
--- a start leaves the circuits below its own free
-clear-start : (z : List ℕ) (w : Lent) (circuit readAddress writeAddress count kind : ℕ) → circuit < 80
-    → number (start circuit readAddress writeAddress count kind) w ≡ 0 → Clear z w (suc circuit)
-    → Clear z (after (start circuit readAddress writeAddress count kind) w) circuit
-clear-start z w circuit readAddress writeAddress count kind few e x =
-    let other = started-other (w .state) circuit readAddress writeAddress count kind few in
-    subst (λ (y : Lent). Clear z y circuit) (sym (after-done (start circuit readAddress writeAddress count kind) w e))
-    (record {
-      fine = fine-does z (start circuit readAddress writeAddress count kind) w refl e (x .fine);
-      free = λ c p. other leftRow c (omega arith) (λ low high q. omega arith) ∙ x .free c (omega arith);
-      unordered = other clockRow orderMarkPlace (omega arith) (λ low high q. omega arith) ∙ x .unordered;
-      first-period = other clockRow numberPlace (omega arith) (λ low high q. omega arith) ∙ x .first-period;
-    })
+pub other-events : (s : List ℕ) (long : stateWords ≤ length s) → eventsOf (otherOn s long) ≡ otherEvents
+other-events s long = events-are (otherOn s long) ∙ other-decided
 
--- the event of a call that is carried out
-event-done : (x : Call) (calls : List Call) (w : Lent) → number x w ≡ 0
-    → events (x ∷ calls) w ≡ eventOf x ++ events calls (after x w)
-event-done x calls w e = ap (λ (b : Bool). pick b (eventOf x) [] ++ events calls (after x w)) (yes= e)
+-- the schedules in force: 0 in both up to cycle 29, then 1 in the first session and 2 in the other
+abbrev schedulesIn : ℕ → List ℕ
+schedulesIn t = calendarAfter oneSheet (upTo oneEvents t) .schedule ∷ calendarAfter otherSheet (upTo otherEvents t) .schedule ∷ []
 
--- the events of cycles that are carried out
-cycle-events : (n : ℕ) (w : Lent) → Carried (replicate n cycle) w → events (replicate n cycle) w ≡ replicate n cycled
-cycle-events zero w c = refl
-cycle-events (suc n) w c =
-    event-done cycle (replicate n cycle) w (c .0 refl)
-    ∙ ap (λ (es : List Event). cycled ∷ es) (cycle-events n (after cycle w) (c .1))
+abbrev schedulesWanted : ℕ → List ℕ
+schedulesWanted t = pick (t <? 30) (0 ∷ 0 ∷ []) (1 ∷ 2 ∷ [])
 
--- cycles have no acts
-cycle-acts : (z : List ℕ) (circuit n t : ℕ) → actsAfter z circuit (replicate n cycled) t ≡ []
-cycle-acts z circuit zero t = refl
-cycle-acts z circuit (suc n) zero = refl
-cycle-acts z circuit (suc n) (suc t) = cycle-acts z circuit n t
+schedules-are : table 40 schedulesIn ≡ table 40 schedulesWanted
+unfolding schedulePlace _and_ _<?_ _=?_
+schedules-are = refl
 
--- the slot of circuit 0 in every schedule of both: offset 0, length 3
-abbrev slotAt : ℕ → ℕ
-slotAt zero = 3
-slotAt (suc offset) = 0
+pub one-schedule : (s : List ℕ) (long : stateWords ≤ length s) (t : ℕ) → t < 40 → scheduleIn (oneOn s long) t ≡ pick (t <? 30) 0 1
+one-schedule s long t l =
+    ap (λ (k : Calendar). k .schedule) (time-before (oneOn s long) t l)
+    ∙ ap (λ (es : List Event). calendarAfter oneSheet (upTo es t) .schedule) (one-events s long)
+    ∙ ap (λ (p : List ℕ). word p 0) (table-at 40 schedulesIn schedulesWanted schedules-are t l)
+    ∙ go (t <? 30)
+  where
+    go : (b : Bool) → word (pick b (0 ∷ 0 ∷ []) (1 ∷ 2 ∷ [])) 0 ≡ pick b 0 1
+    go true = refl
+    go false = refl
 
-one-slots : (j offset : ℕ) → j < schedules oneSheet → slotLength oneSheet j offset 0 ≡ slotAt offset
+pub other-schedule : (s : List ℕ) (long : stateWords ≤ length s) (t : ℕ) → t < 40 → scheduleIn (otherOn s long) t ≡ pick (t <? 30) 0 2
+other-schedule s long t l =
+    ap (λ (k : Calendar). k .schedule) (time-before (otherOn s long) t l)
+    ∙ ap (λ (es : List Event). calendarAfter otherSheet (upTo es t) .schedule) (other-events s long)
+    ∙ ap (λ (p : List ℕ). word p 1) (table-at 40 schedulesIn schedulesWanted schedules-are t l)
+    ∙ go (t <? 30)
+  where
+    go : (b : Bool) → word (pick b (0 ∷ 0 ∷ []) (1 ∷ 2 ∷ [])) 1 ≡ pick b 0 2
+    go true = refl
+    go false = refl
+
+-- the circuit's slots in these schedules
+one-first : (offset : ℕ) → slotLength oneSheet 0 offset 0 ≡ pick (0 =? offset) 3 0
 unfolding slotLength entryBeginning beginsAt lastOf entriesOf entryAt schedulePlace _and_ _=?_
-one-slots zero zero l = refl
-one-slots zero (suc offset) l =
-    ap (λ (b : Bool).
-    let i : ℕ = pick (b and true) 1 0 in pick (i =? 0) 0 (entryAt (entriesOf oneSheet 0) (i - 1) .size))
-    (no= {a = 0} {b = suc offset} (λ e. omega arith))
-one-slots (suc j) offset l = absurd (let z : ⊥ = omega arith in z)
+one-first offset = go (0 =? offset)
+  where
+    go : (b : Bool) → (let i : ℕ = pick (b and true) 1 0 in pick (i =? 0) 0 (entryAt (entriesOf oneSheet 0) (i - 1) .size)) ≡ pick b 3 0
+    go true = refl
+    go false = refl
 
-other-slots : (j offset : ℕ) → j < schedules otherSheet → slotLength otherSheet j offset 0 ≡ slotAt offset
+one-second : (offset : ℕ) → slotLength oneSheet 1 offset 0 ≡ pick (2 =? offset) 2 0
 unfolding slotLength entryBeginning beginsAt lastOf entriesOf entryAt schedulePlace _and_ _=?_
-other-slots zero zero l = refl
-other-slots zero (suc offset) l =
-    ap (λ (b : Bool).
-    let i : ℕ = pick (b and false) 2 (pick (b and true) 1 0) in pick (i =? 0) 0 (entryAt (entriesOf otherSheet 0) (i - 1) .size))
-    (no= {a = 0} {b = suc offset} (λ e. omega arith))
-other-slots (suc zero) zero l = refl
-other-slots (suc zero) (suc offset) l =
-    ap (λ (b : Bool).
-    let i : ℕ = pick (b and false) 2 (pick (b and true) 1 0) in pick (i =? 0) 0 (entryAt (entriesOf otherSheet 1) (i - 1) .size))
-    (no= {a = 0} {b = suc offset} (λ e. omega arith))
-other-slots (suc (suc j)) offset l = absurd (let z : ⊥ = omega arith in z)
+one-second offset = go (2 =? offset)
+  where
+    go : (b : Bool) → (let i : ℕ = pick (b and true) 1 0 in pick (i =? 0) 0 (entryAt (entriesOf oneSheet 1) (i - 1) .size)) ≡ pick b 2 0
+    go true = refl
+    go false = refl
 
--- every schedule of both has period 9
-one-periods : (j : ℕ) → j < schedules oneSheet → period oneSheet j ≡ 9
+other-first : (offset : ℕ) → slotLength otherSheet 0 offset 1 ≡ pick (0 =? offset) 3 0
+unfolding slotLength entryBeginning beginsAt lastOf entriesOf entryAt schedulePlace _and_ _=?_
+other-first offset = go (0 =? offset)
+  where
+    go : (b : Bool) → (let i : ℕ = pick (b and true) 2 (pick (b and false) 1 0) in
+        pick (i =? 0) 0 (entryAt (entriesOf otherSheet 0) (i - 1) .size)) ≡ pick b 3 0
+    go true = refl
+    go false = refl
+
+other-third : (offset : ℕ) → slotLength otherSheet 2 offset 1 ≡ pick (2 =? offset) 2 0
+unfolding slotLength entryBeginning beginsAt lastOf entriesOf entryAt schedulePlace _and_ _=?_
+other-third offset = go (1 =? offset) (2 =? offset)
+  where
+    go : (a b : Bool) → (let i : ℕ = pick (b and true) 2 (pick (a and false) 1 0) in
+        pick (i =? 0) 0 (entryAt (entriesOf otherSheet 2) (i - 1) .size)) ≡ pick b 2 0
+    go true true = refl
+    go true false = refl
+    go false true = refl
+    go false false = refl
+
+slots-alike : (b : Bool) (offset : ℕ) → slotLength oneSheet (pick b 0 1) offset 0 ≡ slotLength otherSheet (pick b 0 2) offset 1
+slots-alike true offset = one-first offset ∙ sym (other-first offset)
+slots-alike false offset = one-second offset ∙ sym (other-third offset)
+
+lengths-alike : (b : Bool) → period oneSheet (pick b 0 1) ≡ period otherSheet (pick b 0 2)
 unfolding schedulePlace
-one-periods zero l = refl
-one-periods (suc j) l = absurd (let z : ⊥ = omega arith in z)
+lengths-alike true = refl
+lengths-alike false = refl
 
-other-periods : (j : ℕ) → j < schedules otherSheet → period otherSheet j ≡ 9
-unfolding schedulePlace
-other-periods zero l = refl
-other-periods (suc zero) l = refl
-other-periods (suc (suc j)) l = absurd (let z : ⊥ = omega arith in z)
-
--- the schedule in force is one of the sheet's
-in-force : (l : Session) (circuit : ℕ) → circuit < circuits (l .sheet) → (t : ℕ) → calendarIn l circuit t .schedule < schedules (l .sheet)
-in-force l circuit inside t =
-    let a = at-point l circuit inside (cycleCall (l .calls) t) in
-    subst (λ (j : ℕ). j < schedules (l .sheet)) (sym (a .now .dated .schedule-is))
-    (fine-parts (l .sheet) (standing l (cycleCall (l .calls) t)) (a .fine) .schedule-inside)
-
-module _ (s : List ℕ) (long : stateWords ≤ length s) where
-  abbrev one-here : Session
-  one-here = oneOn s long
-
-  one-inside : 0 < circuits oneSheet
-  one-inside = omega arith
-
-  -- the start is carried out
-  one-start : number (start 0 0 0 3 0) (opened one-here) ≡ 0
-  unfolding kindTravels liesIn circuitAt _and_ _or_ _≤?_ _<?_ _=?_
-  one-start =
-      let x = clear-opened one-here in
-      start-zero oneSheet (opened one-here) (x .fine) 0 0 0 3 0 refl refl (x .free 0 (omega arith))
-
-  -- the events of the first session: a start and 30 cycles
-  pub one-events : eventsBefore one-here 31 ≡ started 0 0 0 3 0 ∷ replicate 30 cycled
-  one-events =
-      event-done (start 0 0 0 3 0) (replicate 30 cycle) (opened one-here) one-start
-      ∙ ap (λ (es : List Event). started 0 0 0 3 0 ∷ es)
-      (cycle-events 30 (after (start 0 0 0 3 0) (opened one-here))
-      (carried-session one-here 0 (as-reckoned one-here 0 one-inside) .1))
-
-module _ (s : List ℕ) (long : stateWords ≤ length s) where
-  abbrev other-here : Session
-  other-here = otherOn s long
-
-  other-inside : 0 < circuits otherSheet
-  other-inside = omega arith
-
-  abbrev w₁ : Lent
-  w₁ = after (store 3 5 99) (opened other-here)
-
-  abbrev w₂ : Lent
-  w₂ = after (start 1 0 0 2 0) w₁
-
-  abbrev w₃ : Lent
-  w₃ = after (start 0 0 0 3 0) w₂
-
-  abbrev w₄ : Lent
-  w₄ = after (order 1 3) w₃
-
-  -- each call before the first cycle is carried out
-  store-done : number (store 3 5 99) (opened other-here) ≡ 0
-  store-done = place-zero otherSheet (opened other-here) (clear-opened other-here .fine) 3 5 (omega arith) (omega arith)
-
-  clear₁ : Clear otherSheet w₁ 2
-  clear₁ = clear-store otherSheet (opened other-here) 2 3 5 99 store-done (clear-opened other-here)
-
-  start-done : number (start 1 0 0 2 0) w₁ ≡ 0
-  unfolding kindTravels liesIn circuitAt _and_ _or_ _≤?_ _<?_ _=?_
-  start-done = start-zero otherSheet w₁ (clear₁ .fine) 1 0 0 2 0 refl refl (clear₁ .free 1 (omega arith))
-
-  clear₂ : Clear otherSheet w₂ 1
-  clear₂ = clear-start otherSheet w₁ 1 0 0 2 0 (omega arith) start-done clear₁
-
-  same-start-done : number (start 0 0 0 3 0) w₂ ≡ 0
-  unfolding kindTravels liesIn circuitAt _and_ _or_ _≤?_ _<?_ _=?_
-  same-start-done = start-zero otherSheet w₂ (clear₂ .fine) 0 0 0 3 0 refl refl (clear₂ .free 0 (omega arith))
-
-  clear₃ : Clear otherSheet w₃ 0
-  clear₃ = clear-start otherSheet w₂ 0 0 0 3 0 (omega arith) same-start-done clear₂
-
-  order-done : number (order 1 3) w₃ ≡ 0
-  order-done = order-zero otherSheet w₃ (clear₃ .fine) 1 (omega arith) (clear₃ .unordered) (clear₃ .first-period)
-
-  fine₄ : Fine otherSheet w₄
-  fine₄ =
-      subst (Fine otherSheet) (sym (after-done (order 1 3) w₃ order-done))
-      (fine-does otherSheet (order 1 3) w₃ refl order-done (clear₃ .fine))
-
-  fetch-done : number (fetch 0 5) w₄ ≡ 0
-  fetch-done = place-zero otherSheet w₄ fine₄ 0 5 (omega arith) (omega arith)
-
-  -- the events of the other session: every call is carried out
-  pub other-events : eventsBefore other-here 35
-      ≡ wrote 3 5 99 ∷ started 1 0 0 2 0 ∷ started 0 0 0 3 0 ∷ ordered 1 3 ∷ replicate 30 cycled
-  other-events =
-      event-done (store 3 5 99) (drop 1 otherCalls) (opened other-here) store-done
-      ∙ ap (λ (es : List Event). wrote 3 5 99 ∷ es)
-      (event-done (start 1 0 0 2 0) (drop 2 otherCalls) w₁ start-done
-      ∙ ap (λ (es : List Event). started 1 0 0 2 0 ∷ es)
-      (event-done (start 0 0 0 3 0) (drop 3 otherCalls) w₂ same-start-done
-      ∙ ap (λ (es : List Event). started 0 0 0 3 0 ∷ es)
-      (event-done (order 1 3) (drop 4 otherCalls) w₃ order-done
-      ∙ ap (λ (es : List Event). ordered 1 3 ∷ es)
-      (event-done (fetch 0 5) (drop 5 otherCalls) w₄ fetch-done
-      ∙ cycle-events 30 (after (fetch 0 5) w₄)
-      (carried-session other-here 0 (as-reckoned other-here 0 other-inside) .1 .1 .1 .1 .1)))))
-
--- the words of both memories in circuit 0's regions
+-- the words of both memories in the circuit's regions
 read-words : (address : ℕ) → address < 4 → word oneMemory (0 + address) ≡ word otherMemory (0 + address)
 read-words zero l = refl
 read-words (suc zero) l = refl
@@ -357,34 +238,30 @@ read-words (suc (suc zero)) l = refl
 read-words (suc (suc (suc zero))) l = refl
 read-words (suc (suc (suc (suc address)))) l = absurd (let z : ⊥ = omega arith in z)
 
-receive-words : (address : ℕ) → address < 4 → word oneMemory (8 + address) ≡ word otherMemory (8 + address)
+receive-words : (address : ℕ) → address < 4 → word oneMemory (8 + address) ≡ word otherMemory (9 + address)
 receive-words zero l = refl
 receive-words (suc zero) l = refl
 receive-words (suc (suc zero)) l = refl
 receive-words (suc (suc (suc zero))) l = refl
 receive-words (suc (suc (suc (suc address)))) l = absurd (let z : ⊥ = omega arith in z)
 
--- circuit 0's acts in both: the start of three words before the first cycle
-acts-alike : (t : ℕ)
-    → actsAfter oneSheet 0 (started 0 0 0 3 0 ∷ replicate 30 cycled) t
-    ≡ actsAfter otherSheet 0 (wrote 3 5 99 ∷ started 1 0 0 2 0 ∷ started 0 0 0 3 0 ∷ ordered 1 3 ∷ replicate 30 cycled) t
+-- the circuit's acts in both, after each number of cycles
+acts-alike : table 40 (actsAfter oneSheet 0 oneEvents) ≡ table 40 (actsAfter otherSheet 1 otherEvents)
 unfolding circuitAt _and_ _≤?_ _<?_ _=?_
-acts-alike zero = refl
-acts-alike (suc t) = cycle-acts oneSheet 0 30 (suc t) ∙ sym (cycle-acts otherSheet 0 30 (suc t))
+acts-alike = refl
 
--- circuit 0's record in both
+-- its record in both
 abbrev itsWords : Circuit
 itsWords = record {
   read = record { node = 0; offset = 0; size = 4 };
   receive = record { node = 1; offset = 0; size = 4 };
 }
 
--- as both sheets have it
 record-one : circuitAt oneSheet 0 ≡ itsWords
 unfolding circuitAt
 record-one = refl
 
-record-other : circuitAt otherSheet 0 ≡ itsWords
+record-other : circuitAt otherSheet 1 ≡ itsWords
 unfolding circuitAt
 record-other = refl
 
@@ -397,23 +274,23 @@ module _ (s s′ : List ℕ) (long : stateWords ≤ length s) (long′ : stateWo
 
   -- its regions' words at load are the same
   alike-read : (address : ℕ) → inRegion (itsRecord first 0 .read) address ≡ true
-      → fetchAnswer (opened first) (sourceOf oneSheet 0) address ≡ fetchAnswer (opened second) (sourceOf otherSheet 0) address
+      → fetchAnswer (opened first) (sourceOf oneSheet 0) address ≡ fetchAnswer (opened second) (sourceOf otherSheet 1) address
   unfolding circuitAt
   alike-read address i =
       as-reckoned first 0 (omega arith) .read-region 0 address (omega arith) i
       ∙ ap FoundWord (read-words address (in-high (itsRecord first 0 .read) address i))
-      ∙ sym (as-reckoned second 0 (omega arith) .read-region 0 address (omega arith) i)
+      ∙ sym (as-reckoned second 1 (omega arith) .read-region 0 address (omega arith) i)
 
   alike-receive : (address : ℕ) → inRegion (itsRecord first 0 .receive) address ≡ true
-      → fetchAnswer (opened first) (destinationOf oneSheet 0) address ≡ fetchAnswer (opened second) (destinationOf otherSheet 0) address
+      → fetchAnswer (opened first) (destinationOf oneSheet 0) address ≡ fetchAnswer (opened second) (destinationOf otherSheet 1) address
   unfolding circuitAt
   alike-receive address i =
       as-reckoned first 0 (omega arith) .receive-region 0 address (omega arith) i
       ∙ ap FoundWord (receive-words address (in-high (itsRecord first 0 .receive) address i))
-      ∙ sym (as-reckoned second 0 (omega arith) .receive-region 0 address (omega arith) i)
+      ∙ sym (as-reckoned second 1 (omega arith) .receive-region 0 address (omega arith) i)
 
-  -- the two sessions, on any lent states, are alike for circuit 0 up to 30 cycles
-  pub alike-on : Alike first second 0 0 30
+  -- the two sessions, on any lent states, are alike for the circuit up to 40 cycles
+  pub alike-on : Alike first second 0 1 40
   alike-on = record {
     same-columns = refl;
     same-rows = refl;
@@ -421,25 +298,48 @@ module _ (s s′ : List ℕ) (long : stateWords ≤ length s) (long′ : stateWo
     same-read = alike-read;
     same-receive = alike-receive;
     same-acts = λ t l.
-        ap (λ (es : List Event). actsAfter oneSheet 0 es t) (one-events s long) ∙ acts-alike t
-        ∙ sym (ap (λ (es : List Event). actsAfter otherSheet 0 es t) (other-events s′ long′));
+        ap (λ (es : List Event). actsAfter oneSheet 0 es t) (all-events first ∙ one-events s long)
+        ∙ table-at 40 (actsAfter oneSheet 0 oneEvents) (actsAfter otherSheet 1 otherEvents) acts-alike t l
+        ∙ sym (ap (λ (es : List Event). actsAfter otherSheet 1 es t) (all-events second ∙ other-events s′ long′));
     same-lengths = λ t l.
-        one-periods _ (in-force first 0 (omega arith) t) ∙ sym (other-periods _ (in-force second 0 (omega arith) t));
+        ap (period oneSheet) (one-schedule s long t l) ∙ lengths-alike (t <? 30)
+        ∙ sym (ap (period otherSheet) (other-schedule s′ long′ t l));
     same-slots = λ t offset l.
-        one-slots _ offset (in-force first 0 (omega arith) t) ∙ sym (other-slots _ offset (in-force second 0 (omega arith) t));
+        ap (λ (j : ℕ). slotLength oneSheet j offset 0) (one-schedule s long t l) ∙ slots-alike (t <? 30) offset
+        ∙ sym (ap (λ (j : ℕ). slotLength otherSheet j offset 1) (other-schedule s′ long′ t l));
   }
 
-  -- so circuit 0 is undisturbed
-  pub undisturbed-on : Undisturbed first second 0 0 30
-  undisturbed-on = demand3 .undisturbed first second 0 0 30 (omega arith) (omega arith) (omega arith) (omega arith) alike-on
+  -- so the circuit is undisturbed
+  pub undisturbed-on : Undisturbed first second 0 1 40
+  undisturbed-on = demand3 .undisturbed first second 0 1 40 (omega arith) (omega arith) (omega arith) (omega arith) alike-on
 
--- what is reckoned to land in cycle t after the first session's events
+-- the two sessions on zeros, and demand 3 applied to them
+abbrev pub one : Session
+one = oneOn zeros zeros-long
+
+abbrev pub other : Session
+other = otherOn zeros zeros-long
+
+pub pair : Undisturbed one other 0 1 40
+pair = undisturbed-on zeros zeros zeros-long zeros-long
+
+-- what lands of a circuit in cycle t, as the session answers directly after it
+abbrev pub landsAt : Session → ℕ → ℕ → Item
+landsAt l circuit t = landingAt l circuit (pointAfter l (suc t))
+
+-- the circuit's words: two in each of the first slots, the last of them as stored after three cycles; the interrupt in the slot of the
+-- schedule that the order put in force
+pub record Delivered (l : Session) (circuit : ℕ) : Type 0 where
+  pub first-word : landsAt l circuit 7 ≡ item 0 0 11
+  pub second-word : landsAt l circuit 8 ≡ item 0 1 22
+  pub third-word : landsAt l circuit 17 ≡ item 0 2 33
+  pub stored-word : landsAt l circuit 18 ≡ item 0 3 77
+  pub interrupt : landsAt l circuit 39 ≡ item 2 2 22
+
+-- what is reckoned to land in cycle t of the first session
 abbrev landsIn : ℕ → Item
-landsIn t =
-    let r : Reckoned = reckon oneSheet 0 oneMemory (upTo (started 0 0 0 3 0 ∷ replicate 30 cycled) t) in
-    landingIn oneSheet 0 r (r .cycles)
+landsIn t = lastLanded oneSheet 0 oneMemory (upTo oneEvents t ++ (cycled ∷ []))
 
--- three words, two in the first slot and one in the next
 lands-first : landsIn 7 ≡ item 0 0 11
 unfolding landingIn leavesIn slotLength entryBeginning beginsAt lastOf entriesOf entryAt schedulePlace circuitAt
     neighbourOf walks distanceOf leastFrom any _and_ _or_ _≤?_ _<?_ _=?_
@@ -450,97 +350,39 @@ unfolding landingIn leavesIn slotLength entryBeginning beginsAt lastOf entriesOf
     neighbourOf walks distanceOf leastFrom any _and_ _or_ _≤?_ _<?_ _=?_
 lands-second = refl
 
-lands-third : landsIn 16 ≡ item 0 2 33
+lands-third : landsIn 17 ≡ item 0 2 33
 unfolding landingIn leavesIn slotLength entryBeginning beginsAt lastOf entriesOf entryAt schedulePlace circuitAt
     neighbourOf walks distanceOf leastFrom any _and_ _or_ _≤?_ _<?_ _=?_
 lands-third = refl
 
--- what lands in the first session is what is reckoned
-one-lands : (s : List ℕ) (long : stateWords ≤ length s) (t : ℕ) → t < 30 → landingAt (oneOn s long) 0 (cycleCall oneCalls t) ≡ landsIn t
-one-lands s long t l =
-    let shown = as-reckoned (oneOn s long) 0 (omega arith) in
-    let p = split oneCalls (opened (oneOn s long)) t (carried-session (oneOn s long) 0 shown) (omega arith) in
-    shown .landings (cycleCall oneCalls t) (p .inside, p .is-cycle)
-    ∙ ap (λ (es : List Event). let r : Reckoned = reckon oneSheet 0 oneMemory es in landingIn oneSheet 0 r (r .cycles))
-    (p .before ∙ ap (λ (es : List Event). upTo es t) (one-events s long))
+lands-stored : landsIn 18 ≡ item 0 3 77
+unfolding landingIn leavesIn slotLength entryBeginning beginsAt lastOf entriesOf entryAt schedulePlace circuitAt
+    neighbourOf walks distanceOf leastFrom any _and_ _or_ _≤?_ _<?_ _=?_
+lands-stored = refl
 
--- the three words of circuit 0 land in cycles 7, 8 and 16
-pub record Delivered (l : Session) : Type 0 where
-  pub first-word : landingAt l 0 (cycleCall (l .calls) 7) ≡ item 0 0 11
-  pub second-word : landingAt l 0 (cycleCall (l .calls) 8) ≡ item 0 1 22
-  pub third-word : landingAt l 0 (cycleCall (l .calls) 16) ≡ item 0 2 33
+lands-interrupt : landsIn 39 ≡ item 2 2 22
+unfolding landingIn leavesIn slotLength entryBeginning beginsAt lastOf entriesOf entryAt schedulePlace circuitAt
+    neighbourOf walks distanceOf leastFrom any _and_ _or_ _≤?_ _<?_ _=?_
+lands-interrupt = refl
 
--- a lent state of the published length, all zeros
-abbrev pub zeros : List ℕ
-zeros = replicate stateWords 0
+one-lands : (t : ℕ) → t < 40 → landsAt one 0 t ≡ landsIn t
+one-lands t l = landed-by one 0 oneEvents (omega arith) (one-events zeros zeros-long) t l
 
--- it has that length
-zeros-length : (n : ℕ) → length {A = ℕ} (replicate n 0) ≡ n
-zeros-length zero = refl
-zeros-length (suc n) = ap suc (zeros-length n)
-
-pub zeros-long : stateWords ≤ length zeros
-zeros-long = omega (arith, zeros-length stateWords)
-
--- the two sessions on zeros
-abbrev pub one : Session
-one = oneOn zeros zeros-long
-
-abbrev pub other : Session
-other = otherOn zeros zeros-long
-
--- they are alike for circuit 0 up to 30 cycles
-pub pair-alike : Alike one other 0 0 30
-pair-alike = alike-on zeros zeros zeros-long zeros-long
-
--- demand 3 applied to them
-pub pair : Undisturbed one other 0 0 30
-pair = demand3 .undisturbed one other 0 0 30 (omega arith) (omega arith) (omega arith) (omega arith) pair-alike
-
--- their sheets differ: one has one circuit, the other two
-pub different : one .sheet ≡ other .sheet → ⊥
-different e = let n : _≡_ {A = ℕ} 1 2 = ap circuits e in omega arith
-
--- circuit 0's words land in the first session, and so, by demand 3, in the other
-pub one-delivers : Delivered one
+-- they land in the first session, and so, by demand 3, in the other
+pub one-delivers : Delivered one 0
 one-delivers = record {
-  first-word = one-lands zeros zeros-long 7 (omega arith) ∙ lands-first;
-  second-word = one-lands zeros zeros-long 8 (omega arith) ∙ lands-second;
-  third-word = one-lands zeros zeros-long 16 (omega arith) ∙ lands-third;
+  first-word = one-lands 7 (omega arith) ∙ lands-first;
+  second-word = one-lands 8 (omega arith) ∙ lands-second;
+  third-word = one-lands 17 (omega arith) ∙ lands-third;
+  stored-word = one-lands 18 (omega arith) ∙ lands-stored;
+  interrupt = one-lands 39 (omega arith) ∙ lands-interrupt;
 }
 
-pub other-delivers : Delivered other
+pub other-delivers : Delivered other 1
 other-delivers = record {
   first-word = sym (pair .landings 7 (omega arith)) ∙ one-delivers .first-word;
   second-word = sym (pair .landings 8 (omega arith)) ∙ one-delivers .second-word;
-  third-word = sym (pair .landings 16 (omega arith)) ∙ one-delivers .third-word;
+  third-word = sym (pair .landings 17 (omega arith)) ∙ one-delivers .third-word;
+  stored-word = sym (pair .landings 18 (omega arith)) ∙ one-delivers .stored-word;
+  interrupt = sym (pair .landings 39 (omega arith)) ∙ one-delivers .interrupt;
 }
-
--- the other session's calendar in cycle t, from its events
-abbrev otherCalendar : ℕ → Calendar
-otherCalendar t =
-    reckon otherSheet 0 otherMemory
-    (upTo (wrote 3 5 99 ∷ started 1 0 0 2 0 ∷ started 0 0 0 3 0 ∷ ordered 1 3 ∷ replicate 30 cycled) t) .calendar
-
-other-calendar : (s : List ℕ) (long : stateWords ≤ length s) (t : ℕ) → t < 30 → calendarIn (otherOn s long) 0 t ≡ otherCalendar t
-other-calendar s long t l =
-    let carried = carried-session (otherOn s long) 0 (as-reckoned (otherOn s long) 0 (omega arith)) in
-    ap (λ (es : List Event). reckon otherSheet 0 otherMemory es .calendar)
-    (split otherCalls (opened (otherOn s long)) t carried (omega arith) .before
-    ∙ ap (λ (es : List Event). upTo es t) (other-events s long))
-
--- schedule 0 up to the end of period 2, then schedule 1
-in-first : otherCalendar 26 .schedule ≡ 0
-unfolding schedulePlace _and_ _=?_
-in-first = refl
-
-in-second : otherCalendar 27 .schedule ≡ 1
-unfolding schedulePlace _and_ _=?_
-in-second = refl
-
--- the order of the other session takes effect among the 30 cycles: schedule 0 in cycle 26, schedule 1 in cycle 27
-pub before-switch : calendarIn other 0 26 .schedule ≡ 0
-before-switch = ap (λ (k : Calendar). k .schedule) (other-calendar zeros zeros-long 26 (omega arith)) ∙ in-first
-
-pub switched : calendarIn other 0 27 .schedule ≡ 1
-switched = ap (λ (k : Calendar). k .schedule) (other-calendar zeros zeros-long 27 (omega arith)) ∙ in-second

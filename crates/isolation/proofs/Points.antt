@@ -11,8 +11,11 @@ use Rattle.words.specs.Words.{pick}
 use Rattle.words.proofs.TestLaws.{yes=}
 use Rattle.session.specs.Calls.{Lent, Call, load, start, store, fetch, left, periodNumber, landed, order, cycle, number, after}
 use Rattle.isolation.specs.Sessions.{Session, isCycle, run, opened, Event, started, wrote, ordered, cycled, eventOf, events}
+use Rattle.isolation.specs.Calendar.{Calendar, nextCalendar, orderCalendar, calendarEvent, calendarAll}
 use Rattle.isolation.specs.Reckoning.{Reckoned, cycleOn, reckonEvent, reckonAll}
-use Rattle.isolation.specs.Demand.{cycleCall, cycleCount, AsReckoned}
+use Rattle.isolation.specs.Demand.{cycleCall, cycleCount}
+use Rattle.isolation.proofs.Stream.{is-cycle}
+use Rattle.isolation.proofs.Dates.{never-refused}
 
 -- the events before cycle t of a list
 abbrev pub upTo : List Event → ℕ → List Event
@@ -61,7 +64,7 @@ abbrev pub Carried : List Call → Lent → Type 0
 Carried [] w = Unit {0}
 Carried (x ∷ calls) w = (isCycle x ≡ true → number x w ≡ 0) × Carried calls (after x w)
 
--- as the first half of demand 3 says it
+-- as demand 3 says it
 pub carried : (calls : List Call) (w : Lent)
     → ((k : ℕ) → k < length calls → isCycle (getD calls k cycle) ≡ true → number cycle (run (take k calls) w) ≡ 0)
     → Carried calls w
@@ -182,34 +185,65 @@ pub split : (calls : List Call) (w : Lent) (t : ℕ) → Carried calls w → t <
 split [] w t c l = absurd (let z : ⊥ = omega arith in z)
 split (x ∷ calls) w t c l = split-more x calls w t (c .0) l (λ t l. split calls (after x w) t (c .1) l)
 
+module _ (z : List ℕ) where
+  -- the calendar before cycle 0, and from a cycle to the next: the cycle, then a stretch
+  pub calendar-first : (es : List Event) (k : Calendar) → calendarAll z (upTo es 0) k ≡ calendarAll z (stretch es 0) k
+  calendar-first [] k = refl
+  calendar-first (cycled ∷ es) k = refl
+  calendar-first (started c readAddress writeAddress count kind ∷ es) k = calendar-first es k
+  calendar-first (wrote node address new ∷ es) k = calendar-first es k
+  calendar-first (ordered schedule at ∷ es) k = calendar-first es (orderCalendar schedule at k)
+
+  pub calendar-next : (es : List Event) (t : ℕ) (k : Calendar) → t < cyclesIn es
+      → calendarAll z (upTo es (suc t)) k ≡ calendarAll z (stretch es (suc t)) (nextCalendar z (calendarAll z (upTo es t) k))
+  calendar-next [] t k l = absurd (let z : ⊥ = omega arith in z)
+  calendar-next (cycled ∷ es) zero k l = calendar-first es (nextCalendar z k)
+  calendar-next (cycled ∷ es) (suc t) k l = calendar-next es t (nextCalendar z k) (omega arith)
+  calendar-next (started c readAddress writeAddress count kind ∷ es) t k l = calendar-next es t k l
+  calendar-next (wrote node address new ∷ es) t k l = calendar-next es t k l
+  calendar-next (ordered schedule at ∷ es) t k l = calendar-next es t (orderCalendar schedule at k) l
+
 module _ (z : List ℕ) (circuit : ℕ) where
   -- the reckoning over a list and one more
-  pub reckon-last : (es : List Event) (e : Event) (r : Reckoned)
-      → reckonAll z circuit (es ++ (e ∷ [])) r ≡ reckonEvent z circuit e (reckonAll z circuit es r)
-  reckon-last [] e r = refl
-  reckon-last (x ∷ es) e r = reckon-last es e (reckonEvent z circuit x r)
+  pub reckon-last : (es : List Event) (e : Event) (k : Calendar) (r : Reckoned)
+      → reckonAll z circuit (es ++ (e ∷ [])) k r ≡ reckonEvent z circuit e (calendarAll z es k) (reckonAll z circuit es k r)
+  reckon-last [] e k r = refl
+  reckon-last (x ∷ es) e k r = reckon-last es e (calendarEvent z x k) (reckonEvent z circuit x k r)
 
   -- before cycle 0 there is one stretch
-  pub reckon-first : (es : List Event) (r : Reckoned) → reckonAll z circuit (upTo es 0) r ≡ reckonAll z circuit (stretch es 0) r
-  reckon-first [] r = refl
-  reckon-first (cycled ∷ es) r = refl
-  reckon-first (started c readAddress writeAddress count kind ∷ es) r =
-      reckon-first es (reckonEvent z circuit (started c readAddress writeAddress count kind) r)
-  reckon-first (wrote node address new ∷ es) r = reckon-first es (reckonEvent z circuit (wrote node address new) r)
-  reckon-first (ordered schedule period ∷ es) r = reckon-first es (reckonEvent z circuit (ordered schedule period) r)
+  pub reckon-first : (es : List Event) (k : Calendar) (r : Reckoned)
+      → reckonAll z circuit (upTo es 0) k r ≡ reckonAll z circuit (stretch es 0) k r
+  reckon-first [] k r = refl
+  reckon-first (cycled ∷ es) k r = refl
+  reckon-first (started c readAddress writeAddress count kind ∷ es) k r =
+      reckon-first es k (reckonEvent z circuit (started c readAddress writeAddress count kind) k r)
+  reckon-first (wrote node address new ∷ es) k r = reckon-first es k (reckonEvent z circuit (wrote node address new) k r)
+  reckon-first (ordered schedule at ∷ es) k r = reckon-first es (orderCalendar schedule at k) r
 
   -- from a cycle to the next: the cycle, then a stretch
-  pub reckon-next : (es : List Event) (t : ℕ) (r : Reckoned) → t < cyclesIn es
-      → reckonAll z circuit (upTo es (suc t)) r
-      ≡ reckonAll z circuit (stretch es (suc t)) (cycleOn z circuit (reckonAll z circuit (upTo es t) r))
-  reckon-next [] t r l = absurd (let z : ⊥ = omega arith in z)
-  reckon-next (cycled ∷ es) zero r l = reckon-first es (cycleOn z circuit r)
-  reckon-next (cycled ∷ es) (suc t) r l = reckon-next es t (cycleOn z circuit r) (omega arith)
-  reckon-next (started c readAddress writeAddress count kind ∷ es) t r l =
-      reckon-next es t (reckonEvent z circuit (started c readAddress writeAddress count kind) r) l
-  reckon-next (wrote node address new ∷ es) t r l = reckon-next es t (reckonEvent z circuit (wrote node address new) r) l
-  reckon-next (ordered schedule period ∷ es) t r l = reckon-next es t (reckonEvent z circuit (ordered schedule period) r) l
+  pub reckon-next : (es : List Event) (t : ℕ) (k : Calendar) (r : Reckoned) → t < cyclesIn es
+      → reckonAll z circuit (upTo es (suc t)) k r
+      ≡ reckonAll z circuit (stretch es (suc t)) (nextCalendar z (calendarAll z (upTo es t) k))
+      (cycleOn z circuit (calendarAll z (upTo es t) k) (reckonAll z circuit (upTo es t) k r))
+  reckon-next [] t k r l = absurd (let z : ⊥ = omega arith in z)
+  reckon-next (cycled ∷ es) zero k r l = reckon-first es (nextCalendar z k) (cycleOn z circuit k r)
+  reckon-next (cycled ∷ es) (suc t) k r l = reckon-next es t (nextCalendar z k) (cycleOn z circuit k r) (omega arith)
+  reckon-next (started c readAddress writeAddress count kind ∷ es) t k r l =
+      reckon-next es t k (reckonEvent z circuit (started c readAddress writeAddress count kind) k r) l
+  reckon-next (wrote node address new ∷ es) t k r l = reckon-next es t k (reckonEvent z circuit (wrote node address new) k r) l
+  reckon-next (ordered schedule at ∷ es) t k r l = reckon-next es t (orderCalendar schedule at k) r l
+
+-- the events through a cycle that is carried out
+pub events-cycle : (calls : List Call) (w : Lent) (k : ℕ) → k < length calls → isCycle (getD calls k cycle) ≡ true
+    → number cycle (run (take k calls) w) ≡ 0 → events (take (suc k) calls) w ≡ events (take k calls) w ++ (cycled ∷ [])
+events-cycle [] w k l c e = absurd (let z : ⊥ = omega arith in z)
+events-cycle (x ∷ calls) w zero l c e =
+    ap (λ (y : Call). pick (number y w =? 0) (eventOf y) [] ++ []) (is-cycle x c) ∙ ap (λ (r : List Event). r ++ []) (own-cycle w e)
+events-cycle (x ∷ calls) w (suc k) l c e =
+    let own : List Event = pick (number x w =? 0) (eventOf x) [] in
+    ap (λ (r : List Event). own ++ r) (events-cycle calls (after x w) k (omega arith) c e)
+    ∙ sym (append-assoc own (events (take k calls) (after x w)) (cycled ∷ []))
 
 -- a session's cycles are carried out
-pub carried-session : (l : Session) (circuit : ℕ) → AsReckoned l circuit → Carried (l .calls) (opened l)
-carried-session l circuit h = carried (l .calls) (opened l) (λ k i e. h .cycles-carried-out k (i, e))
+pub carried-session : (l : Session) → Carried (l .calls) (opened l)
+carried-session l = carried (l .calls) (opened l) (λ k i e. never-refused l k (i, e))

@@ -1,16 +1,19 @@
 -- Demand 3: nothing that other circuits, routes or switch orders do can shift or alter one word that a circuit delivers, while its slots
--- and the period lengths stay the same. Stated over the calls' own answers and the reckoning alone: no register, no network.
+-- and the period lengths stay the same. Stated over what the calls answer (session/specs/Calls.antt) and the reckoning: the machine's
+-- cycle stands in it only as what the call `cycle` does.
 use Prim.Native.Nat.{ℕ, zero, suc, _+_, _≤_, _<_}
 use mathlib.Core.Bool.{Bool, true, false}
 use mathlib.Core.List.{List, [], _∷_, _++_}
 use mathlib.Core.Path.{_≡_}
-use lib.ListN.{length, take, getD}
+use lib.ListN.{length, getD}
 use Rattle.words.specs.Tests.{_and_, _≤?_, _<?_, _=?_}
 use Rattle.words.specs.Words.{pick}
 use Rattle.sheet.specs.declared.circuits.Region.{Region}
 use Rattle.sheet.specs.declared.circuits.Circuit.{Circuit}
-use Rattle.sheet.specs.Sheet.{columns, rows, circuits, circuitAt, period}
+use Rattle.sheet.specs.declared.entries.Entry.{Entry}
+use Rattle.sheet.specs.Sheet.{columns, rows, circuits, schedules, nodes, circuitAt, period, entriesOf, entryCount, entryAt}
 use Rattle.sheet.specs.Slots.{slotLength, sourceOf, destinationOf}
+use Rattle.sheet.specs.Rules.{entryRoute, hopsOf}
 use Rattle.session.specs.declared.Found.{Found}
 use Rattle.session.specs.declared.Found.the-variants.{Word as FoundWord}
 use Rattle.session.specs.declared.Landed.{Landed}
@@ -18,7 +21,8 @@ use Rattle.session.specs.declared.Landed.the-variants.{Nothing, Word as LandedW
 use Rattle.session.specs.Answers.{foundOf, landedOf}
 use Rattle.session.specs.Calls.{Lent, Call, landed, cycle, number, stateNumber, leftNumber, placeNumber, landedNumber, periodNumberIn, wordsLeft, fetched, lastLanding}
 use Rattle.isolation.specs.Sessions.{Session, isCycle, opened, standing, Event, started, wrote, ordered, cycled, eventsBefore}
-use Rattle.isolation.specs.Reckoning.{Calendar, Item, none, item, Reckoned, owed, landingIn, reckon}
+use Rattle.isolation.specs.Calendar.{Calendar, calendarAfter}
+use Rattle.isolation.specs.Reckoning.{Item, none, item, Reckoned, owed, circuitHops, flightCycles, landedLast, reckon}
 
 -- the answers of words left, fetch, the period number and what landed
 abbrev pub leftAnswer : Lent → ℕ → Found
@@ -43,7 +47,11 @@ landedIn r Nothing = none
 landedIn r (LandedWord kind address w) = pick (inRegion r address) (item kind address w) none
 landedIn r (Refused n) = none
 
--- the circuit of a session, and its reckoning after the session's first k calls
+-- the calendar of a session after its first k calls
+abbrev pub calendarAt : Session → ℕ → Calendar
+calendarAt l k = calendarAfter (l .sheet) (eventsBefore l k)
+
+-- the circuit of a session, and its reckoning after the first k calls
 abbrev pub itsRecord : Session → ℕ → Circuit
 itsRecord l circuit = circuitAt (l .sheet) circuit
 
@@ -54,29 +62,38 @@ reckonedAt l circuit k = reckon (l .sheet) circuit (l .lent .memory) (eventsBefo
 abbrev pub CycleAt : Session → ℕ → Type 0
 CycleAt l k = (k < length (l .calls)) × (isCycle (getD (l .calls) k cycle) ≡ true)
 
--- what lands of the circuit in a cycle that is call k, as the session answers directly after it
+-- what landed at the circuit's destination, as the session answers after its first k calls
+abbrev pub landedAt : Session → ℕ → ℕ → Landed
+landedAt l circuit k = landedAnswer (standing l k) (destinationOf (l .sheet) circuit)
+
+-- and of it what is the circuit's
 abbrev pub landingAt : Session → ℕ → ℕ → Item
-landingAt l circuit k =
-    landedIn (itsRecord l circuit .receive) (landedAnswer (standing l (suc k)) (destinationOf (l .sheet) circuit))
+landingAt l circuit k = landedIn (itsRecord l circuit .receive) (landedAt l circuit k)
+
+-- entry i of schedule j of a sheet
+abbrev pub entryIn : List ℕ → ℕ → ℕ → Entry
+entryIn z j i = entryAt (entriesOf z j) i
 
 -- in every session, for every circuit of its sheet: what the session answers is what is reckoned
 pub record AsReckoned (l : Session) (circuit : ℕ) : Type 0 where
-  -- no cycle is refused
-  pub cycles-carried-out : (k : ℕ) → CycleAt l k → number cycle (standing l k) ≡ 0
+  -- each of its entries has so many side outputs as hops are reckoned
+  pub side-outputs : (j i : ℕ) → j < schedules (l .sheet) → i < entryCount (entriesOf (l .sheet) j)
+      → entryIn (l .sheet) j i .circuit ≡ circuit
+      → hopsOf (entryRoute (l .sheet) (entryIn (l .sheet) j i)) ≡ circuitHops (l .sheet) circuit
   -- at every point words left answers the owed words
   pub words-left : (k : ℕ) → k ≤ length (l .calls) → leftAnswer (standing l k) circuit ≡ FoundWord (owed (reckonedAt l circuit k))
-  -- at every point what landed at the destination is answered
-  pub landed-answered : (k : ℕ) → k ≤ length (l .calls) → number (landed (destinationOf (l .sheet) circuit)) (standing l k) ≡ 0
-  -- directly after a cycle, what landed at the destination in its receive region is what left so many cycles before, or nothing
-  pub landings : (k : ℕ) → CycleAt l k
-      → landingAt l circuit k ≡ landingIn (l .sheet) circuit (reckonedAt l circuit k) (reckonedAt l circuit k .cycles)
+  -- what is reckoned to leave in cycle t, with kind, address and word, is what the session answers as landed at the destination directly
+  -- after cycle t + 3 × (hops + 1), which is call k
+  pub lands : (k t kind address w : ℕ) → CycleAt l k → calendarAt l k .cycles ≡ t + flightCycles (l .sheet) circuit
+      → reckonedAt l circuit k .leaving t ≡ item kind address w → landedAt l circuit (suc k) ≡ LandedWord kind address w
+  -- at every point what landed last in its receive region is what left so many cycles before, or nothing
+  pub landings : (k : ℕ) → k ≤ length (l .calls)
+      → landingAt l circuit k ≡ landedLast (l .sheet) circuit (reckonedAt l circuit k) (calendarAt l k .cycles)
   -- its regions' words are those at load, changed only by stores and these landings
   pub read-region : (k address : ℕ) → k ≤ length (l .calls) → inRegion (itsRecord l circuit .read) address ≡ true
       → fetchAnswer (standing l k) (sourceOf (l .sheet) circuit) address ≡ FoundWord (reckonedAt l circuit k .readWords address)
   pub receive-region : (k address : ℕ) → k ≤ length (l .calls) → inRegion (itsRecord l circuit .receive) address ≡ true
       → fetchAnswer (standing l k) (destinationOf (l .sheet) circuit) address ≡ FoundWord (reckonedAt l circuit k .receiveWords address)
-  -- the period number answered is the reckoned one
-  pub period-number : (k : ℕ) → k ≤ length (l .calls) → periodAnswer (standing l k) ≡ FoundWord (reckonedAt l circuit k .calendar .number)
 
 -- the call that is cycle t of a list (the first is cycle 0), the list's length where there is none; and the number of its cycles
 abbrev pub cycleCall : List Call → ℕ → ℕ
@@ -121,9 +138,9 @@ actsAfter z circuit (wrote node address new ∷ es) (suc t) = actsAfter z circui
 actsAfter z circuit (ordered schedule periodNumber ∷ es) zero = actsAfter z circuit es zero
 actsAfter z circuit (ordered schedule periodNumber ∷ es) (suc t) = actsAfter z circuit es (suc t)
 
--- the reckoned calendar in cycle t
-abbrev pub calendarIn : Session → ℕ → ℕ → Calendar
-calendarIn l circuit t = reckonedAt l circuit (cycleCall (l .calls) t) .calendar
+-- the schedule in force in cycle t, by the calendar
+abbrev pub scheduleIn : Session → ℕ → ℕ
+scheduleIn l t = calendarAt l (cycleCall (l .calls) t) .schedule
 
 -- what two sessions have in common for a circuit of each, up to n cycles
 pub record Alike (a b : Session) (c d n : ℕ) : Type 0 where
@@ -140,14 +157,14 @@ pub record Alike (a b : Session) (c d n : ℕ) : Type 0 where
   pub same-acts : (t : ℕ) → t < n
       → actsAfter (a .sheet) c (eventsBefore a (length (a .calls))) t ≡ actsAfter (b .sheet) d (eventsBefore b (length (b .calls))) t
   -- in the periods in which the n cycles lie: the same lengths, and its slots (offsets and lengths; routes may differ)
-  pub same-lengths : (t : ℕ) → t < n → period (a .sheet) (calendarIn a c t .schedule) ≡ period (b .sheet) (calendarIn b d t .schedule)
+  pub same-lengths : (t : ℕ) → t < n → period (a .sheet) (scheduleIn a t) ≡ period (b .sheet) (scheduleIn b t)
   pub same-slots : (t offset : ℕ) → t < n
-      → slotLength (a .sheet) (calendarIn a c t .schedule) offset c ≡ slotLength (b .sheet) (calendarIn b d t .schedule) offset d
+      → slotLength (a .sheet) (scheduleIn a t) offset c ≡ slotLength (b .sheet) (scheduleIn b t) offset d
 
 -- then nobody can tell the two apart by what the circuit delivers
 pub record Undisturbed (a b : Session) (c d n : ℕ) : Type 0 where
   -- its landings so far, by cycle
-  pub landings : (t : ℕ) → t < n → landingAt a c (cycleCall (a .calls) t) ≡ landingAt b d (cycleCall (b .calls) t)
+  pub landings : (t : ℕ) → t < n → landingAt a c (pointAfter a (suc t)) ≡ landingAt b d (pointAfter b (suc t))
   -- its words left
   pub words-left : leftAnswer (standing a (pointAfter a n)) c ≡ leftAnswer (standing b (pointAfter b n)) d
   -- its regions' words
@@ -160,6 +177,18 @@ pub record Undisturbed (a b : Session) (c d n : ℕ) : Type 0 where
 
 -- demand 3, one claim over lists of calls
 pub record Demand3 : Type 0 where
+  -- in every session, whether its sheet has circuits or none: no cycle is refused
+  pub cycles-carried-out : (l : Session) (k : ℕ) → CycleAt l k → number cycle (standing l k) ≡ 0
+  -- the period number answered is the reckoned one
+  pub period-number : (l : Session) (k : ℕ) → k ≤ length (l .calls) → periodAnswer (standing l k) ≡ FoundWord (calendarAt l k .number)
+  -- at every node and point what landed is answered; nothing has directly after the load, and a call that is no cycle leaves the answer
+  pub landed-answered : (l : Session) (k node : ℕ) → k ≤ length (l .calls) → node < nodes (l .sheet)
+      → number (landed node) (standing l k) ≡ 0
+  pub landed-at-load : (l : Session) (node : ℕ) → node < nodes (l .sheet) → landedAnswer (opened l) node ≡ Nothing
+  pub landed-kept : (l : Session) (k node : ℕ) → k < length (l .calls) → node < nodes (l .sheet)
+      → isCycle (getD (l .calls) k cycle) ≡ false → landedAnswer (standing l (suc k)) node ≡ landedAnswer (standing l k) node
+  -- for every circuit what is answered is what is reckoned
   pub as-reckoned : (l : Session) (circuit : ℕ) → circuit < circuits (l .sheet) → AsReckoned l circuit
+  -- and what the others do, in two sessions alike for a circuit of each, does not show in it
   pub undisturbed : (a b : Session) (c d n : ℕ) → c < circuits (a .sheet) → d < circuits (b .sheet)
       → n ≤ cycleCount (a .calls) → n ≤ cycleCount (b .calls) → Alike a b c d n → Undisturbed a b c d n

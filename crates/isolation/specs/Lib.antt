@@ -1,3 +1,4 @@
 pub mod Sessions
+pub mod Calendar
 pub mod Reckoning
 pub mod Demand

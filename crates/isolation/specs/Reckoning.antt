@@ -1,36 +1,26 @@
--- What one circuit sends, reckoned from the sheet and the events alone, in the closed form of document 01: no network, no other circuit.
-use Prim.Native.Nat.{ℕ, zero, suc, _+_, _-_, _*_, _%_, min}
-use mathlib.Core.Bool.{Bool, true, false}
+-- What one circuit sends (document 01, "The lists of demand 3"), reckoned from the sheet, the memory at load and the events, event by event.
+-- Of the other circuits it uses nothing: neither their entries nor their transfers.
+use Prim.Native.Nat.{ℕ, _+_, _-_, _*_, min}
+use mathlib.Core.Bool.{Bool}
 use mathlib.Core.List.{List, [], _∷_}
 use Rattle.words.specs.Tests.{any, _and_, _≤?_, _=?_}
 use Rattle.words.specs.Words.{pick, word}
 use Rattle.torus.specs.Torus.{distanceOf}
 use Rattle.torus.specs.Route.{routerCycles}
-use Rattle.sheet.specs.Sheet.{columns, rows, memoryWords, circuitAt, period}
+use Rattle.sheet.specs.Sheet.{columns, rows, memoryWords}
 use Rattle.sheet.specs.Slots.{slotLength, sourceOf, destinationOf}
 use Rattle.isolation.specs.Sessions.{Event, started, wrote, ordered, cycled}
-
--- the calendar: the cycle within the period, the period number, the schedule in force, and the order not yet spent (a mark, a schedule and
--- a period number)
-pub record Calendar : Type 0 where
-  pub cycle : ℕ
-  pub number : ℕ
-  pub schedule : ℕ
-  pub isOrdered : Bool
-  pub orderedSchedule : ℕ
-  pub orderedPeriod : ℕ
+use Rattle.isolation.specs.Calendar.{Calendar, calendarAtLoad, calendarEvent}
 
 -- a word on its way or landed: nothing, or kind, address and word
 pub data Item : Type 0 where
   none : Item
   item : ℕ → ℕ → ℕ → Item
 
--- what is known of a circuit after some events: how many cycles there were; the calendar; the last start's addresses, count and kind; how
--- many of its words left since; by cycle, how many payload words the packet opened in it has, and what left in it; the words of its
--- source's and its destination's memory, as far as stores and its own landings go
+-- what is known of a circuit after some events: the last start's addresses, count and kind; how many of its words left since; by cycle,
+-- how many payload words the packet opened in it has, and what left in it; the words of its source's and its destination's memory, as far
+-- as stores and its own landings go
 pub record Reckoned : Type 0 where
-  pub cycles : ℕ
-  pub calendar : Calendar
   pub readAddress : ℕ
   pub writeAddress : ℕ
   pub count : ℕ
@@ -45,46 +35,21 @@ pub record Reckoned : Type 0 where
 abbrev pub owed : Reckoned → ℕ
 owed r = r .count - r .gone
 
--- the calendar after a cycle: after the period's last one the number rises by one, modulo 2^32, and an order for it is in force and spent
-abbrev pub turnCalendar : List ℕ → Calendar → Calendar
-turnCalendar z k = record {
-  cycle = 0;
-  number = risen;
-  schedule = pick due (k .orderedSchedule) (k .schedule);
-  isOrdered = pick due false (k .isOrdered);
-  orderedSchedule = k .orderedSchedule;
-  orderedPeriod = k .orderedPeriod;
-}
-  where
-    risen : ℕ
-    risen = (k .number + 1) % 4294967296
-
-    due : Bool
-    due = k .isOrdered and k .orderedPeriod =? risen
-
-abbrev pub nextCalendar : List ℕ → Calendar → Calendar
-nextCalendar z k =
-    pick (k .cycle + 1 =? period z (k .schedule)) (turnCalendar z k)
-    (record {
-      cycle = k .cycle + 1;
-      number = k .number;
-      schedule = k .schedule;
-      isOrdered = k .isOrdered;
-      orderedSchedule = k .orderedSchedule;
-      orderedPeriod = k .orderedPeriod;
-    })
-
 -- hops of a circuit's routes: by number 9 as many as the distance of its nodes
-abbrev pub hopsOf : List ℕ → ℕ → ℕ
-hopsOf z circuit = distanceOf (columns z) (rows z) (sourceOf z circuit) (destinationOf z circuit)
+abbrev pub circuitHops : List ℕ → ℕ → ℕ
+circuitHops z circuit = distanceOf (columns z) (rows z) (sourceOf z circuit) (destinationOf z circuit)
 
 -- cycles from leaving to landing: three for each router
 abbrev pub flightCycles : List ℕ → ℕ → ℕ
-flightCycles z circuit = routerCycles * (hopsOf z circuit + 1)
+flightCycles z circuit = routerCycles * (circuitHops z circuit + 1)
 
 -- what is reckoned to land in a cycle: what left so many cycles before
 unfoldable pub landingIn : List ℕ → ℕ → Reckoned → ℕ → Item
 landingIn z circuit r t = pick (flightCycles z circuit ≤? t) (r .leaving (t - flightCycles z circuit)) none
+
+-- what is reckoned to have landed last, after so many cycles: what landed in the last of them, and nothing before the first
+abbrev pub landedLast : List ℕ → ℕ → Reckoned → ℕ → Item
+landedLast z circuit r cycles = pick (1 ≤? cycles) (landingIn z circuit r (cycles - 1)) none
 
 -- a memory word after a landing
 abbrev pub storedBy : Item → ℕ → ℕ → ℕ
@@ -100,46 +65,38 @@ leavesIn r t = any t (λ s. t ≤? s + r .opened s)
 abbrev pub nextItem : Reckoned → Item
 nextItem r = item (r .kind) (r .writeAddress + r .gone) (r .readWords (r .readAddress + r .gone))
 
+-- a start on this circuit
+abbrev pub startOn : ℕ → ℕ → ℕ → ℕ → Reckoned → Reckoned
+startOn readAddress writeAddress count kind r = record {
+  readAddress = readAddress;
+  writeAddress = writeAddress;
+  count = count;
+  kind = kind;
+  gone = 0;
+  opened = r .opened;
+  leaving = r .leaving;
+  readWords = r .readWords;
+  receiveWords = r .receiveWords;
+}
+
 module _ (z : List ℕ) (circuit : ℕ) where
-  -- a cycle
-  abbrev pub cycleOn : Reckoned → Reckoned
-  cycleOn r = record {
-    cycles = r .cycles + 1;
-    calendar = nextCalendar z (r .calendar);
+  -- a cycle, which begins with the calendar k: its slots are those of the schedule in force
+  abbrev pub cycleOn : Calendar → Reckoned → Reckoned
+  cycleOn k r = record {
     readAddress = r .readAddress;
     writeAddress = r .writeAddress;
     count = r .count;
     kind = r .kind;
-    gone = pick (leavesIn r (r .cycles)) (r .gone + 1) (r .gone);
-    opened = λ t.
-        pick (t =? r .cycles)
-        (min (slotLength z (r .calendar .schedule) (r .calendar .cycle) circuit - 1) (owed r)) (r .opened t);
-    leaving = λ t. pick (t =? r .cycles) (pick (leavesIn r (r .cycles)) (nextItem r) none) (r .leaving t);
+    gone = r .gone + pick (leavesIn r (k .cycles)) 1 0;
+    opened = λ t. pick (t =? k .cycles) (min (slotLength z (k .schedule) (k .cycle) circuit - 1) (owed r)) (r .opened t);
+    leaving = λ t. pick (t =? k .cycles) (pick (leavesIn r (k .cycles)) (nextItem r) none) (r .leaving t);
     readWords = r .readWords;
-    receiveWords = λ address. storedBy (landingIn z circuit r (r .cycles)) address (r .receiveWords address);
-  }
-
-  -- a start on this circuit
-  abbrev pub startOn : ℕ → ℕ → ℕ → ℕ → Reckoned → Reckoned
-  startOn readAddress writeAddress count kind r = record {
-    cycles = r .cycles;
-    calendar = r .calendar;
-    readAddress = readAddress;
-    writeAddress = writeAddress;
-    count = count;
-    kind = kind;
-    gone = 0;
-    opened = r .opened;
-    leaving = r .leaving;
-    readWords = r .readWords;
-    receiveWords = r .receiveWords;
+    receiveWords = λ address. storedBy (landingIn z circuit r (k .cycles)) address (r .receiveWords address);
   }
 
   -- a store at the circuit's source or destination
   abbrev pub storeOn : ℕ → ℕ → ℕ → Reckoned → Reckoned
   storeOn node address new r = record {
-    cycles = r .cycles;
-    calendar = r .calendar;
     readAddress = r .readAddress;
     writeAddress = r .writeAddress;
     count = r .count;
@@ -151,41 +108,17 @@ module _ (z : List ℕ) (circuit : ℕ) where
     receiveWords = λ at. pick (node =? destinationOf z circuit and at =? address) new (r .receiveWords at);
   }
 
-  -- an order
-  abbrev pub orderOn : ℕ → ℕ → Reckoned → Reckoned
-  orderOn schedule periodNumber r = record {
-    cycles = r .cycles;
-    calendar = record {
-      cycle = r .calendar .cycle;
-      number = r .calendar .number;
-      schedule = r .calendar .schedule;
-      isOrdered = true;
-      orderedSchedule = schedule;
-      orderedPeriod = periodNumber;
-    };
-    readAddress = r .readAddress;
-    writeAddress = r .writeAddress;
-    count = r .count;
-    kind = r .kind;
-    gone = r .gone;
-    opened = r .opened;
-    leaving = r .leaving;
-    readWords = r .readWords;
-    receiveWords = r .receiveWords;
-  }
-
-  abbrev pub reckonEvent : Event → Reckoned → Reckoned
-  reckonEvent (started c readAddress writeAddress count kind) r =
+  -- an event, before which the calendar was k; an order changes the calendar alone
+  abbrev pub reckonEvent : Event → Calendar → Reckoned → Reckoned
+  reckonEvent (started c readAddress writeAddress count kind) k r =
       pick (c =? circuit) (startOn readAddress writeAddress count kind r) r
-  reckonEvent (wrote node address new) r = storeOn node address new r
-  reckonEvent (ordered schedule periodNumber) r = orderOn schedule periodNumber r
-  reckonEvent cycled r = cycleOn r
+  reckonEvent (wrote node address new) k r = storeOn node address new r
+  reckonEvent (ordered schedule periodNumber) k r = r
+  reckonEvent cycled k r = cycleOn k r
 
-  -- directly after the load: cycle 0, period 0, schedule 0, no order, nothing owed, the memories as lent
+  -- directly after the load: nothing owed, nothing left, the memories as lent
   abbrev pub atLoad : List ℕ → Reckoned
   atLoad memory = record {
-    cycles = 0;
-    calendar = record { cycle = 0; number = 0; schedule = 0; isOrdered = false; orderedSchedule = 0; orderedPeriod = 0 };
     readAddress = 0;
     writeAddress = 0;
     count = 0;
@@ -197,10 +130,11 @@ module _ (z : List ℕ) (circuit : ℕ) where
     receiveWords = λ address. word memory (destinationOf z circuit * memoryWords z + address);
   }
 
-  abbrev pub reckonAll : List Event → Reckoned → Reckoned
-  reckonAll [] r = r
-  reckonAll (e ∷ es) r = reckonAll es (reckonEvent e r)
+  -- some events, before which the calendar was k
+  abbrev pub reckonAll : List Event → Calendar → Reckoned → Reckoned
+  reckonAll [] k r = r
+  reckonAll (e ∷ es) k r = reckonAll es (calendarEvent z e k) (reckonEvent e k r)
 
--- the reckoning of a circuit after some events, from the sheet and the memory at load
+-- the reckoning of a circuit after some events since the load, from the sheet and the memory at load
 abbrev pub reckon : List ℕ → ℕ → List ℕ → List Event → Reckoned
-reckon z circuit memory es = reckonAll z circuit es (atLoad z circuit memory)
+reckon z circuit memory es = reckonAll z circuit es calendarAtLoad (atLoad z circuit memory)

@@ -1,10 +1,10 @@
 -- Sessions (document 01, "The lists of demand 3"): a load that is carried out on any lent words, and any calls after it, the loads among
 -- them refused. What a call does is what its contract says (`after`, session/specs/Calls.antt).
-use Prim.Native.Nat.{ℕ, zero, suc, _+_}
+use Prim.Native.Nat.{ℕ}
 use mathlib.Core.Bool.{Bool, true, false}
 use mathlib.Core.List.{List, [], _∷_, _++_}
 use mathlib.Core.Path.{_≡_}
-use lib.ListN.{take, length}
+use lib.ListN.{take}
 use Rattle.words.specs.Tests.{_=?_}
 use Rattle.words.specs.Words.{pick}
 use Rattle.session.specs.Calls.{Lent, Call, load, start, store, fetch, left, periodNumber, landed, order, cycle, isLoad, number, does, after}
