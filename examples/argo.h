@@ -1,16 +1,54 @@
-/* The exported calls (docs/INTERFACE.md). A slice is a pointer and then a length in words. A call of type uint32_t answers 0 where it is
-   carried out, else the number of its refusal; a call of type uint64_t answers number * 2^32 + value. */
+/* The exported calls, for C and C++ (docs/INTERFACE.md). A slice is a pointer and then its length in words; the slices that a call is lent
+   must not overlap. A call of type uint32_t answers 0 where it is carried out, else the number of its refusal; a call of type uint64_t
+   answers number * 2^32 + value, the value being 0 beside a refusal. A refused call leaves every lent word as it was. */
+#ifndef ARGO_H
+#define ARGO_H
+
 #include <stddef.h>
 #include <stdint.h>
 
+#ifdef __cplusplus
+extern "C" {
+#endif
+
+/* The length in words that a state must have at least. */
 uint32_t argo_state_words(void);
+
+/* Judges a sheet: 0, or the first of the numbers 1 to 11 that applies. */
 uint32_t argo_verdict(const uint32_t *sheet, size_t sheet_words);
-uint32_t argo_load(const uint32_t *sheet, size_t sheet_words, uint32_t *state, size_t state_words, const uint32_t *memory, size_t memory_words);
+
+/* Loads a sheet into a state, for a memory of columns * rows * M words, node by node: cycle 0, period 0, schedule 0. */
+uint32_t argo_load(const uint32_t *sheet, size_t sheet_words, uint32_t *state, size_t state_words, const uint32_t *memory,
+                   size_t memory_words);
+
+/* Starts a transfer of a circuit: count words from the source's address read to the destination's address write; kind 0 or 2. */
 uint32_t argo_start(uint32_t *state, size_t state_words, uint32_t circuit, uint32_t read, uint32_t write, uint32_t count, uint32_t kind);
-uint32_t argo_store(const uint32_t *state, size_t state_words, uint32_t *memory, size_t memory_words, uint32_t node, uint32_t address, uint32_t word);
-uint64_t argo_fetch(const uint32_t *state, size_t state_words, const uint32_t *memory, size_t memory_words, uint32_t node, uint32_t address);
+
+/* Stores a word at a node's address. */
+uint32_t argo_store(const uint32_t *state, size_t state_words, uint32_t *memory, size_t memory_words, uint32_t node, uint32_t address,
+                    uint32_t word);
+
+/* The word at a node's address. */
+uint64_t argo_fetch(const uint32_t *state, size_t state_words, const uint32_t *memory, size_t memory_words, uint32_t node,
+                    uint32_t address);
+
+/* The words of a circuit's transfer that have not left yet. */
 uint64_t argo_words_left(const uint32_t *state, size_t state_words, uint32_t circuit);
+
+/* The present period's number. */
 uint64_t argo_period_number(const uint32_t *state, size_t state_words);
+
+/* What landed at a node in the last cycle. Field 0: 1 where something did, else 0; 1: its kind; 2: its address; 3: its word. */
 uint64_t argo_landed(const uint32_t *state, size_t state_words, uint32_t node, uint32_t field);
+
+/* Orders a schedule for a period, at least three periods ahead. */
 uint32_t argo_order(uint32_t *state, size_t state_words, uint32_t schedule, uint32_t period);
+
+/* Carries out one clock cycle. */
 uint32_t argo_cycle(uint32_t *state, size_t state_words, uint32_t *memory, size_t memory_words);
+
+#ifdef __cplusplus
+}
+#endif
+
+#endif
