@@ -82,7 +82,8 @@ int main(void) {
     carried_out("load", argo_load(sheet, words, state, STATE, memory, NODES * ROOM));
     for (int c = 0; c < CIRCUITS; c++)
         for (uint32_t i = 0; i < circuits[c].count; i++)
-            carried_out("store", argo_store(state, STATE, memory, NODES * ROOM, circuits[c].source, circuits[c].read + i, circuits[c].first + i));
+            carried_out("store", argo_store(state, STATE, memory, NODES * ROOM, circuits[c].source, circuits[c].read + i,
+                                            circuits[c].first + i));
     print_row("period", "mode", "wind", "cabin", "brake");
     for (uint32_t period = 0; period < PERIODS; period++) {
         char landed[CIRCUITS][CELL] = {"", "", ""};
@@ -97,8 +98,8 @@ int main(void) {
             for (uint32_t node = 0; node < NODES; node++) {
                 if (argo_landed(state, STATE, node, 0) != 1) continue;
                 int c = circuit_at(node, (uint32_t)argo_landed(state, STATE, node, 2));
-                if (c >= 0)
-                    used[c] += snprintf(landed[c] + used[c], sizeof landed[c] - used[c], "%u:%u ", cycle, (uint32_t)argo_landed(state, STATE, node, 3));
+                uint32_t word = (uint32_t)argo_landed(state, STATE, node, 3);
+                if (c >= 0) used[c] += snprintf(landed[c] + used[c], sizeof landed[c] - used[c], "%u:%u ", cycle, word);
             }
         }
         const char *mode = period < 3 ? "normal" : period < 6 ? "high wind" : "evacuation";
