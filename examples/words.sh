@@ -73,7 +73,7 @@ read_text() {
 # Reads a file of words into the array words; where it is no such file, says where and why, and exits 2.
 read_words() {
     local LC_ALL=C IFS=$' \t' text lines line number word digits file
-    local wrong=$'[^ \t]*[^0-9 \t][^ \t]*' return=$'[^ \t]*\r[^ \t]*' zeros='^0+(.+)$'
+    local zeros='^0+(.+)$'
     words=()
     file=$(named "$1")
     read_text "$1"
@@ -85,9 +85,9 @@ read_words() {
         line=${lines[number]%$'\r\n'}
         line=${line%$'\n'}
         [[ $line != *$'\001'* ]] || unreadable "a byte 0 or 1, which no text has: this is not a file of words."
-        [[ ! $line =~ $return ]] || unreadable "'$(shown "${BASH_REMATCH[0]}")' has a carriage return without a line feed behind it."
+        [[ $line != *$'\r'* ]] || unreadable "'$(word_with $'\r' "$line")' has a carriage return without a line feed behind it."
         line=${line%%#*}
-        [[ ! $line =~ $wrong ]] || unreadable "'$(shown "${BASH_REMATCH[0]}")' is not a word." \
+        [[ $line != *[!0-9$' \t']* ]] || unreadable "'$(word_with $'[^0-9 \t]' "$line")' is not a word." \
             "A word is a decimal number from 0 to $largest, digits only; blanks or tabs separate words; # begins a comment."
         # Only digits, blanks and tabs are left, so that the splitting expands nothing.
         for word in $line; do
@@ -101,7 +101,10 @@ read_words() {
     done
 }
 
-# Stops read_words at a text of its present line.
+# The first word of a line that has a character of this kind, as it may be shown.
+word_with() { [[ $2 =~ [^$' \t']*$1[^$' \t']* ]] && shown "${BASH_REMATCH[0]}"; }
+
+# Stops read_words at its present line.
 unreadable() { stop "$file, line $((number + 1)): $1" "${@:2}" "Nothing was run."; }
 
 # Words, as read_words leaves them, as bytes, each lowest byte first.
@@ -134,7 +137,7 @@ build() {
         [[ $line != 'rt: '*' s)' ]] || say "$line"
     done >"$log"
     if [ "${PIPESTATUS[0]}" -ne 0 ] || [ ! -e "$root/target/$product" ]; then
-        tail -n 40 -- "$log" >&2
+        grep -v ' proved (\|^library ' "$log" | tail -n 40 >&2
         stop "target/$product could not be built by 'rt $*': see above, or the whole of target/examples/build.log."
     fi
     # As old as the build's beginning: rt leaves a program as it is where nothing that it depends on has changed.
