@@ -1,18 +1,24 @@
--- Routers that hold the flights' words have no fault: no two inputs ask for one output, and each payload word finds an output held.
+-- Routers that hold the flights' words have no fault: no two inputs ask for one output, and each payload word finds an output held, or
+-- has its own.
 -- Assumes nothing.
 use Prim.Native.Nat.{ℕ, _<_}
 use mathlib.Core.Bool.{Bool, true, false}
 use mathlib.Core.List.{List}
 use mathlib.Core.Path.{_≡_, refl, sym}
 use native.Mathlib.Omega.{arith}
-use Rattle.words.specs.Tests.{_and_, _=?_}
-use Rattle.words.proofs.TestLaws.{no≤, no=, and-no, and-no-right}
+use Rattle.words.specs.Tests.{_and_, _or_}
+use Rattle.words.proofs.TestLaws.{no≤, and-no, or-on, and-on}
 use Rattle.sheet.specs.Sheet.{nodes}
-use Rattle.network.specs.View.{noOutput, View}
-use Rattle.network.specs.Cycle.{asks, isFull, isPayload, collides, headless}
+use Rattle.network.specs.View.{View}
+use Rattle.network.specs.Cycle.{asks, isFull, isPayload, isNone, collides, headless}
 use Rattle.isolation.proofs.CellLaws.{count-one}
 use Rattle.isolation.proofs.Flight.{Flights, Paths, ports, Holds, NoClash}
-use Rattle.isolation.proofs.Step.{one-asks, payload-latch}
+use Rattle.isolation.proofs.Step.{one-asks, payload-latch, payload-choice}
+
+-- a test that fails where the one before it holds
+both-not : (a b : Bool) → (a ≡ true → b ≡ false) → a and b ≡ false
+both-not true b h = sym (and-on refl (sym (h refl)))
+both-not false b h = sym (and-no b refl)
 
 module _ (z : List ℕ) (F : Flights) (P : Paths z F) (T : ℕ) (v : View) (h : Holds z F T (v .routers)) where
   -- no two inputs ask for one output
@@ -24,13 +30,10 @@ module _ (z : List ℕ) (F : Flights) (P : Paths z F) (T : ℕ) (v : View) (h : 
       (λ input input′. one-asks z F P T (v .routers) h clash node output input input′ n) in
       no≤ (omega (arith, one))
 
-  -- no payload word is in the header stage without an output held for it
+  -- no payload word is in the link register without an output held for it, or behind the header stage without an output chosen
   pub none-headless : (node input : ℕ) → node < nodes z → input < ports → headless v node input ≡ false
   unfolding headless
-  none-headless node input n i = go (isPayload (v .routers .link node input)) refl
-    where
-      go : (b : Bool) → isPayload (v .routers .link node input) ≡ b → b and v .routers .latch node input =? noOutput ≡ false
-      go true e =
-          let held = payload-latch z F P T (v .routers) h node input n i e in
-          and-no-right true (v .routers .latch node input =? noOutput) (no= (λ q. omega (arith, q, held)))
-      go false e = sym (and-no (v .routers .latch node input =? noOutput) refl)
+  none-headless node input n i =
+      sym
+      (or-on (both-not _ _ (payload-latch z F P T (v .routers) h node input n i))
+      (sym (both-not _ _ (payload-choice z F P T (v .routers) h node input n i))))

@@ -9,7 +9,7 @@ use Rattle.packet.specs.Header.{shiftedWord}
 use Rattle.torus.specs.Torus.{neighbourOf, oppositeOf}
 use Rattle.torus.specs.Route.{routerCycles}
 use Rattle.sheet.specs.Sheet.{columns, rows, nodes}
-use Rattle.network.specs.View.{Cell, header, payload, sourceInput, memoryOutput, Routers}
+use Rattle.network.specs.View.{Cell, header, payload, toOutput, sourceInput, memoryOutput, Routers}
 use Rattle.network.specs.Cycle.{outputFor, isFull}
 
 -- a flight is one packet. Its header is on its source's wire in cycle `start`, and word j follows j cycles later. It goes through so
@@ -84,9 +84,9 @@ pub record Found (F : Flights) (T stage : ℕ) (port : F .Id → ℕ → ℕ) (n
 pub record Holds (z : List ℕ) (F : Flights) (T : ℕ) (r : Routers) : Type 0 where
   pub link-word : (f : F .Id) (k j : ℕ) → InStage F T linkStage f k j → r .link (F .node f k) (F .input f k) ≡ wordAt F f k j
   pub head-word : (f : F .Id) (k j : ℕ) → InStage F T headStage f k j → r .head (F .node f k) (F .input f k) ≡ wordAt F f (suc k) j
-  pub head-choice : (f : F .Id) (k j : ℕ) → InStage F T headStage f k j → r .choice (F .node f k) (F .input f k) ≡ F .output f k
+  pub head-choice : (f : F .Id) (k j : ℕ) → InStage F T headStage f k j → r .choice (F .node f k) (F .input f k) ≡ toOutput (F .output f k)
   pub head-latch : (f : F .Id) (k j : ℕ) → InStage F T headStage f k j → j < F .size f
-      → r .latch (F .node f k) (F .input f k) ≡ F .output f k
+      → r .latch (F .node f k) (F .input f k) ≡ toOutput (F .output f k)
   pub out-word : (f : F .Id) (k j : ℕ) → InStage F T outStage f k j → r .out (F .node f k) (F .output f k) ≡ wordAt F f (suc k) j
   pub link-only : (node input : ℕ) → node < nodes z → input < ports → isFull (r .link node input) ≡ true
       → Found F T linkStage (F .input) node input

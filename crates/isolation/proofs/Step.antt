@@ -1,9 +1,9 @@
 -- One cycle moves every flight's words and nothing else; and it has no fault in the routers.
 -- Assumes nothing.
 use Prim.Native.Nat.{ℕ, zero, suc, _<_}
-use mathlib.Core.Bool.{true, false≢true}
+use mathlib.Core.Bool.{true, false, false≢true}
 use mathlib.Core.List.{List}
-use mathlib.Core.Path.{_≡_, refl, sym, _∙_, ap}
+use mathlib.Core.Path.{_≡_, refl, sym, _∙_, ap, ap₂}
 use native.Mathlib.Decide.{ℕ-discrete}
 use native.Mathlib.Omega.{arith}
 use Rattle.words.specs.Tests.{_=?_}
@@ -11,8 +11,8 @@ use Rattle.words.proofs.TestLaws.{yes=, no=, is=}
 use Rattle.torus.specs.Torus.{neighbourOf, oppositeOf}
 use Rattle.sheet.specs.Sheet.{columns, rows, nodes}
 use Rattle.sheet.specs.Passed.{Headed}
-use Rattle.network.specs.View.{Cell, empty, header, sourceInput, memoryOutput, Routers}
-use Rattle.network.specs.Cycle.{advance, asks, stepRouters, isFull, isPayload}
+use Rattle.network.specs.View.{Cell, empty, header, Choice, toOutput, sourceInput, memoryOutput, Routers}
+use Rattle.network.specs.Cycle.{advance, goesTo, asks, stepRouters, isFull, isPayload, isNone}
 use Rattle.isolation.proofs.CellLaws.{not-full, payload-full, advance-full, pick-passes, pick-full, gather-one, gather-full}
 use Rattle.torus.proofs.NeighbourLaws.{opposite-side, opposite-back}
 use Rattle.isolation.proofs.GridLaws.{neighbour-in, neighbour-back}
@@ -69,15 +69,20 @@ module _ (z : List ℕ) (F : Flights) (P : Paths z F) where
   advance-word f k (suc j) = refl
 
 module _ (z : List ℕ) (F : Flights) (P : Paths z F) (T : ℕ) (r : Routers) (h : Holds z F T r) where
+  -- the choice beside a word in the header stage is its flight's output
+  chosen-at : (node input : ℕ) (w : Found F T headStage (F .input) node input)
+      → r .choice node input ≡ toOutput (F .output (w .flight) (w .router))
+  chosen-at node input w =
+      sym (ap₂ (r .choice) (w .at-node) (w .at-port)) ∙ h .head-choice (w .flight) (w .router) (w .index) (w .in-stage)
+
   -- an input that asks for an output has a word there that goes to that output
   asked : (node output input : ℕ) → node < nodes z → input < ports → isFull (asks r node output input) ≡ true
       → (w : Found F T headStage (F .input) node input) × (F .output (w .flight) (w .router) ≡ output)
   unfolding asks
   asked node output input n i e =
-      let w = h .head-only node input n i (pick-full (r .choice node input =? output) (r .head node input) e) in
-      let chosen = h .head-choice (w .flight) (w .router) (w .index) (w .in-stage) in
-      let choice = is= (r .choice node input) output (pick-passes (r .choice node input =? output) (r .head node input) e) in
-      (w, cc (chosen, choice))
+      let w = h .head-only node input n i (pick-full (goesTo (r .choice node input) output) (r .head node input) e) in
+      let passes = pick-passes (goesTo (r .choice node input) output) (r .head node input) e in
+      (w, is= (F .output (w .flight) (w .router)) output (ap (λ c. goesTo c output) (sym (chosen-at node input w)) ∙ passes))
 
   -- no two inputs ask for one output
   pub one-asks : NoClash F → (node output input input′ : ℕ) → node < nodes z → input < ports → input′ < ports
@@ -96,7 +101,7 @@ module _ (z : List ℕ) (F : Flights) (P : Paths z F) (T : ℕ) (r : Routers) (h
 
   -- a payload word that comes to the header stage finds its packet's output in the latch
   pub payload-latch : (node input : ℕ) → node < nodes z → input < ports → isPayload (r .link node input) ≡ true
-      → r .latch node input < ports
+      → isNone (r .latch node input) ≡ false
   payload-latch node input n i e =
       let w = h .link-only node input n i (payload-full (r .link node input) e) in
       let there : r .link node input ≡ wordAt F (w .flight) (w .router) (w .index) =
@@ -104,13 +109,19 @@ module _ (z : List ℕ) (F : Flights) (P : Paths z F) (T : ℕ) (r : Routers) (h
       go w (w .index) refl (rw there at e)
     where
       go : (w : Found F T linkStage (F .input) node input) (j : ℕ) → w .index ≡ j
-          → isPayload (wordAt F (w .flight) (w .router) j) ≡ true → r .latch node input < ports
+          → isPayload (wordAt F (w .flight) (w .router) j) ≡ true → isNone (r .latch node input) ≡ false
       go w zero q p = absurd (false≢true p)
       go w (suc j) q p =
           let before = word-before F T (w .flight) (w .router) j (rw q at (w .in-stage)) in
-          let held : r .latch node input ≡ F .output (w .flight) (w .router) =
-          cc (h .head-latch (w .flight) (w .router) j before (omega arith)) in
-          omega (arith, output-port z F P (w .flight) (w .router) (before .on-way))
+          let held : r .latch node input ≡ toOutput (F .output (w .flight) (w .router)) =
+          sym (ap₂ (r .latch) (w .at-node) (w .at-port)) ∙ h .head-latch (w .flight) (w .router) j before (omega arith) in
+          ap isNone held
+
+  -- and one that has left it has its packet's output beside it
+  pub payload-choice : (node input : ℕ) → node < nodes z → input < ports → isPayload (r .head node input) ≡ true
+      → isNone (r .choice node input) ≡ false
+  payload-choice node input n i e =
+      ap isNone (chosen-at node input (h .head-only node input n i (payload-full (r .head node input) e)))
 
 module _ (z : List ℕ) (H : Headed z) (F : Flights) (P : Paths z F) (clash : NoClash F) (T : ℕ) (wire : ℕ → Cell)
     (e : Emits z F T wire) (r : Routers) (h : Holds z F T r) where
@@ -187,19 +198,19 @@ module _ (z : List ℕ) (H : Headed z) (F : Flights) (P : Paths z F) (clash : No
   head-next f k j s = rw (h .link-word f k j (last-stage F T linkStage f k j s)) (advance-word z F P f k j)
 
   choice-next : (f : F .Id) (k j : ℕ) → InStage F (suc T) headStage f k j
-      → stepRouters z wire r .choice (F .node f k) (F .input f k) ≡ F .output f k
+      → stepRouters z wire r .choice (F .node f k) (F .input f k) ≡ toOutput (F .output f k)
   unfolding stepRouters
   choice-next f k zero s =
-      rw (h .link-word f k zero (last-stage F T linkStage f k zero s)) (P .asked-output f k (s .on-way))
+      rw (h .link-word f k zero (last-stage F T linkStage f k zero s)) (ap toOutput (P .asked-output f k (s .on-way)))
   choice-next f k (suc j) s =
       let before = last-stage F T linkStage f k (suc j) s in
       rw (h .link-word f k (suc j) before) (h .head-latch f k j (word-before F T f k j before) (omega arith))
 
   latch-next : (f : F .Id) (k j : ℕ) → InStage F (suc T) headStage f k j → j < F .size f
-      → stepRouters z wire r .latch (F .node f k) (F .input f k) ≡ F .output f k
+      → stepRouters z wire r .latch (F .node f k) (F .input f k) ≡ toOutput (F .output f k)
   unfolding stepRouters
   latch-next f k zero s more =
-      rw (h .link-word f k zero (last-stage F T linkStage f k zero s)) (P .asked-output f k (s .on-way))
+      rw (h .link-word f k zero (last-stage F T linkStage f k zero s)) (ap toOutput (P .asked-output f k (s .on-way)))
   latch-next f k (suc j) s more =
       let before = last-stage F T linkStage f k (suc j) s in
       let not-last : suc j ≡ F .size f → ⊥ = λ q. omega arith in

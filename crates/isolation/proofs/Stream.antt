@@ -16,7 +16,7 @@ use Rattle.network.specs.View.{View, empty, Order, noOrder, pending}
 use Rattle.network.specs.Cycle.{tick, faulty}
 use Rattle.network.specs.Registers.{reg, sheetIn, stateWords, clockRow, cyclePlace, numberPlace, schedulePlace, orderMarkPlace, orderSchedulePlace, orderPeriodPlace, linkMark, linkWord, headMark, headWord, choiceRow, latchRow, outMark, outWord, receiveMark, receiveKind, receiveAddress, leftRow, readRow, writeRow, kindRow, toGoRow}
 use Rattle.network.specs.Machine.{at, senderIn}
-use Rattle.network.specs.Seen.{cell, output, view, Agree}
+use Rattle.network.specs.Seen.{cell, choiceIn, view, Agree}
 use Rattle.network.proofs.RowLaws.{sheet-kept, sender-same}
 use Rattle.network.proofs.StepLaws.{state-length, memory-length}
 use Rattle.network.proofs.ViewLaws.{cycle-agrees}
@@ -111,8 +111,8 @@ module _ (z s m s′ m′ : List ℕ) (few-nodes : nodes z ≤ 16)
       head = λ node input n i.
           ap₂ cell (sym (router-same headMark node input (omega arith) (omega arith) n i))
           (sym (router-same headWord node input (omega arith) (omega arith) n i));
-      choice = λ node input n i. ap output (sym (router-same choiceRow node input (omega arith) (omega arith) n i));
-      latch = λ node input n i. ap output (sym (router-same latchRow node input (omega arith) (omega arith) n i));
+      choice = λ node input n i. ap choiceIn (sym (router-same choiceRow node input (omega arith) (omega arith) n i));
+      latch = λ node input n i. ap choiceIn (sym (router-same latchRow node input (omega arith) (omega arith) n i));
       out = λ node input n i.
           ap₂ cell (sym (router-same outMark node input (omega arith) (omega arith) n i))
           (sym (router-same outWord node input (omega arith) (omega arith) n i));
@@ -264,9 +264,7 @@ module _ (z : List ℕ) (w : Lent) (f : Fine z w) where
           whole = f .whole ∙ ap (λ (y : List ℕ). nodes y * memoryWords y) (sym (f .sheet-is));
         };
         calm =
-            faulty-is s (w .memory) (λ node input n i. sound-parts s (f .is-sound) .routers (at node input) (omega arith) .latch)
-            ∙ ap (λ (y : List ℕ). faulty y (seen w)) (f .sheet-is)
-            ∙ e;
+            faulty-is s (w .memory) ∙ ap (λ (y : List ℕ). faulty y (seen w)) (f .sheet-is) ∙ e;
       })
 
 -- a session that has no calls left goes on by cycles; one whose next cycle would be refused likewise

@@ -2,13 +2,14 @@
 -- Assumes nothing.
 use Prim.Native.Nat.{ℕ}
 use mathlib.Core.Bool.{Bool, true, false}
-use mathlib.Core.Path.{_≡_, refl, sym, _∙_, ap}
+use mathlib.Core.Path.{_≡_, refl, sym, _∙_, ap, ap₂}
 use mathlib.Core.List.{List}
 use Rattle.words.specs.Tests.{any, _or_}
+use Rattle.words.proofs.AllLaws.{any-same}
 use Rattle.sheet.specs.Sheet.{circuits, nodes}
 use Rattle.network.specs.Registers.{sheetIn}
 use Rattle.routers.proofs.PlaceLaws.{any-or}
-use Rattle.network.specs.Machine.{collidesIn, headlessIn, crowdsIn, straysIn, reopensIn, faultyIn}
+use Rattle.network.specs.Machine.{collidesIn, unheldIn, unchosenIn, headlessIn, crowdsIn, straysIn, reopensIn, faultyIn}
 
 true-or : (a : Bool) → (true or a) ≡ true
 unfolding _or_
@@ -34,6 +35,13 @@ last-first false true false = refl
 last-first false false true = refl
 last-first false false false = refl
 
+second-first : (a b c d : Bool) → (a or ((b or c) or d)) ≡ ((a or c) or (b or d))
+unfolding _or_
+second-first true b c d = refl
+second-first false true true d = refl
+second-first false true false d = refl
+second-first false false c d = refl
+
 -- some place passes one of two tests
 some-or : (n : ℕ) (f g : ℕ → Bool) → any n (λ k. f k or g k) ≡ (any n f or any n g)
 some-or n f g = sym (any-or n f g)
@@ -42,8 +50,15 @@ module _ (s : List ℕ) where
   abbrev pub collided : Bool
   collided = any (nodes (sheetIn s)) (λ node. any 5 (collidesIn s node))
 
-  abbrev pub headless : Bool
-  headless = any (nodes (sheetIn s)) (λ node. any 5 (headlessIn s node))
+  abbrev pub unchosen : Bool
+  unchosen = any (nodes (sheetIn s)) (λ node. any 5 (unchosenIn s node))
+
+  -- what the crossbar finds
+  abbrev pub crossed : Bool
+  crossed = collided or unchosen
+
+  abbrev pub unheld : Bool
+  unheld = any (nodes (sheetIn s)) (λ node. any 5 (unheldIn s node))
 
   abbrev pub crowded : Bool
   crowded = any (nodes (sheetIn s)) (crowdsIn s)
@@ -54,33 +69,41 @@ module _ (s : List ℕ) where
   abbrev pub reopened : Bool
   reopened = any (circuits (sheetIn s)) (reopensIn s)
 
-  faults-are : faultyIn s ≡ ((collided or (headless or (crowded or strayed))) or reopened)
+  -- a payload word has no header: both halves
+  headless-are : any (nodes (sheetIn s)) (λ node. any 5 (headlessIn s node)) ≡ (unheld or unchosen)
+  unfolding headlessIn
+  headless-are =
+      any-same (nodes (sheetIn s)) _ _ (λ node _. some-or 5 (unheldIn s node) (unchosenIn s node))
+      ∙ some-or (nodes (sheetIn s)) (λ node. any 5 (unheldIn s node)) (λ node. any 5 (unchosenIn s node))
+
+  faults-are : faultyIn s ≡ ((crossed or (unheld or (crowded or strayed))) or reopened)
   unfolding faultyIn
   faults-are =
       ap (λ (b : Bool). b or reopened)
       (some-or (nodes (sheetIn s)) (λ node. any 5 (collidesIn s node)) (λ node. any 5 (headlessIn s node) or crowdsIn s node or straysIn s node)
       ∙ ap (λ (b : Bool). collided or b)
       (some-or (nodes (sheetIn s)) (λ node. any 5 (headlessIn s node)) (λ node. crowdsIn s node or straysIn s node)
-      ∙ ap (λ (b : Bool). headless or b) (some-or (nodes (sheetIn s)) (crowdsIn s) (straysIn s))))
+      ∙ ap₂ _or_ headless-are (some-or (nodes (sheetIn s)) (crowdsIn s) (straysIn s)))
+      ∙ second-first collided unheld unchosen (crowded or strayed))
 
   -- a fault of the kind that is looked for, or none of the kinds so far
-  pub fault-collided : collided ≡ true → true ≡ faultyIn s
-  fault-collided h = sym (faults-are ∙ ap (λ (b : Bool). (b or (headless or (crowded or strayed))) or reopened) h ∙ first-true _ _)
+  pub fault-crossed : crossed ≡ true → true ≡ faultyIn s
+  fault-crossed h = sym (faults-are ∙ ap (λ (b : Bool). (b or (unheld or (crowded or strayed))) or reopened) h ∙ first-true _ _)
 
-  module _ (c : collided ≡ false) where
-    past-collided : faultyIn s ≡ ((headless or (crowded or strayed)) or reopened)
-    past-collided = faults-are ∙ ap (λ (b : Bool). (b or (headless or (crowded or strayed))) or reopened) c ∙ first-false _ _
+  module _ (c : crossed ≡ false) where
+    past-crossed : faultyIn s ≡ ((unheld or (crowded or strayed)) or reopened)
+    past-crossed = faults-are ∙ ap (λ (b : Bool). (b or (unheld or (crowded or strayed))) or reopened) c ∙ first-false _ _
 
-    pub fault-headless : headless ≡ true → true ≡ faultyIn s
-    fault-headless h = sym (past-collided ∙ ap (λ (b : Bool). (b or (crowded or strayed)) or reopened) h ∙ first-true _ _)
+    pub fault-unheld : unheld ≡ true → true ≡ faultyIn s
+    fault-unheld h = sym (past-crossed ∙ ap (λ (b : Bool). (b or (crowded or strayed)) or reopened) h ∙ first-true _ _)
 
-    module _ (d : headless ≡ false) where
-      past-headless : faultyIn s ≡ ((crowded or reopened) or strayed)
-      past-headless =
-          past-collided ∙ ap (λ (b : Bool). (b or (crowded or strayed)) or reopened) d ∙ first-false _ _ ∙ last-first crowded strayed reopened
+    module _ (d : unheld ≡ false) where
+      past-unheld : faultyIn s ≡ ((crowded or reopened) or strayed)
+      past-unheld =
+          past-crossed ∙ ap (λ (b : Bool). (b or (crowded or strayed)) or reopened) d ∙ first-false _ _ ∙ last-first crowded strayed reopened
 
       pub fault-wires : (crowded or reopened) ≡ true → true ≡ faultyIn s
-      fault-wires h = sym (past-headless ∙ ap (λ (b : Bool). b or strayed) h ∙ true-or strayed)
+      fault-wires h = sym (past-unheld ∙ ap (λ (b : Bool). b or strayed) h ∙ true-or strayed)
 
       pub fault-last : (crowded or reopened) ≡ false → (r : Bool) → r ≡ strayed → r ≡ faultyIn s
-      fault-last h r e = e ∙ sym (past-headless ∙ ap (λ (b : Bool). b or strayed) h ∙ false-or strayed)
+      fault-last h r e = e ∙ sym (past-unheld ∙ ap (λ (b : Bool). b or strayed) h ∙ false-or strayed)

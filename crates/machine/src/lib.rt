@@ -32,7 +32,7 @@ fn prepare(
     if routers::cross(s, nodes, outs, values) {
         return true;
     }
-    if routers::has_headless(s, nodes * 5) {
+    if routers::has_unheld(s, nodes * 5) {
         return true;
     }
     sources::slots_now(s, z, slots);

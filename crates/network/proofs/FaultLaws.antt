@@ -1,4 +1,4 @@
--- Number 20 in words says what the machine's faults say, where each latch holds an output or none.
+-- Number 20 in words says what the machine's faults say, fault by fault.
 -- Assumes nothing.
 use Prim.Native.Nat.{ℕ, zero, suc, _≤_, _<_}
 use mathlib.Core.Path.{_≡_, refl, sym, _∙_, ap, ap₂}
@@ -11,11 +11,10 @@ use Rattle.words.proofs.TestLaws.{yes≤, no≤, yes=, no=}
 use Rattle.words.proofs.AllLaws.{any-same}
 use Rattle.sheet.specs.Sheet.{circuits, nodes}
 use Rattle.sheet.specs.Slots.{sourceOf}
-use Rattle.network.specs.View.{noOutput}
-use Rattle.network.specs.Cycle.{isFull, isPayload, collides, crowds, reopens, headless, strays, faulty}
-use Rattle.network.specs.Registers.{reg, sheetIn, room, latchRow, linkMark, linkWord, headWord, receiveMark, receiveAddress}
-use Rattle.network.specs.Machine.{at, slotIn, askedMark, sentMark, sentWord, memoryMark, memoryWord, collidesIn, headlessIn, crowdsIn, straysIn, reopensIn, faultyIn}
-use Rattle.network.specs.Seen.{cell, output, marked, view}
+use Rattle.network.specs.Cycle.{isFull, isPayload, isNone, collides, crowds, reopens, headless, strays, faulty}
+use Rattle.network.specs.Registers.{reg, sheetIn, room, linkMark, linkWord, headMark, headWord, choiceRow, latchRow, receiveMark, receiveAddress}
+use Rattle.network.specs.Machine.{at, slotIn, askedMark, sentMark, sentWord, memoryMark, memoryWord, collidesIn, unheldIn, unchosenIn, headlessIn, crowdsIn, straysIn, reopensIn, faultyIn}
+use Rattle.network.specs.Seen.{cell, choiceIn, marked, view}
 use Rattle.network.proofs.ViewLaws.{asked-same, sent-same}
 
 -- two tests that agree at each number below n
@@ -37,27 +36,29 @@ payload-cell (suc zero) w = no≤ (omega arith)
 payload-cell (suc (suc zero)) w = yes≤ (omega arith)
 payload-cell (suc (suc (suc mark))) w = yes≤ (omega arith)
 
--- a register of 6 would look like none: that is what the bound is for
-none-held : (register : ℕ) → register ≤ 5 → (register =? 0) ≡ (output register =? noOutput)
-none-held zero l = yes= refl ∙ sym (yes= refl)
-none-held (suc o) l = no= (λ e. omega arith) ∙ sym (no= (λ e. omega arith))
+-- no output is chosen
+none-chosen : (register : ℕ) → (register =? 0) ≡ isNone (choiceIn register)
+none-chosen zero = yes= refl
+none-chosen (suc o) = no= (λ e. omega arith)
 
 none-arriving : (mark : ℕ) → (mark =? 0) ≡ not (marked mark)
 none-arriving zero = yes= refl
 none-arriving (suc mark) = no= (λ e. omega arith)
 
-pub collides-is : (s m : List ℕ) (node o : ℕ) → o < 5 → collidesIn s node o ≡ collides (view s m) node o
+pub collides-is : (s m : List ℕ) (node o : ℕ) → collidesIn s node o ≡ collides (view s m) node o
 unfolding collidesIn collides
-collides-is s m node o l =
+collides-is s m node o =
     ap (λ k. 2 ≤? k) (count-same 5 _ _ (λ input _.
-    full-cell (askedMark s node o input) (reg s headWord (at node input)) ∙ ap isFull (asked-same s m node o input l)))
+    full-cell (askedMark s node o input) (reg s headWord (at node input)) ∙ ap isFull (asked-same s m node o input)))
 
-pub headless-is : (s m : List ℕ) (node input : ℕ) → reg s latchRow (at node input) ≤ 5
-    → headlessIn s node input ≡ headless (view s m) node input
-unfolding headlessIn headless
-headless-is s m node input l =
-    ap₂ _and_ (payload-cell (reg s linkMark (at node input)) (reg s linkWord (at node input)))
-    (none-held (reg s latchRow (at node input)) l)
+pub headless-is : (s m : List ℕ) (node input : ℕ) → headlessIn s node input ≡ headless (view s m) node input
+unfolding headlessIn unheldIn unchosenIn headless
+headless-is s m node input =
+    ap₂ _or_
+    (ap₂ _and_ (payload-cell (reg s linkMark (at node input)) (reg s linkWord (at node input)))
+    (none-chosen (reg s latchRow (at node input))))
+    (ap₂ _and_ (payload-cell (reg s headMark (at node input)) (reg s headWord (at node input)))
+    (none-chosen (reg s choiceRow (at node input))))
 
 pub crowds-is : (s m : List ℕ) (node : ℕ) → crowdsIn s node ≡ crowds (sheetIn s) (view s m) node
 unfolding crowdsIn crowds
@@ -75,14 +76,12 @@ pub reopens-is : (s m : List ℕ) (circuit : ℕ) → reopensIn s circuit ≡ re
 unfolding reopensIn reopens slotIn
 reopens-is s m circuit = refl
 
-pub faulty-is : (s m : List ℕ)
-    → ((node input : ℕ) → node < nodes (sheetIn s) → input < 5 → reg s latchRow (at node input) ≤ 5)
-    → faultyIn s ≡ faulty (sheetIn s) (view s m)
+pub faulty-is : (s m : List ℕ) → faultyIn s ≡ faulty (sheetIn s) (view s m)
 unfolding faultyIn faulty
-faulty-is s m held =
+faulty-is s m =
     ap₂ _or_
-    (any-same (nodes (sheetIn s)) _ _ (λ node nl.
-    ap₂ _or_ (any-same 5 _ _ (λ o ol. collides-is s m node o ol))
-    (ap₂ _or_ (any-same 5 _ _ (λ input il. headless-is s m node input (held node input nl il)))
+    (any-same (nodes (sheetIn s)) _ _ (λ node _.
+    ap₂ _or_ (any-same 5 _ _ (λ o _. collides-is s m node o))
+    (ap₂ _or_ (any-same 5 _ _ (λ input _. headless-is s m node input))
     (ap₂ _or_ (crowds-is s m node) (strays-is s m node)))))
     (any-same (circuits (sheetIn s)) _ _ (λ c _. reopens-is s m c))

@@ -17,10 +17,10 @@ use Rattle.torus.specs.Torus.{neighbourOf, oppositeOf}
 use Rattle.sheet.specs.Sheet.{columns, rows, memoryWords, circuits, nodes}
 use Rattle.sheet.specs.Slots.{sourceOf}
 use Rattle.network.specs.View.{Cell, empty, payload, sourceInput, Sender, Receiver, View, noOrder, pending}
-use Rattle.network.specs.Cycle.{advance, choose, hold, asks, join, gather, stepRouters, Move, rests, opens, sends, sentCell, moveNow, headNow, readNow, sentNow, sourceWire, landingOf, stepReceiver, storedBy, nextNumber, scheduleAfter, orderAfter, periodEnds, tick}
+use Rattle.network.specs.Cycle.{advance, choose, hold, goesTo, asks, join, gather, stepRouters, Move, rests, opens, sends, sentCell, moveNow, headNow, readNow, sentNow, sourceWire, landingOf, stepReceiver, storedBy, nextNumber, scheduleAfter, orderAfter, periodEnds, tick}
 use Rattle.network.specs.Registers.{reg, sheetIn, room, clockRow, numberPlace, schedulePlace, orderMarkPlace, orderSchedulePlace, orderPeriodPlace, linkMark, linkWord, headMark, headWord, choiceRow, latchRow, receiveMark, receiveKind, receiveAddress}
 use Rattle.network.specs.Machine.{at, firstMark, firstWord, senderIn, slotIn, markOf, wordOf, sentMark, sentWord, ownMark, sourceMark, sourceWord, nextLinkMark, nextLinkWord, nextHeadWord, nextChoice, nextLatch, askedMark, nextOutMark, nextOutWord, memoryMark, memoryWord, nextReceiveMark, nextReceiveKind, nextReceiveAddress, nextLandingMark, memoryAfter, turns, isDue, nextSender, nextState, nextMemory}
-use Rattle.network.specs.Seen.{cell, output, marked, landingIn, orderIn, view, Agree}
+use Rattle.network.specs.Seen.{cell, choiceIn, marked, landingIn, orderIn, view, Agree}
 pub use Rattle.network.proofs.RowLaws.{sheet-kept, next-row, next-clock, next-router-place, next-router, next-node, next-circuit, RouterAfter, router-after, NodeAfter, node-after, sender-same, sender-after, ClockAfter, clock-after}
 
 -- marks of 3 and more, tested
@@ -81,24 +81,24 @@ head-law (suc zero) w = refl
 head-law (suc (suc zero)) w = refl
 head-law (suc (suc (suc mark))) w = rw (not-one mark) refl
 
-choice-law : (i latch mark w : ℕ) → output (nextChoice i latch mark w) ≡ choose i (output latch) (cell mark w)
+choice-law : (i latch mark w : ℕ) → choiceIn (nextChoice i latch mark w) ≡ choose i (choiceIn latch) (cell mark w)
 unfolding nextChoice _=?_
 choice-law i latch zero w = refl
-choice-law i latch (suc zero) w = ap output (add-one _)
+choice-law i latch (suc zero) w = ap choiceIn (add-one _)
 choice-law i latch (suc (suc zero)) w = refl
 choice-law i latch (suc (suc (suc mark))) w = rw (not-zero mark, not-one mark) refl
 
-latch-law : (i latch mark w : ℕ) → output (nextLatch i latch mark w) ≡ hold i (output latch) (cell mark w)
+latch-law : (i latch mark w : ℕ) → choiceIn (nextLatch i latch mark w) ≡ hold i (choiceIn latch) (cell mark w)
 unfolding nextLatch _=?_ _≤?_
 latch-law i latch zero w = refl
-latch-law i latch (suc zero) w = ap output (add-one _)
+latch-law i latch (suc zero) w = ap choiceIn (add-one _)
 latch-law i latch (suc (suc zero)) w = refl
 latch-law i latch (suc (suc (suc mark))) w = rw (not-one mark, three-most mark) refl
 
 -- a register asks for an output
-pub asks-test : (register o : ℕ) → o < 5 → (register =? o + 1) ≡ (output register =? o)
-asks-test zero o l = no= (λ e. omega arith) ∙ sym (no= (λ e. omega arith))
-asks-test (suc h) o l = same (h =? o) refl
+pub asks-test : (register o : ℕ) → (register =? o + 1) ≡ goesTo (choiceIn register) o
+asks-test zero o = no= (λ e. omega arith)
+asks-test (suc h) o = same (h =? o) refl
   where
     same : (b : Bool) → (h =? o) ≡ b → (suc h =? o + 1) ≡ b
     same true e = yes= (omega (arith, is= h o e))
@@ -183,12 +183,12 @@ wire-same s m node =
     ∙ ap (λ x. pick (sourceOf (sheetIn s) c =? node) x empty) (sent-same s m c))
 
 -- what an input asks of an output
-pub asked-same : (s m : List ℕ) (node o input : ℕ) → o < 5
+pub asked-same : (s m : List ℕ) (node o input : ℕ)
     → cell (askedMark s node o input) (reg s headWord (at node input)) ≡ asks (view s m .routers) node o input
 unfolding asks askedMark
-asked-same s m node o input l =
+asked-same s m node o input =
     cell-only (reg s choiceRow (at node input) =? o + 1) (reg s headMark (at node input)) (reg s headWord (at node input))
-    ∙ ap (λ b. pick b (view s m .routers .head node input) empty) (asks-test (reg s choiceRow (at node input)) o l)
+    ∙ ap (λ b. pick b (view s m .routers .head node input) empty) (asks-test (reg s choiceRow (at node input)) o)
 
 -- the registers after a cycle, one by one
 module _ (s m : List ℕ) where
@@ -215,21 +215,21 @@ module _ (s m : List ℕ) where
   choice-next : (node input : ℕ) → RouterAfter s m node input → after .routers .choice node input ≡ next .routers .choice node input
   unfolding stepRouters
   choice-next node input r =
-      ap output (r .choice-register)
+      ap choiceIn (r .choice-register)
       ∙ choice-law input (reg s latchRow (at node input)) (reg s linkMark (at node input)) (reg s linkWord (at node input))
 
   latch-next : (node input : ℕ) → RouterAfter s m node input → after .routers .latch node input ≡ next .routers .latch node input
   unfolding stepRouters
   latch-next node input r =
-      ap output (r .latch-register)
+      ap choiceIn (r .latch-register)
       ∙ latch-law input (reg s latchRow (at node input)) (reg s linkMark (at node input)) (reg s linkWord (at node input))
 
-  out-next : (node o : ℕ) → o < 5 → RouterAfter s m node o → after .routers .out node o ≡ next .routers .out node o
+  out-next : (node o : ℕ) → RouterAfter s m node o → after .routers .out node o ≡ next .routers .out node o
   unfolding stepRouters nextOutMark nextOutWord
-  out-next node o l r =
+  out-next node o r =
       ap₂ cell (r .out-mark) (r .out-word)
       ∙ cell-first 5 (askedMark s node o) (λ input. reg s headWord (at node input))
-      ∙ gather-same 5 _ _ (λ input _. asked-same s m node o input l)
+      ∙ gather-same 5 _ _ (λ input _. asked-same s m node o input)
 
   sender-next : (circuit : ℕ) → senderIn (nextState s m) circuit ≡ nextSender s circuit → after .sender circuit ≡ next .sender circuit
   unfolding slotIn
@@ -289,7 +289,7 @@ cycle-agrees s m few-nodes few-circuits e = record {
   head = λ node input nl il. head-next s m node input (router-after s m few-nodes node input nl il);
   choice = λ node input nl il. choice-next s m node input (router-after s m few-nodes node input nl il);
   latch = λ node input nl il. latch-next s m node input (router-after s m few-nodes node input nl il);
-  out = λ node o nl ol. out-next s m node o ol (router-after s m few-nodes node o nl ol);
+  out = λ node o nl ol. out-next s m node o (router-after s m few-nodes node o nl ol);
   memory = memory-next s m e;
   cycle = cycle-next s m;
   periodNumber = number-next s m;

@@ -8,7 +8,7 @@ use Rattle.packet.specs.Header.{headerWord, kindOf, addressOf, routeOf, firstCo
 use Rattle.torus.specs.Torus.{neighbourOf, oppositeOf}
 use Rattle.sheet.specs.Sheet.{columns, rows, memoryWords, circuits, nodes, period}
 use Rattle.sheet.specs.Slots.{slotLength, slotRoute, sourceOf}
-use Rattle.network.specs.View.{Cell, empty, header, payload, sourceInput, memoryOutput, noOutput, Routers, Sender, Receiver, Landing, nothing, landed, Order, noOrder, pending, View}
+use Rattle.network.specs.View.{Cell, empty, header, payload, sourceInput, memoryOutput, Choice, noOutput, toOutput, Routers, Sender, Receiver, Landing, nothing, landed, Order, noOrder, pending, View}
 
 -- the header stage. The output that a header asks for: the code of the side that the packet came in by means this node's memory, any
 -- other a side to leave by
@@ -21,21 +21,25 @@ advance empty = empty
 advance (header word) = header (shiftedWord word)
 advance (payload word last) = payload word last
 
--- the output chosen for a cell: a header's own, a payload word's by the latch
-abbrev pub choose : ℕ → ℕ → Cell → ℕ
+-- the choice for a cell: a header's own, a payload word's by the latch
+abbrev pub choose : ℕ → Choice → Cell → Choice
 choose input latch empty = noOutput
-choose input latch (header word) = outputFor input word
+choose input latch (header word) = toOutput (outputFor input word)
 choose input latch (payload word last) = latch
 
 -- the latch afterwards: a header replaces the choice held, and the packet's last word drops it
-abbrev pub hold : ℕ → ℕ → Cell → ℕ
+abbrev pub hold : ℕ → Choice → Cell → Choice
 hold input latch empty = latch
-hold input latch (header word) = outputFor input word
+hold input latch (header word) = toOutput (outputFor input word)
 hold input latch (payload word last) = pick last noOutput latch
 
--- the crossbar. What input i asks of output o, and the first of so many cells that is there
+-- the crossbar. What an input asks of an output, and the first of so many cells that is there
+abbrev pub goesTo : Choice → ℕ → Bool
+goesTo noOutput output = false
+goesTo (toOutput chosen) output = chosen =? output
+
 unfoldable pub asks : Routers → ℕ → ℕ → ℕ → Cell
-asks r node output input = pick (r .choice node input =? output) (r .head node input) empty
+asks r node output input = pick (goesTo (r .choice node input) output) (r .head node input) empty
 
 abbrev pub join : Cell → Cell → Cell
 join empty d = d
@@ -175,6 +179,10 @@ isPayload empty = false
 isPayload (header word) = false
 isPayload (payload word last) = true
 
+abbrev pub isNone : Choice → Bool
+isNone noOutput = true
+isNone (toOutput chosen) = false
+
 -- two inputs ask for one output
 unfoldable pub collides : View → ℕ → ℕ → Bool
 collides v node output = 2 ≤? countOf 5 (λ input. isFull (asks (v .routers) node output input))
@@ -186,9 +194,11 @@ crowds z v node = 2 ≤? countOf (circuits z) (λ circuit. sourceOf z circuit =?
 unfoldable pub reopens : List ℕ → View → ℕ → Bool
 reopens z v circuit = 1 ≤? slotNow z v circuit and 1 ≤? v .sender circuit .left and 1 ≤? v .sender circuit .toGo
 
--- a payload word in the header stage for which no choice is held
+-- a payload word in the link register for which no choice is held, or one that left the header stage with no choice
 unfoldable pub headless : View → ℕ → ℕ → Bool
-headless v node input = isPayload (v .routers .link node input) and v .routers .latch node input =? noOutput
+headless v node input =
+    (isPayload (v .routers .link node input) and isNone (v .routers .latch node input))
+    or (isPayload (v .routers .head node input) and isNone (v .routers .choice node input))
 
 -- a payload word at the memory output with no packet arriving, or for an address beyond the memory
 unfoldable pub strays : List ℕ → View → ℕ → Bool

@@ -201,8 +201,15 @@ nextMemory s m = tab (length m) (λ k. memoryAfter s (k / room s) (k % room s) (
 unfoldable pub collidesIn : List ℕ → ℕ → ℕ → Bool
 collidesIn s node output = 2 ≤? countOf 5 (λ input. 1 ≤? askedMark s node output input)
 
+-- a payload word in the link register for which no choice is held, and one that left the header stage with no choice
+unfoldable pub unheldIn : List ℕ → ℕ → ℕ → Bool
+unheldIn s node input = 2 ≤? reg s linkMark (at node input) and reg s latchRow (at node input) =? 0
+
+unfoldable pub unchosenIn : List ℕ → ℕ → ℕ → Bool
+unchosenIn s node input = 2 ≤? reg s headMark (at node input) and reg s choiceRow (at node input) =? 0
+
 unfoldable pub headlessIn : List ℕ → ℕ → ℕ → Bool
-headlessIn s node input = 2 ≤? reg s linkMark (at node input) and reg s latchRow (at node input) =? 0
+headlessIn s node input = unheldIn s node input or unchosenIn s node input
 
 unfoldable pub crowdsIn : List ℕ → ℕ → Bool
 crowdsIn s node = 2 ≤? countOf (circuits (sheetIn s)) (λ c. sourceOf (sheetIn s) c =? node and 1 ≤? sentMark s c)

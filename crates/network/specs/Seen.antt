@@ -5,7 +5,7 @@ use mathlib.Core.List.{List}
 use mathlib.Core.Path.{_≡_}
 use Rattle.words.specs.Words.{word}
 use Rattle.sheet.specs.Sheet.{memoryWords, circuits, nodes}
-use Rattle.network.specs.View.{Cell, empty, header, payload, noOutput, Landing, nothing, landed, Order, noOrder, pending, View}
+use Rattle.network.specs.View.{Cell, empty, header, payload, Choice, noOutput, toOutput, Landing, nothing, landed, Order, noOrder, pending, View}
 use Rattle.network.specs.Registers.{reg, room, clockRow, cyclePlace, numberPlace, schedulePlace, orderMarkPlace, orderSchedulePlace, orderPeriodPlace, linkMark, linkWord, headMark, headWord, choiceRow, latchRow, outMark, outWord, receiveMark, receiveKind, receiveAddress, landingMark, landingKind, landingAddress, landingWord}
 use Rattle.network.specs.Machine.{at, senderIn}
 
@@ -16,10 +16,10 @@ cell (suc zero) w = header w
 cell (suc (suc zero)) w = payload w false
 cell (suc (suc (suc mark))) w = payload w true
 
--- a choice or a latch, of which the register holds one more
-abbrev pub output : ℕ → ℕ
-output zero = noOutput
-output (suc o) = o
+-- a choice, from its register or from the latch: one more than the output, 0 for none
+abbrev pub choiceIn : ℕ → Choice
+choiceIn zero = noOutput
+choiceIn (suc output) = toOutput output
 
 abbrev pub marked : ℕ → Bool
 marked zero = false
@@ -39,8 +39,8 @@ view s m = record {
   routers = record {
     link = λ node input. cell (reg s linkMark (at node input)) (reg s linkWord (at node input));
     head = λ node input. cell (reg s headMark (at node input)) (reg s headWord (at node input));
-    choice = λ node input. output (reg s choiceRow (at node input));
-    latch = λ node input. output (reg s latchRow (at node input));
+    choice = λ node input. choiceIn (reg s choiceRow (at node input));
+    latch = λ node input. choiceIn (reg s latchRow (at node input));
     out = λ node o. cell (reg s outMark (at node o)) (reg s outWord (at node o));
   };
   memory = λ node address. word m (node * room s + address);

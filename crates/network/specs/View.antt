@@ -17,17 +17,18 @@ sourceInput = 4
 abbrev pub memoryOutput : ℕ
 memoryOutput = 4
 
--- no output is chosen
-abbrev pub noOutput : ℕ
-noOutput = 5
+-- what is chosen for a word: no output, or one
+pub data Choice : Type 0 where
+  noOutput : Choice
+  toOutput : ℕ → Choice
 
--- the registers of the routers. By node and input: what came over the link; what left the header stage, with the output chosen for
--- it; the choice held for the packet's further words (the latch). By node and output: what left the crossbar, on that output's wire.
+-- the registers of the routers. By node and input: what came over the link; what left the header stage, with the choice for it;
+-- the choice held for the packet's further words (the latch). By node and output: what left the crossbar, on that output's wire.
 pub record Routers : Type 0 where
   pub link : ℕ → ℕ → Cell
   pub head : ℕ → ℕ → Cell
-  pub choice : ℕ → ℕ → ℕ
-  pub latch : ℕ → ℕ → ℕ
+  pub choice : ℕ → ℕ → Choice
+  pub latch : ℕ → ℕ → Choice
   pub out : ℕ → ℕ → Cell
 
 -- a circuit's sender: words of its transfer not sent yet (document 01's words left), the addresses of the next of them at the source

@@ -1,4 +1,5 @@
--- The crossbar of all nodes, input by input: what the two tables hold and whether two words have met, after so many inputs.
+-- The crossbar of all nodes, input by input: what the two tables hold, whether two words have met, and whether a payload word had no
+-- choice, after so many inputs.
 -- Assumes nothing.
 use Prim.Native.Nat.{ℕ, zero, suc, _+_, _*_, _/_, _%_, _<_, _≤_}
 use mathlib.Core.Bool.{Bool, true, false, false≢true}
@@ -11,15 +12,15 @@ use lib.ListN.{length}
 use Rattle.words.specs.Tests.{any, _and_, _or_, _≤?_, _<?_, _=?_}
 use Rattle.words.specs.Words.{word, pick, tab, countOf}
 use Rattle.words.proofs.AllLaws.{any-none, any-same}
-use Rattle.words.proofs.TestLaws.{and-no-right, is=, no=, yes=, yes≤, no≤}
+use Rattle.words.proofs.TestLaws.{and-no-right, or-on, is=, no=, yes=, yes≤, no≤}
 use Rattle.words.proofs.WordLaws.{countOf-more, length-tab, tab-at, tab-is}
 use Rattle.sheet.specs.Sheet.{nodes}
 use Rattle.network.specs.Registers.{reg, sheetIn, headMark, headWord, choiceRow}
-use Rattle.network.specs.Machine.{at, firstMark, firstWord, askedMark, nextOutMark, nextOutWord, collidesIn}
+use Rattle.network.specs.Machine.{at, firstMark, firstWord, askedMark, nextOutMark, nextOutWord, collidesIn, unchosenIn}
 use Rattle.network.proofs.FirstLaws.{word-empty}
-use Rattle.routers.specs.Crossing.{asking, Crossed}
+use Rattle.routers.specs.Crossing.{asking, unchosenAt, Crossed}
 use Rattle.routers.proofs.OrderLaws.{passed, passed-some, passed-own, passed-other, passed-start, passed-end, passed-over}
-use Rattle.routers.proofs.PlaceLaws.{any-by-node, any-or, same-pick, zero-pick, some-sum, two-more, or-no, and-yes}
+use Rattle.routers.proofs.PlaceLaws.{any-by-node, or-swap, any-or, same-pick, zero-pick, some-sum, two-more, or-no, and-yes}
 
 -- what the inputs of the node at a place ask of it, and the words that they have
 abbrev asked : List ℕ → ℕ → ℕ → ℕ
@@ -152,21 +153,27 @@ meets-step c mark a e = go (1 ≤? a)
     go true = ap (λ t. (2 ≤? c) or t) (and-yes (1 ≤? mark) ∙ sym e) ∙ sym (two-more c)
     go false = ap (λ t. (2 ≤? c) or t) (and-no-right (1 ≤? mark) false refl) ∙ sym (or-no (2 ≤? c))
 
+-- one number more
+any-next : (p : ℕ → Bool) (k : ℕ) → any k p or p k ≡ any (k + 1) p
+unfolding any
+any-next p k = rw add-one refl
+
 -- the first k inputs of n nodes are crossed
-pub record Crossing (s : List ℕ) (n k : ℕ) (marks cells : List ℕ) (hits : ℕ) : Type 0 where
+pub record Crossing (s : List ℕ) (n k : ℕ) (marks cells : List ℕ) (faults : ℕ) : Type 0 where
   pub inside : k ≤ n * 5
-  pub few : hits ≤ k
+  pub few : faults ≤ k
   pub marks-length : length marks ≡ 80
   pub cells-length : length cells ≡ 80
   pub marks-at : (p : ℕ) → p < 80 → word marks p ≡ firstMark (passed p k) (askedMark s (p / 5) (p % 5))
   pub cells-at : (p : ℕ) → p < 80
       → word cells p ≡ firstWord (passed p k) (askedMark s (p / 5) (p % 5)) (λ input. reg s headWord (at (p / 5) input))
-  pub met : (1 ≤? hits) ≡ any (n * 5) (λ p. 2 ≤? countOf (passed p k) (λ i. 1 ≤? askedMark s (p / 5) (p % 5) i))
+  pub met : (1 ≤? faults)
+      ≡ any (n * 5) (λ p. 2 ≤? countOf (passed p k) (λ i. 1 ≤? askedMark s (p / 5) (p % 5) i)) or any k (unchosenAt s)
 
 -- no input yet
 pub crossing-start : (s : List ℕ) (n : ℕ) (marks cells : List ℕ) → marks ≡ tab 80 (λ k. 0) → cells ≡ tab 80 (λ k. 0)
     → Crossing s n 0 marks cells 0
-unfolding firstMark firstWord countOf
+unfolding firstMark firstWord countOf any
 crossing-start s n marks cells m w = record {
   inside = omega arith;
   few = omega arith;
@@ -176,7 +183,9 @@ crossing-start s n marks cells m w = record {
       ap (λ t. word t p) m ∙ tab-at 80 (λ k. 0) p l ∙ sym (ap (λ i. firstMark i (asked s p)) (passed-start p));
   cells-at = λ p l.
       ap (λ t. word t p) w ∙ tab-at 80 (λ k. 0) p l ∙ sym (ap (λ i. firstWord i (asked s p) (words s p)) (passed-start p));
-  met = no≤ none ∙ sym (any-none (n * 5) _ (λ p l. ap (λ i. 2 ≤? countOf i (λ i. 1 ≤? asked s p i)) (passed-start p) ∙ no≤ less));
+  met =
+      no≤ none
+      ∙ or-on (any-none (n * 5) _ (λ p l. ap (λ i. 2 ≤? countOf i (λ i. 1 ≤? asked s p i)) (passed-start p) ∙ no≤ less)) refl;
 }
   where
     none : 0 < 1
@@ -186,9 +195,10 @@ crossing-start s n marks cells m w = record {
     less = omega arith
 
 -- one input more
-pub crossing-more : (s : List ℕ) (n k : ℕ) (marks cells marks′ cells′ : List ℕ) (hits hit : ℕ) → n * 5 < 81 → k < n * 5
-    → Crossing s n k marks cells hits → Crossed s k marks cells marks′ cells′ hit → Crossing s n (k + 1) marks′ cells′ (hits + hit)
-crossing-more s n k marks cells marks′ cells′ hits hit small l g x = record {
+pub crossing-more : (s : List ℕ) (n k : ℕ) (marks cells marks′ cells′ : List ℕ) (faults fault : ℕ) → n * 5 < 81 → k < n * 5
+    → Crossing s n k marks cells faults → Crossed s k marks cells marks′ cells′ fault
+    → Crossing s n (k + 1) marks′ cells′ (faults + fault)
+crossing-more s n k marks cells marks′ cells′ faults fault small l g x = record {
   inside = omega arith;
   few = omega (arith, x .one, g .few);
   marks-length = x .marks-length;
@@ -199,8 +209,8 @@ crossing-more s n k marks cells marks′ cells′ hits hit small l g x = record 
       ∙ ap₂ (λ (m w : ℕ). pick (m =? 0) (pick (asking s k p =? 0) w (reg s headWord k)) w) (g .marks-at p pl) (g .cells-at p pl)
       ∙ sym (word-step s p k);
   met =
-      some-sum hits hit ∙ ap₂ _or_ (g .met) (x .taken n l small) ∙ any-or (n * 5) _ _
-      ∙ any-same (n * 5) _ _ (λ p pl. at-place p (omega arith));
+      some-sum faults fault ∙ ap₂ _or_ (g .met) (x .found n l small) ∙ or-swap _ (any k (unchosenAt s)) _ (unchosenAt s k)
+      ∙ ap₂ _or_ (any-or (n * 5) _ _ ∙ any-same (n * 5) _ _ (λ p pl. at-place p (omega arith))) (any-next (unchosenAt s) k);
 }
   where
     at-place : (p : ℕ) → p < 80
@@ -212,7 +222,7 @@ crossing-more s n k marks cells marks′ cells′ hits hit small l g x = record 
         ∙ ap (λ c. 2 ≤? c) (sym (count-step s p k))
 
 -- all inputs
-module _ (s : List ℕ) (n k : ℕ) (marks cells : List ℕ) (hits : ℕ) (own : n ≡ nodes (sheetIn s)) (g : Crossing s n k marks cells hits)
+module _ (s : List ℕ) (n k : ℕ) (marks cells : List ℕ) (faults : ℕ) (own : n ≡ nodes (sheetIn s)) (g : Crossing s n k marks cells faults)
     (over : n * 5 ≤ k) where
   whole : k ≡ n * 5
   whole = omega arith
@@ -233,11 +243,14 @@ module _ (s : List ℕ) (n k : ℕ) (marks cells : List ℕ) (hits : ℕ) (own :
       let fold : ℕ → ℕ = λ i. firstWord i (asked s p) (words s p) in
       g .cells-at p l ∙ ap (λ i. fold (passed p i)) whole ∙ passed-over fold p n (nodes (sheetIn s)) own refl)
 
-  pub crossed-met : (1 ≤? hits) ≡ any (nodes (sheetIn s)) (λ node. any 5 (collidesIn s node))
-  unfolding collidesIn
+  pub crossed-met : (1 ≤? faults)
+      ≡ any (nodes (sheetIn s)) (λ node. any 5 (collidesIn s node)) or any (nodes (sheetIn s)) (λ node. any 5 (unchosenIn s node))
+  unfolding collidesIn unchosenIn unchosenAt
   crossed-met =
-      g .met ∙ any-by-node _ n ∙ any-same n _ _ (λ node nl. any-same 5 _ _ (λ o ol. at-place node o nl ol))
-      ∙ ap (λ m. any m (λ node. any 5 (collidesIn s node))) own
+      g .met
+      ∙ ap₂ _or_ (any-by-node _ n ∙ any-same n _ _ (λ node nl. any-same 5 _ _ (λ o ol. at-place node o nl ol)))
+      (ap (λ m. any m (unchosenAt s)) whole ∙ any-by-node (unchosenAt s) n)
+      ∙ ap (λ m. any m (λ node. any 5 (collidesIn s node)) or any m (λ node. any 5 (unchosenIn s node))) own
     where
       at-place : (node o : ℕ) → node < n → o < 5
           → (2 ≤? countOf (passed (at node o) k) (λ i. 1 ≤? asked s (at node o) i)) ≡ collidesIn s node o

@@ -1,5 +1,5 @@
 pub mod PlaceLaws
-pub mod HeadlessLaws
+pub mod UnheldLaws
 pub mod InputLaws
 pub mod OrderLaws
 pub mod CrossLaws

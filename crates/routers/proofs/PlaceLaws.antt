@@ -41,7 +41,7 @@ any-by-node p (suc n) =
     ap (λ m. any m p) e ∙ any-split p (n * 5) 5 ∙ ap (λ t. t or any 5 (λ i. p (n * 5 + i))) (any-by-node p n)
 
 -- some number passes one of two tests
-or-swap : (a b c d : Bool) → (a or b) or (c or d) ≡ (a or c) or (b or d)
+pub or-swap : (a b c d : Bool) → (a or b) or (c or d) ≡ (a or c) or (b or d)
 unfolding _or_
 or-swap true b c d = refl
 or-swap false true true d = refl

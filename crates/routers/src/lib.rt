@@ -4,13 +4,13 @@ ghost use mathlib.Core.Path.{_≡_};
 ghost use Prim.Native.Nat.{_*_, _/_, _%_, _<_, _≤_};
 ghost use mathlib.Core.List.{[]};
 ghost use lib.ListN.{length};
-ghost use Rattle.words.specs.Tests.{any, _and_, _≤?_, _<?_, _=?_};
+ghost use Rattle.words.specs.Tests.{any, _and_, _or_, _≤?_, _<?_, _=?_};
 ghost use Rattle.words.specs.Words.{pick, tab};
 ghost use Rattle.torus.specs.Torus.{InGrid};
 ghost use Rattle.sheet.specs.Sheet.{nodes as nodeCount};
 ghost use Rattle.sheet.specs.Passed.{Headed};
 ghost use Rattle.network.specs.Registers.{reg as regOf, sheetIn, movingWords, linkMark, linkWord, latchRow};
-ghost use Rattle.network.specs.Machine.{nextChoice, nextOutMark, nextOutWord, collidesIn, headlessIn, nextInRow};
+ghost use Rattle.network.specs.Machine.{nextChoice, nextOutMark, nextOutWord, collidesIn, unheldIn, unchosenIn, nextInRow};
 ghost use Rattle.network.specs.Stages.{stage, linkFrom, outFrom};
 ghost use Rattle.routers.specs.Crossing.{Crossed};
 ghost use Rattle.routers.specs.Stepping.{linked, linkedBy, headed};
@@ -21,8 +21,8 @@ use network::reg;
 // were more, so that a compiler knows every place to be in its row, and leaves out the test at each access.
 const MOST_NODES: u32 = 16;
 
-// The word in link register k is payload, and no header has set the latch that would steer it.
-fn is_headless(s: &[u32], k: u32) -> bool
+// The word in link register k is payload, and the latch holds no choice for it.
+fn is_unheld(s: &[u32], k: u32) -> bool
     ensures { λ r. ⌜ r ≡ (2 ≤? regOf (now (s .entry)) linkMark k and regOf (now (s .entry)) latchRow k =? 0) ⌝ }
 {
     if reg(s, network::LINK_MARK, k) < 2 {
@@ -31,17 +31,17 @@ fn is_headless(s: &[u32], k: u32) -> bool
     reg(s, network::LATCH_ROW, k) == 0
 }
 
-// Number 20: some router's payload word has no latch to steer it. A cycle, which knows its nodes, meets the requires, here and below.
-pub fn has_headless(s: &[u32], count: u32) -> bool
+// Number 20: some payload word in a link register finds no choice held. A cycle, which knows its nodes, meets the requires, here and below.
+pub fn has_unheld(s: &[u32], count: u32) -> bool
     requires { ⌜ (count ≡ nodeCount (sheetIn (now s)) * 5) × (count ≤ 80) ⌝ }
-    ensures { λ r. ⌜ r ≡ any (nodeCount (sheetIn (now (s .entry)))) (λ node. any 5 (headlessIn (now (s .entry)) node)) ⌝ }
+    ensures { λ r. ⌜ r ≡ any (nodeCount (sheetIn (now (s .entry)))) (λ node. any 5 (unheldIn (now (s .entry)) node)) ⌝ }
 {
     if network::ROW_WORDS < count as usize {
         return false;
     }
     let mut k: u32 = 0;
     while k < count {
-        if is_headless(s, k) {
+        if is_unheld(s, k) {
             return true;
         }
         k += 1;
@@ -49,7 +49,8 @@ pub fn has_headless(s: &[u32], count: u32) -> bool
     false
 }
 
-// The word of input k goes to the output that was chosen for it, where no other word is yet; 1 where one is, else 0.
+// The word of input k goes to the output that was chosen for it, where no other word is yet; 1 where one is, or where a payload word has
+// no choice, else 0.
 fn cross_input(s: &[u32], k: u32, marks: &mut [u32], cells: &mut [u32]) -> u32
     requires { ⌜ (k < 80) × (length (now marks) ≡ 80) × (length (now cells) ≡ 80) ⌝ }
     ensures { λ r. ⌜ Crossed (now (s .entry)) k (now (marks .entry)) (now (cells .entry)) (now (marks .exit)) (now (cells .exit)) r ⌝ }
@@ -60,7 +61,10 @@ fn cross_input(s: &[u32], k: u32, marks: &mut [u32], cells: &mut [u32]) -> u32
     }
     let choice = reg(s, network::CHOICE_ROW, k);
     if choice == 0 {
-        return 0;
+        if mark < 2 {
+            return 0;
+        }
+        return 1;
     }
     if network::OUTPUTS < choice {
         return 0;
@@ -74,11 +78,11 @@ fn cross_input(s: &[u32], k: u32, marks: &mut [u32], cells: &mut [u32]) -> u32
     0
 }
 
-// The crossbar of all nodes: what goes on each output, into two lent tables of zeros. Number 20: two words want one output; the first
-// stays.
+// The crossbar of all nodes: what goes on each output, into two lent tables of zeros. Number 20: two words want one output, of which the
+// first stays, or a payload word left the header stage with no choice.
 pub fn cross(s: &[u32], nodes: u32, marks: &mut [u32], cells: &mut [u32]) -> bool
     requires { ⌜ (nodes ≡ nodeCount (sheetIn (now s))) × (nodes ≤ 16) × (now marks ≡ tab 80 (λ k. 0)) × (now cells ≡ tab 80 (λ k. 0)) ⌝ }
-    ensures collision { λ r. ⌜ r ≡ any (nodeCount (sheetIn (now (s .entry)))) (λ node. any 5 (collidesIn (now (s .entry)) node)) ⌝ }
+    ensures fault { λ r. ⌜ r ≡ (any (nodeCount (sheetIn (now (s .entry)))) (λ node. any 5 (collidesIn (now (s .entry)) node)) or any (nodeCount (sheetIn (now (s .entry)))) (λ node. any 5 (unchosenIn (now (s .entry)) node))) ⌝ }
     ensures marks { λ _. ⌜ now (marks .exit) ≡ tab 80 (λ k. pick (k <? nodeCount (sheetIn (now (s .entry))) * 5) (nextOutMark (now (s .entry)) (k / 5) (k % 5)) 0) ⌝ }
     ensures cells { λ _. ⌜ now (cells .exit) ≡ tab 80 (λ k. pick (k <? nodeCount (sheetIn (now (s .entry))) * 5) (nextOutWord (now (s .entry)) (k / 5) (k % 5)) 0) ⌝ }
 {
@@ -86,13 +90,13 @@ pub fn cross(s: &[u32], nodes: u32, marks: &mut [u32], cells: &mut [u32]) -> boo
     if network::ROW_WORDS < count as usize {
         return false;
     }
-    let mut hits: u32 = 0;
+    let mut faults: u32 = 0;
     let mut k: u32 = 0;
     while k < count {
-        hits += cross_input(s, k, marks, cells);
+        faults += cross_input(s, k, marks, cells);
         k += 1;
     }
-    1 <= hits
+    1 <= faults
 }
 
 // The output chosen for the word in link register k: a header's own, a payload word's by the latch; one more than it, 0 for none.

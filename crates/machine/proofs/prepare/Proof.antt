@@ -3,7 +3,7 @@
 use Rattle.machine.proofs.PrepareLaws.{count-is, count-few, counted, own-paired, own-sendable, own-ascending, faulty-answer, tables}
 use mathlib.Core.Path.{sym, _∙_}
 use native.Mathlib.Omega.{arith}
-use Rattle.machine.proofs.FaultLaws.{fault-collided, fault-headless, fault-wires, fault-last}
+use Rattle.machine.proofs.FaultLaws.{fault-crossed, fault-unheld, fault-wires, fault-last}
 use borrow.Author.Needs.{needs}
 use Rattle.machine.proofs.prepare.Statement.{statement}
 use Rattle.machine.proofs.prepare.Tie as tie
@@ -30,13 +30,13 @@ same-length-2 : tie.Need-same-length-2
 same-length-2 c = search needs
 
 returns : tie.Need-returns
-returns c = faulty-answer _ _ (fault-collided _ (sym (c .before .before .before .before .before .cross .ensures .0) ∙ c .if1 .taken))
+returns c = faulty-answer _ _ (fault-crossed _ (sym (c .before .before .before .before .before .cross .ensures .0) ∙ c .if1 .taken))
 
-mul-has-headless : tie.Need-mul-has-headless
-mul-has-headless c = omega (arith, count-few (c .before .before .before .before .before .before .before .before .before .before .before .before .before .before .before .before .before .before .pre .0) (c .before .before .before .before .before .before .before .before .before .before .sheet-of .ensures) (c .before .before .before .before .before .before .before .before .before .get .ensures) (c .before .before .before .before .before .before .before .before .get2 .ensures))
+mul-has-unheld : tie.Need-mul-has-unheld
+mul-has-unheld c = omega (arith, count-few (c .before .before .before .before .before .before .before .before .before .before .before .before .before .before .before .before .before .before .pre .0) (c .before .before .before .before .before .before .before .before .before .before .sheet-of .ensures) (c .before .before .before .before .before .before .before .before .before .get .ensures) (c .before .before .before .before .before .before .before .before .get2 .ensures))
 
-has-headless-requires : tie.Need-has-headless-requires
-has-headless-requires c κs = let few = count-few (c .before .before .before .before .before .before .before .before .before .before .before .before .before .before .before .before .before .before .pre .0) (c .before .before .before .before .before .before .before .before .before .before .sheet-of .ensures) (c .before .before .before .before .before .before .before .before .before .get .ensures) (c .before .before .before .before .before .before .before .before .get2 .ensures) in (omega (arith, count-is (c .before .before .before .before .before .before .before .before .before .before .before .before .before .before .before .before .before .before .pre .0) (c .before .before .before .before .before .before .before .before .before .before .sheet-of .ensures) (c .before .before .before .before .before .before .before .before .before .get .ensures) (c .before .before .before .before .before .before .before .before .get2 .ensures)), omega (arith, few))
+has-unheld-requires : tie.Need-has-unheld-requires
+has-unheld-requires c κs = let few = count-few (c .before .before .before .before .before .before .before .before .before .before .before .before .before .before .before .before .before .before .pre .0) (c .before .before .before .before .before .before .before .before .before .before .sheet-of .ensures) (c .before .before .before .before .before .before .before .before .before .get .ensures) (c .before .before .before .before .before .before .before .before .get2 .ensures) in (omega (arith, count-is (c .before .before .before .before .before .before .before .before .before .before .before .before .before .before .before .before .before .before .pre .0) (c .before .before .before .before .before .before .before .before .before .before .sheet-of .ensures) (c .before .before .before .before .before .before .before .before .before .get .ensures) (c .before .before .before .before .before .before .before .before .get2 .ensures)), omega (arith, few))
 
 same-length-3 : tie.Need-same-length-3
 same-length-3 c = search needs
@@ -45,7 +45,7 @@ same-length-4 : tie.Need-same-length-4
 same-length-4 c = search needs
 
 returns-2 : tie.Need-returns-2
-returns-2 c = faulty-answer _ _ (fault-headless _ (sym (c .before .before .before .before .before .before .before .cross .ensures .0) ∙ c .before .before .if1 .left) (sym (c .before .has-headless .ensures) ∙ c .if2 .taken))
+returns-2 c = faulty-answer _ _ (fault-unheld _ (sym (c .before .before .before .before .before .before .before .cross .ensures .0) ∙ c .before .before .if1 .left) (sym (c .before .has-unheld .ensures) ∙ c .if2 .taken))
 
 slots-now-requires : tie.Need-slots-now-requires
 slots-now-requires c κs = (own-paired (c .before .before .before .before .before .before .before .before .before .before .before .before .before .before .before .before .before .before .before .before .before .pre .0) (c .before .before .before .before .before .before .before .before .before .before .before .before .before .sheet-of .ensures), own-ascending (c .before .before .before .before .before .before .before .before .before .before .before .before .before .before .before .before .before .before .before .before .before .pre .0) (c .before .before .before .before .before .before .before .before .before .before .before .before .before .sheet-of .ensures), c .before .before .before .before .before .before .before .before .before .before .before .before .before .before .before .before .before .before .before .before .before .pre .1 .slot)
@@ -69,7 +69,7 @@ same-length-9 : tie.Need-same-length-9
 same-length-9 c = search needs
 
 returns-3 : tie.Need-returns-3
-returns-3 c = faulty-answer _ _ (fault-wires _ (sym (c .before .before .before .before .before .before .before .before .before .before .before .before .before .before .before .before .before .before .before .before .cross .ensures .0) ∙ c .before .before .before .before .before .before .before .before .before .before .before .before .before .before .before .if1 .left) (sym (c .before .before .before .before .before .before .before .before .before .before .before .before .before .before .has-headless .ensures) ∙ c .before .before .before .before .before .before .before .before .before .before .before .before .before .if2 .left) (sym (c .before .before .before .before .before .source-wires .ensures .0) ∙ c .if3 .taken))
+returns-3 c = faulty-answer _ _ (fault-wires _ (sym (c .before .before .before .before .before .before .before .before .before .before .before .before .before .before .before .before .before .before .before .before .cross .ensures .0) ∙ c .before .before .before .before .before .before .before .before .before .before .before .before .before .before .before .if1 .left) (sym (c .before .before .before .before .before .before .before .before .before .before .before .before .before .before .has-unheld .ensures) ∙ c .before .before .before .before .before .before .before .before .before .before .before .before .before .if2 .left) (sym (c .before .before .before .before .before .source-wires .ensures .0) ∙ c .if3 .taken))
 
 get-requires-3 : tie.Need-get-requires-3
 get-requires-3 c κs = search needs
@@ -93,7 +93,7 @@ same-length-14 : tie.Need-same-length-14
 same-length-14 c = search needs
 
 returns-4 : tie.Need-returns-4
-returns-4 c = (fault-last _ (sym (c .before .before .before .before .before .before .before .before .before .before .before .before .before .before .before .before .before .before .before .before .before .before .cross .ensures .0) ∙ c .before .before .before .before .before .before .before .before .before .before .before .before .before .before .before .before .before .if1 .left) (sym (c .before .before .before .before .before .before .before .before .before .before .before .before .before .before .before .before .has-headless .ensures) ∙ c .before .before .before .before .before .before .before .before .before .before .before .before .before .before .before .if2 .left) (sym (c .before .before .before .before .before .before .before .source-wires .ensures .0) ∙ c .before .before .if3 .left) _ (c .has-stray .ensures), (λ h. tables (c .before .before .before .before .before .before .before .before .before .before .before .before .before .slots-now .ensures) (c .before .before .before .before .before .before .before .source-wires .ensures .1 .0) (c .before .before .before .before .before .before .before .source-wires .ensures .1 .1) (c .before .before .before .before .before .before .before .before .before .before .before .before .before .before .before .before .before .before .before .before .before .before .cross .ensures .1 .0) (c .before .before .before .before .before .before .before .before .before .before .before .before .before .before .before .before .before .before .before .before .before .before .cross .ensures .1 .1), λ h. sym (c .has-stray .ensures) ∙ h))
+returns-4 c = (fault-last _ (sym (c .before .before .before .before .before .before .before .before .before .before .before .before .before .before .before .before .before .before .before .before .before .before .cross .ensures .0) ∙ c .before .before .before .before .before .before .before .before .before .before .before .before .before .before .before .before .before .if1 .left) (sym (c .before .before .before .before .before .before .before .before .before .before .before .before .before .before .before .before .has-unheld .ensures) ∙ c .before .before .before .before .before .before .before .before .before .before .before .before .before .before .before .if2 .left) (sym (c .before .before .before .before .before .before .before .source-wires .ensures .0) ∙ c .before .before .if3 .left) _ (c .has-stray .ensures), (λ h. tables (c .before .before .before .before .before .before .before .before .before .before .before .before .before .slots-now .ensures) (c .before .before .before .before .before .before .before .source-wires .ensures .1 .0) (c .before .before .before .before .before .before .before .source-wires .ensures .1 .1) (c .before .before .before .before .before .before .before .before .before .before .before .before .before .before .before .before .before .before .before .before .before .before .cross .ensures .1 .0) (c .before .before .before .before .before .before .before .before .before .before .before .before .before .before .before .before .before .before .before .before .before .before .cross .ensures .1 .1), λ h. sym (c .has-stray .ensures) ∙ h))
 
 pub prepare-spec : {M : Type 1} → statement M
 prepare-spec =
@@ -107,8 +107,8 @@ prepare-spec =
     same-length
     same-length-2
     returns
-    mul-has-headless
-    has-headless-requires
+    mul-has-unheld
+    has-unheld-requires
     same-length-3
     same-length-4
     returns-2

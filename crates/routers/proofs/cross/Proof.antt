@@ -1,5 +1,5 @@
 -- `routers::cross` meets its contract: in the loop the tables have the first mark and word of each output among the inputs before `k`, and
--- `hits` is not 0 where two of those inputs ask for one output.
+-- `faults` is not 0 where two of those inputs ask for one output or one of them has a payload word without a choice.
 -- Assumes nothing.
 use native.Mathlib.Omega.{arith}
 use Prim.Native.Nat.{_-_, _*_}
@@ -10,10 +10,10 @@ use Rattle.routers.proofs.cross.Statement.{statement}
 use Rattle.routers.proofs.cross.Tie as tie
 
 abbrev Inv-loop : tie.InvT-loop
-Inv-loop s nodes marks₀ cells₀ count hits₀ k₀ marks cells hits k = (count ≡ nodes * 5) × Crossing s nodes k marks cells hits
+Inv-loop s nodes marks₀ cells₀ count faults₀ k₀ marks cells faults k = (count ≡ nodes * 5) × Crossing s nodes k marks cells faults
 
 abbrev μ-loop : tie.MeasureT-loop
-μ-loop s nodes marks₀ cells₀ count hits₀ k₀ marks cells hits k = count - k
+μ-loop s nodes marks₀ cells₀ count faults₀ k₀ marks cells faults k = count - k
 
 mul-count : tie.Need-mul-count Inv-loop μ-loop
 mul-count c = omega arith
@@ -30,8 +30,8 @@ loop-holds c = (refl, crossing-start _ _ _ _ (c .before .before .before .before 
 cross-input-requires : tie.Need-cross-input-requires Inv-loop μ-loop
 cross-input-requires c κs = (omega arith, c .before .before .before .loop .inv .1 .marks-length, c .before .before .before .loop .inv .1 .cells-length)
 
-add-hits : tie.Need-add-hits Inv-loop μ-loop
-add-hits c = omega (arith, c .before .before .before .before .cross-input .ensures .one)
+add-faults : tie.Need-add-faults Inv-loop μ-loop
+add-faults c = omega (arith, c .before .before .before .before .cross-input .ensures .one)
 
 add-k : tie.Need-add-k Inv-loop μ-loop
 add-k c = omega arith
@@ -63,7 +63,7 @@ cross-spec =
     returns
     loop-holds
     cross-input-requires
-    add-hits
+    add-faults
     add-k
     loop-less
     loop-again

@@ -1,8 +1,9 @@
 -- `routers::cross_input` meets its contract: an input asks for one output at most, whose place is computed; the tables change there alone.
+-- Where it asks for none, only a payload word that has no choice is a fault.
 -- Assumes nothing.
 use mathlib.Core.Path.{refl}
 use native.Mathlib.Omega.{arith}
-use Rattle.routers.proofs.InputLaws.{asks-empty, asks-none, asks-past, crossed-none, crossed-hit, crossed-first}
+use Rattle.routers.proofs.InputLaws.{no-payload, chosen, unchosen, asks-empty, asks-none, asks-past, crossed-none, crossed-unchosen, crossed-hit, crossed-first}
 use borrow.Author.Needs.{needs}
 use Rattle.routers.proofs.cross_input.Statement.{statement}
 use Rattle.routers.proofs.cross_input.Tie as tie
@@ -11,16 +12,19 @@ reg-requires : tie.Need-reg-requires
 reg-requires c κs = search needs
 
 returns : tie.Need-returns
-returns c = crossed-none _ _ _ _ (c .before .before .before .before .before .pre .1) (c .before .before .before .before .before .pre .2) (asks-empty _ _ _ (c .before .reg .ensures) (c .if1 .taken))
+returns c = crossed-none _ _ _ _ (c .before .before .before .before .before .pre .1) (c .before .before .before .before .before .pre .2) (no-payload _ _ _ (c .before .reg .ensures) (omega arith)) (asks-empty _ _ _ (c .before .reg .ensures) (omega arith))
 
 reg-requires-2 : tie.Need-reg-requires-2
 reg-requires-2 c κs = search needs
 
 returns-2 : tie.Need-returns-2
-returns-2 c = crossed-none _ _ _ _ (c .before .before .before .before .before .before .before .pre .1) (c .before .before .before .before .before .before .before .pre .2) (asks-none _ _ _ (c .before .reg2 .ensures) (c .if2 .taken))
+returns-2 c = crossed-none _ _ _ _ (c .before .before .before .before .before .before .before .before .pre .1) (c .before .before .before .before .before .before .before .before .pre .2) (no-payload _ _ _ (c .before .before .before .before .reg .ensures) (omega arith)) (asks-none _ _ _ (c .before .before .reg2 .ensures) (omega arith))
 
 returns-3 : tie.Need-returns-3
-returns-3 c = crossed-none _ _ _ _ (c .before .before .before .before .before .before .before .before .pre .1) (c .before .before .before .before .before .before .before .before .pre .2) (asks-past _ _ _ (c .before .before .reg2 .ensures) (omega arith))
+returns-3 c = crossed-unchosen _ _ _ _ (c .before .before .before .before .before .before .before .before .pre .1) (c .before .before .before .before .before .before .before .before .pre .2) (unchosen _ _ _ (c .before .before .reg2 .ensures) (omega arith) _ (c .before .before .before .before .reg .ensures) (omega arith)) (asks-none _ _ _ (c .before .before .reg2 .ensures) (omega arith))
+
+returns-4 : tie.Need-returns-4
+returns-4 c = crossed-none _ _ _ _ (c .before .before .before .before .before .before .before .before .pre .1) (c .before .before .before .before .before .before .before .before .pre .2) (chosen _ _ _ (c .before .before .reg2 .ensures) (omega arith)) (asks-past _ _ _ (c .before .before .reg2 .ensures) (omega arith))
 
 mul-place : tie.Need-mul-place
 mul-place c = search needs
@@ -40,8 +44,8 @@ get-requires c κs = search needs
 same-length : tie.Need-same-length
 same-length c = search needs
 
-returns-4 : tie.Need-returns-4
-returns-4 c = crossed-hit _ _ _ _ (c .before .before .before .before .before .before .before .before .before .before .before .pre .1) (c .before .before .before .before .before .before .before .before .before .before .before .pre .2) _ (c .before .before .before .before .before .before .before .reg .ensures) (c .before .before .before .before .before .before .if1 .left) _ (c .before .before .before .before .before .reg2 .ensures) (omega arith) (omega arith) (c .before .before .before .before .before .before .before .before .before .before .before .pre .0) _ refl _ (c .before .get .ensures) (c .if4 .taken)
+returns-5 : tie.Need-returns-5
+returns-5 c = crossed-hit _ _ _ _ (c .before .before .before .before .before .before .before .before .before .before .before .pre .1) (c .before .before .before .before .before .before .before .before .before .before .before .pre .2) _ (c .before .before .before .before .before .before .before .reg .ensures) (c .before .before .before .before .before .before .if1 .left) _ (c .before .before .before .before .before .reg2 .ensures) (omega arith) (omega arith) (c .before .before .before .before .before .before .before .before .before .before .before .pre .0) _ refl _ (c .before .get .ensures) (c .if5 .taken)
 
 put-requires : tie.Need-put-requires
 put-requires c κs = search needs
@@ -58,8 +62,8 @@ same-length-2 c = search needs
 same-length-3 : tie.Need-same-length-3
 same-length-3 c = search needs
 
-returns-5 : tie.Need-returns-5
-returns-5 c = crossed-first _ _ _ _ (c .before .before .before .before .before .before .before .before .before .before .before .before .before .before .before .before .before .before .before .before .pre .1) (c .before .before .before .before .before .before .before .before .before .before .before .before .before .before .before .before .before .before .before .before .pre .2) _ (c .before .before .before .before .before .before .before .before .before .before .before .before .before .before .before .before .reg .ensures) (c .before .before .before .before .before .before .before .before .before .before .before .before .before .before .before .if1 .left) _ (c .before .before .before .before .before .before .before .before .before .before .before .before .before .before .reg2 .ensures) (omega arith) (omega arith) (c .before .before .before .before .before .before .before .before .before .before .before .before .before .before .before .before .before .before .before .before .pre .0) _ refl _ (c .before .before .before .before .before .before .before .before .before .before .get .ensures) (omega arith) _ (c .before .before .before .reg3 .ensures) _ _ (c .before .before .before .before .before .before .before .put .ensures) (c .before .before .put2 .ensures)
+returns-6 : tie.Need-returns-6
+returns-6 c = crossed-first _ _ _ _ (c .before .before .before .before .before .before .before .before .before .before .before .before .before .before .before .before .before .before .before .before .pre .1) (c .before .before .before .before .before .before .before .before .before .before .before .before .before .before .before .before .before .before .before .before .pre .2) _ (c .before .before .before .before .before .before .before .before .before .before .before .before .before .before .before .before .reg .ensures) (c .before .before .before .before .before .before .before .before .before .before .before .before .before .before .before .if1 .left) _ (c .before .before .before .before .before .before .before .before .before .before .before .before .before .before .reg2 .ensures) (omega arith) (omega arith) (c .before .before .before .before .before .before .before .before .before .before .before .before .before .before .before .before .before .before .before .before .pre .0) _ refl _ (c .before .before .before .before .before .before .before .before .before .before .get .ensures) (omega arith) _ (c .before .before .before .reg3 .ensures) _ _ (c .before .before .before .before .before .before .before .put .ensures) (c .before .before .put2 .ensures)
 
 pub cross-input-spec : {M : Type 1} → statement M
 cross-input-spec =
@@ -70,16 +74,17 @@ cross-input-spec =
     reg-requires-2
     returns-2
     returns-3
+    returns-4
     mul-place
     add-place
     sub-place
     cast-place
     get-requires
     same-length
-    returns-4
+    returns-5
     put-requires
     reg-requires-3
     put-requires-2
     same-length-2
     same-length-3
-    returns-5)
+    returns-6)
