@@ -395,7 +395,7 @@ module _ (z : List ℕ) (B : SheetBounds z) (W : Ways z) (S : ℕ → View) (J :
   only-strays T landings =
       or-none
       (any-none (nodes z) _ (λ node n.
-      or-none (any-none ports _ (λ output o. none-collides z F paths T (S T) (holds T) no-clash node output n))
-      (or-none (any-none ports _ (λ input i. none-headless z F paths T (S T) (holds T) node input n i))
+      or-none (any-none ports _ (λ output o. none-collides z F T (S T) (holds T) no-clash node output n))
+      (or-none (any-none ports _ (λ input i. none-headless z F T (S T) (holds T) node input n i))
       (or-none (none-crowds T node) (landings node n)))))
       (any-none (circuits z) _ (λ circuit c. none-reopens T circuit c))

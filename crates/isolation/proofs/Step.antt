@@ -6,12 +6,11 @@ use mathlib.Core.List.{List}
 use mathlib.Core.Path.{_≡_, refl, sym, _∙_, ap, ap₂}
 use native.Mathlib.Decide.{ℕ-discrete}
 use native.Mathlib.Omega.{arith}
-use Rattle.words.specs.Tests.{_=?_}
 use Rattle.words.proofs.TestLaws.{yes=, no=, is=}
 use Rattle.torus.specs.Torus.{neighbourOf, oppositeOf}
 use Rattle.sheet.specs.Sheet.{columns, rows, nodes}
 use Rattle.sheet.specs.Passed.{Headed}
-use Rattle.network.specs.View.{Cell, empty, header, Choice, toOutput, sourceInput, memoryOutput, Routers}
+use Rattle.network.specs.View.{Cell, empty, header, toOutput, sourceInput, memoryOutput, Routers}
 use Rattle.network.specs.Cycle.{advance, goesTo, asks, stepRouters, isFull, isPayload, isNone}
 use Rattle.isolation.proofs.CellLaws.{not-full, payload-full, advance-full, pick-passes, pick-full, gather-one, gather-full}
 use Rattle.torus.proofs.NeighbourLaws.{opposite-side, opposite-back}
@@ -68,7 +67,7 @@ module _ (z : List ℕ) (F : Flights) (P : Paths z F) where
   advance-word f k zero = ap header (sym (P .next-header f k))
   advance-word f k (suc j) = refl
 
-module _ (z : List ℕ) (F : Flights) (P : Paths z F) (T : ℕ) (r : Routers) (h : Holds z F T r) where
+module _ (z : List ℕ) (F : Flights) (T : ℕ) (r : Routers) (h : Holds z F T r) where
   -- the choice beside a word in the header stage is its flight's output
   chosen-at : (node input : ℕ) (w : Found F T headStage (F .input) node input)
       → r .choice node input ≡ toOutput (F .output (w .flight) (w .router))
@@ -253,14 +252,14 @@ module _ (z : List ℕ) (H : Headed z) (F : Flights) (P : Paths z F) (clash : No
       others m l ne =
           not-full (asks r (F .node f k) (F .output f k) m)
           (λ q. ne
-          (one-asks z F P T r h clash (F .node f k) (F .output f k) m (F .input f k) (P .in-grid f k (s .on-way)) l port q full))
+          (one-asks z F T r h clash (F .node f k) (F .output f k) m (F .input f k) (P .in-grid f k (s .on-way)) l port q full))
 
   out-next-only : (node output : ℕ) → node < nodes z → output < ports → isFull (stepRouters z wire r .out node output) ≡ true
       → Found F (suc T) outStage (F .output) node output
   unfolding stepRouters
   out-next-only node output n o full =
       let at = gather-full ports (asks r node output) full in
-      let a = asked z F P T r h node output (at .place) n (at .below) (at .full) in
+      let a = asked z F T r h node output (at .place) n (at .below) (at .full) in
       let w = a .0 in
       record {
         flight = w .flight;

@@ -1,10 +1,10 @@
 -- What one input does to the two tables of the outputs' marks and words. Nobody has to believe this: the crossbar's own contract says
 -- what the tables hold in the end.
 use Prim.Native.Nat.{ℕ, _+_, _*_, _/_, _%_, _<_}
+use mathlib.Core.Bool.{Bool}
 use mathlib.Core.Path.{_≡_}
 use mathlib.Core.List.{List}
 use lib.ListN.{length}
-use mathlib.Core.Bool.{Bool}
 use Rattle.words.specs.Tests.{any, _and_, _or_, _≤?_, _=?_}
 use Rattle.words.specs.Words.{word, pick}
 use Rattle.network.specs.Registers.{reg, headMark, headWord, choiceRow}
