@@ -6,7 +6,7 @@ use super::lent::{
     Clause, Row, CYCLE, MOST_SHEET_WORDS, ORDER_MARK, ORDER_PERIOD, ORDER_SCHEDULE, PERIOD_NUMBER, ROW_WORDS, SCHEDULE,
     SHEET, SHEET_LENGTH, STATE_WORDS,
 };
-use super::machine::{Fault, DATA, EMPTY, HEADER, INTERRUPT, LAST, MEMORY, PAYLOAD, PORTS};
+use super::machine::{Fault, DATA, EMPTY, HEADER, INTERRUPT, LAST, MEMORY, MOST_NODES, PAYLOAD, PORTS, SOURCE};
 use super::near_misses::add_fault;
 use super::sheets::{sheet_a, Circuit, Entry, Plan, Random, Schedule};
 
@@ -26,6 +26,15 @@ pub struct HandMade {
     pub name: &'static str,
     pub pokes: Vec<(usize, u32)>,
     pub expected: Expected,
+}
+
+/// A cycle on words written over a load, its number, and what then differs from the load.
+pub struct HandMadeCycle {
+    pub name: &'static str,
+    pub plan: Plan,
+    pub pokes: Vec<(usize, u32)>,
+    pub number: u32,
+    pub after: Vec<(usize, u32)>,
 }
 
 const LARGEST: u32 = u32::MAX;
@@ -94,6 +103,7 @@ pub fn hand_made_states() -> Vec<HandMade> {
     output_collisions(&mut all);
     source_collisions(&mut all);
     missing_headers(&mut all);
+    missing_choices(&mut all);
     all.states
 }
 
@@ -270,8 +280,8 @@ fn output_collisions(all: &mut Collection) {
             }
         }
     }
-    let nowhere = [head(0, PAYLOAD, 0), head(1, HEADER, 0)].concat();
-    all.add("two words want no output", nowhere, Expected::CarriedOut);
+    let nowhere = [head(0, HEADER, 0), head(1, HEADER, 0)].concat();
+    all.add("two headers want no output", nowhere, Expected::CarriedOut);
 }
 
 fn cycle(cycle: u32) -> Vec<(usize, u32)> {
@@ -333,7 +343,7 @@ fn missing_headers(all: &mut Collection) {
             vec![(Row::LinkMark.of_port(node, port), mark), (Row::Latch.of_port(node, port), latch)]
         };
         for mark in [PAYLOAD, LAST] {
-            let without = Expected::Faulty(Fault::PayloadWithoutChoice);
+            let without = Expected::Faulty(Fault::PayloadWithoutLatch);
             all.add("payload without a choice held", link(mark, 0), without);
             for latch in 1..=5 {
                 all.add("payload with a choice held", link(mark, latch), Expected::CarriedOut);
@@ -359,4 +369,89 @@ fn missing_headers(all: &mut Collection) {
             }
         }
     }
+}
+
+/// A word that left the header stage, beside its choice.
+fn leaves(node: usize, port: usize, mark: u32, choice: u32) -> Vec<(usize, u32)> {
+    vec![
+        (Row::HeadMark.of_port(node, port), mark),
+        (Row::HeadWord.of_port(node, port), leaving_word(mark)),
+        (Row::Choice.of_port(node, port), choice),
+    ]
+}
+
+/// A header's kind has to be sound; any other word is free.
+fn leaving_word(mark: u32) -> u32 {
+    match mark {
+        HEADER => INTERRUPT << 30 | 13,
+        _ => LARGEST,
+    }
+}
+
+fn missing_choices(all: &mut Collection) {
+    let without = Expected::Faulty(Fault::PayloadWithoutChoice);
+    for node in 0..MISSING_NODE {
+        for port in 0..PORTS {
+            let next_port = (port + 1) % PORTS;
+            let latch = [(Row::Latch.of_port(node, port), 1)];
+            for mark in [PAYLOAD, LAST] {
+                let beside = |others: &[(usize, u32)]| [&leaves(node, port, mark, 0), others].concat();
+                all.add("payload leaves without a choice", beside(&[]), without);
+                all.add("payload leaves without a choice, one is held", beside(&latch), without);
+                let header = leaves(node, next_port, HEADER, 0);
+                all.add("payload and header leave without a choice", beside(&header), without);
+                let payload = leaves(node, next_port, mark, 1);
+                all.add("of two payloads one leaves without a choice", beside(&payload), without);
+                for choice in 1..=5 {
+                    all.add("payload leaves with a choice", leaves(node, port, mark, choice), Expected::CarriedOut);
+                }
+            }
+            all.add("header leaves without a choice", leaves(node, port, HEADER, 0), Expected::CarriedOut);
+            all.add("nothing leaves without a choice", leaves(node, port, EMPTY, 0), Expected::CarriedOut);
+        }
+    }
+    for node in MISSING_NODE..MOST_NODES {
+        for port in 0..PORTS {
+            for mark in [EMPTY, HEADER, PAYLOAD, LAST] {
+                all.add("no choice at a missing node", leaves(node, port, mark, 0), Expected::CarriedOut);
+            }
+        }
+    }
+}
+
+/// Words that left the header stage, in sheet A and in larger grids; no transfer was started.
+pub fn hand_made_cycles() -> Vec<HandMadeCycle> {
+    let mut cycles = Vec::new();
+    for (columns, rows) in [(2, 2), (3, 2), (4, 4)] {
+        let plan = Plan { columns, rows, ..sheet_a() };
+        let nodes = plan.nodes() as usize;
+        let mut add = |name, pokes, number, after| {
+            cycles.push(HandMadeCycle { name, plan: plan.clone(), pokes, number, after });
+        };
+        for node in [0, nodes - 1] {
+            for port in [0, 3, SOURCE] {
+                for mark in [PAYLOAD, LAST] {
+                    let pokes = leaves(node, port, mark, 0);
+                    add("payload leaves without a choice", pokes.clone(), 20, pokes);
+                    for output in 0..PORTS {
+                        let pokes = leaves(node, port, mark, output as u32 + 1);
+                        let put = vec![
+                            (Row::OutMark.of_port(node, output), mark),
+                            (Row::OutWord.of_port(node, output), leaving_word(mark)),
+                        ];
+                        add("payload leaves with a choice", pokes, 0, [cycle(1), put].concat());
+                    }
+                }
+                add("header leaves without a choice", leaves(node, port, HEADER, 0), 0, cycle(1));
+                add("nothing leaves without a choice", leaves(node, port, EMPTY, 0), 0, cycle(1));
+            }
+        }
+        for node in nodes..MOST_NODES {
+            for mark in [EMPTY, HEADER, PAYLOAD, LAST] {
+                let pokes = leaves(node, SOURCE, mark, 0);
+                add("no choice at a missing node", pokes.clone(), 0, [cycle(1), pokes].concat());
+            }
+        }
+    }
+    cycles
 }

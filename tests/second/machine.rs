@@ -105,6 +105,7 @@ pub enum Fault {
     OutputWantedTwice,
     SourceWireWantedTwice,
     SlotWhileSending,
+    PayloadWithoutLatch,
     PayloadWithoutChoice,
     PayloadWithoutPacket,
     LandingBeyondMemory,
@@ -207,6 +208,10 @@ impl Node {
         let mut wanted = [false; PORTS];
         for input in &self.inputs {
             if input.link.is_payload() && input.latch == 0 {
+                faults.push(Fault::PayloadWithoutLatch);
+            }
+            // A header without a choice is no fault; it goes nowhere.
+            if input.head.is_payload() && input.choice == 0 {
                 faults.push(Fault::PayloadWithoutChoice);
             }
             if !input.head.is_empty() && input.choice != 0 {

@@ -4,7 +4,7 @@
 
 use super::calls::{number_of, Call, Calls, Second};
 use super::coverage::Coverage;
-use super::hand_made::{hand_made_plan, hand_made_states, Expected, HandMade};
+use super::hand_made::{hand_made_cycles, hand_made_plan, hand_made_states, Expected, HandMade, HandMadeCycle};
 use super::lent::{
     Clause, Reader, Row, CYCLE, MOVING_WORDS, ORDER_MARK, ORDER_PERIOD, ORDER_SCHEDULE, PERIOD_NUMBER, ROW_WORDS,
     SCHEDULE, SHEET, SHEET_LENGTH, STATE_WORDS,
@@ -41,6 +41,7 @@ pub fn run_all(tested: &mut impl Calls) -> ExitCode {
         differences: Vec::new(),
     };
     runner.run_hand_made();
+    runner.run_hand_made_cycles();
     runner.run_example_m();
     let poked = runner.run_poked();
     runner.coverage.print();
@@ -87,6 +88,7 @@ fn wanted() -> Vec<String> {
         Fault::OutputWantedTwice,
         Fault::SourceWireWantedTwice,
         Fault::SlotWhileSending,
+        Fault::PayloadWithoutLatch,
         Fault::PayloadWithoutChoice,
         Fault::PayloadWithoutPacket,
         Fault::LandingBeyondMemory,
@@ -132,15 +134,40 @@ impl<C: Calls> Runner<'_, C> {
         assert_eq!(self.second.load(&plan.words(), &mut state, &memory), 0, "the plan passes");
         let loaded = Words { state, memory };
         for made in hand_made_states() {
-            let mut words = loaded.clone();
-            for &(place, value) in &made.pokes {
-                words.state[place] = value;
-            }
+            let words = written_over(&loaded, &made.pokes);
             let result = self
                 .judge(&made, &words)
                 .and_then(|()| self.call_all(&words))
                 .and_then(|()| self.call_on_short_slices(&made, &words));
             self.count(result, || format!("{} {:?}", made.name, made.pokes));
+        }
+    }
+
+    fn run_hand_made_cycles(&mut self) {
+        for made in hand_made_cycles() {
+            let result = self.run_hand_made_cycle(&made);
+            self.count(result, || format!("{} {:?}", made.name, made.pokes));
+        }
+    }
+
+    /// The number and every word afterwards that are expected by hand.
+    fn run_hand_made_cycle(&mut self, made: &HandMadeCycle) -> Result<(), String> {
+        let mut random = Random::new(17);
+        let memory: Vec<u32> = (0..made.plan.nodes() * made.plan.memory_words).map(|_| random.word()).collect();
+        let mut state = vec![0xA5A5_A5A5; STATE_WORDS + SPARE_WORDS];
+        assert_eq!(self.second.load(&made.plan.words(), &mut state, &memory), 0, "the plan passes");
+        let loaded = Words { state, memory };
+        let mut actual = written_over(&loaded, &made.pokes);
+        let mut expected = actual.clone();
+        let number = self.compare(&Call::Cycle, loaded.all(), &mut actual, &mut expected)?;
+        if number != made.number {
+            return Err(format!("number {number}, expected {}", made.number));
+        }
+        let by_hand = written_over(&loaded, &made.after);
+        if actual.state == by_hand.state && actual.memory == by_hand.memory {
+            Ok(())
+        } else {
+            Err(format!("words afterwards, expected {:?}", made.after))
         }
     }
 
@@ -275,10 +302,7 @@ impl<C: Calls> Runner<'_, C> {
         machine: &Machine,
         pokes: &[(usize, u32)],
     ) -> Result<(), String> {
-        let mut actual = words.clone();
-        for &(place, value) in pokes {
-            actual.state[place] = value;
-        }
+        let mut actual = written_over(words, pokes);
         let mut expected = actual.clone();
         for _ in 0..random.between(1, 6) {
             let call = if random.between(0, 9) < 7 { Call::Cycle } else { some_call(random, machine) };
@@ -292,6 +316,15 @@ impl<C: Calls> Runner<'_, C> {
         }
         Ok(())
     }
+}
+
+/// The words with some of the state written over.
+fn written_over(words: &Words, pokes: &[(usize, u32)]) -> Words {
+    let mut words = words.clone();
+    for &(place, value) in pokes {
+        words.state[place] = value;
+    }
+    words
 }
 
 /// What a state meets in a cycle.
