@@ -1,14 +1,24 @@
 -- A header gives back the three parts that it was built from, and its number is 0 exactly where they fit.
 -- Assumes nothing.
-use Prim.Native.Nat.{ℕ, _<_, _≤_}
+use Prim.Native.Nat.{ℕ, _+_, _<_, _≤_}
 use mathlib.Core.Bool.{Bool, true, false}
+use mathlib.Core.List.{[], _∷_}
 use mathlib.Core.Path.{_≡_, refl, sym, ap}
 use native.Mathlib.Omega.{arith}
-use Rattle.words.specs.Words.{pick}
+use Rattle.words.specs.Words.{pick, tab}
 use Rattle.words.proofs.TestLaws.{and-no, and-skip, and-both, and-left, and-right, yes<, no<, is<}
-use Rattle.packet.specs.Header.{headerWord, kindOf, addressOf, routeOf, kinds, addresses, routes, partsFit, headerNumber, builtOf}
+use Rattle.packet.specs.Header.{dataKind, configurationKind, interruptKind, unusedKind, kindBits, addressBits, routeBits, headerWord, kindOf, addressOf, routeOf, kinds, addresses, routes, partsFit, headerNumber, builtOf}
 use Rattle.packet.specs.declared.Built.{Built}
 use Rattle.packet.specs.declared.Built.the-variants.{Made, Refused}
+
+-- the four kinds are what the kind field can hold, in order
+pub four-kinds : tab kinds (λ k. k) ≡ dataKind ∷ configurationKind ∷ interruptKind ∷ unusedKind ∷ []
+unfolding tab
+four-kinds = refl
+
+-- the three fields fill a word of 32 bits
+pub fields-fill : kindBits + addressBits + routeBits ≡ 32
+fields-fill = refl
 
 -- the parts of a header that fit their fields
 pub record Fits (kind address route : ℕ) : Type 0 where

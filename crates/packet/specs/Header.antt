@@ -1,5 +1,5 @@
 -- The header word (document 01, "The packet"): kind (2 bits), write address (14 bits), route (16 bits), top bit first.
-use Prim.Native.Nat.{ℕ, zero, suc, _+_, _*_, _/_, _%_}
+use Prim.Native.Nat.{ℕ, zero, suc, _+_, _*_, _/_, _%_, _^_}
 use mathlib.Core.Bool.{Bool, true, false}
 use Rattle.words.specs.Tests.{_and_, _<?_}
 use Rattle.words.specs.Words.{pick}
@@ -7,15 +7,38 @@ use Rattle.packet.specs.declared.Header.{Header}
 use Rattle.packet.specs.declared.Built.{Built}
 use Rattle.packet.specs.declared.Built.the-variants.{Made, Refused}
 
--- how many kinds, write addresses and routes the fields can hold: 2 to the power of 2, 14 and 16
+-- the kinds
+abbrev pub dataKind : ℕ
+dataKind = 0
+
+abbrev pub configurationKind : ℕ
+configurationKind = 1
+
+abbrev pub interruptKind : ℕ
+interruptKind = 2
+
+abbrev pub unusedKind : ℕ
+unusedKind = 3
+
+-- the widths of the fields
+abbrev pub kindBits : ℕ
+kindBits = 2
+
+abbrev pub addressBits : ℕ
+addressBits = 14
+
+abbrev pub routeBits : ℕ
+routeBits = 16
+
+-- how many kinds, write addresses and routes the fields can hold
 abbrev pub kinds : ℕ
-kinds = 4
+kinds = 2 ^ kindBits
 
 abbrev pub addresses : ℕ
-addresses = 16384
+addresses = 2 ^ addressBits
 
 abbrev pub routes : ℕ
-routes = 65536
+routes = 2 ^ routeBits
 
 -- the word that holds a kind, an address and a route
 abbrev pub headerWord : ℕ → ℕ → ℕ → ℕ

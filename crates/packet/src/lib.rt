@@ -12,6 +12,7 @@ pub enum Built {
 }
 
 impl Header {
+    // The kinds.
     pub const DATA: u32 = 0;
 
     pub const CONFIGURATION: u32 = 1;
@@ -20,17 +21,18 @@ impl Header {
 
     pub const UNUSED: u32 = 3;
 
+    // The widths of the fields, and how many kinds, write addresses and routes they can hold.
     pub const KIND_BITS: u32 = 2;
 
     pub const ADDRESS_BITS: u32 = 14;
 
     pub const ROUTE_BITS: u32 = 16;
 
-    pub const KINDS: u32 = 4;
+    pub const KINDS: u32 = 1 << Header::KIND_BITS;
 
-    pub const ADDRESSES: u32 = 16384;
+    pub const ADDRESSES: u32 = 1 << Header::ADDRESS_BITS;
 
-    pub const ROUTES: u32 = 65536;
+    pub const ROUTES: u32 = 1 << Header::ROUTE_BITS;
 
     // The header of the three parts; 15 where one is too wide for its field.
     pub fn new(kind: u32, address: u32, route: u32) -> Built
@@ -48,16 +50,22 @@ impl Header {
         Built::Made(Header((kind * Header::ADDRESSES + address) * Header::ROUTES + route))
     }
 
+    // The kind that the top bits name.
     pub fn kind(self) -> u32
         ensures { λ r. ⌜ r ≡ kindOf (self .0) ⌝ }
     {
-        self.0 / (Header::ADDRESSES * Header::ROUTES)
+        match self.0 >> (Header::ADDRESS_BITS + Header::ROUTE_BITS) {
+            0 => Header::DATA,
+            1 => Header::CONFIGURATION,
+            2 => Header::INTERRUPT,
+            _ => Header::UNUSED,
+        }
     }
 
     pub fn address(self) -> u32
         ensures { λ r. ⌜ r ≡ addressOf (self .0) ⌝ }
     {
-        self.0 / Header::ROUTES % Header::ADDRESSES
+        (self.0 >> Header::ROUTE_BITS) % Header::ADDRESSES
     }
 
     pub fn route(self) -> u32

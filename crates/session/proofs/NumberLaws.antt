@@ -10,6 +10,7 @@ use lib.ListN.{length}
 use Rattle.words.specs.Tests.{_or_, _≤?_, _=?_}
 use Rattle.words.specs.Words.{pick}
 use Rattle.words.proofs.TestLaws.{and-left, and-right, is≤, is<, is=, yes=, yes≤}
+use Rattle.packet.specs.Header.{dataKind}
 use Rattle.sheet.specs.Sheet.{memoryWords, circuits, schedules, nodes, circuitAt}
 use Rattle.sheet.specs.Rules.{verdict}
 use Rattle.network.specs.Registers.{reg, sheetIn, room, stateWords, clockRow, orderMarkPlace, leftRow}
@@ -94,7 +95,7 @@ pub record StartPassed (s : List ℕ) (circuit readAddress writeAddress count ki
   pub write-inside : writeAddress < room s
   pub travels : kindTravels kind ≡ true
   pub some : 1 ≤ count
-  pub single : kind =? 0 or count =? 1 ≡ true
+  pub single : kind =? dataKind or count =? 1 ≡ true
   pub reads : Lies (circuitAt (sheetIn s) circuit .read) readAddress count
   pub writes : Lies (circuitAt (sheetIn s) circuit .receive) writeAddress count
   pub free : reg s leftRow circuit ≡ 0

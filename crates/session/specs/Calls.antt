@@ -6,6 +6,7 @@ use mathlib.Core.List.{List, _∷_, _++_}
 use lib.ListN.{length, drop, set}
 use Rattle.words.specs.Tests.{_and_, _or_, _≤?_, _<?_, _=?_}
 use Rattle.words.specs.Words.{word, pick, tab}
+use Rattle.packet.specs.Header.{dataKind}
 use Rattle.sheet.specs.Sheet.{memoryWords, circuits, schedules, nodes, circuitAt}
 use Rattle.sheet.specs.Rules.{verdict}
 use Rattle.network.specs.View.{Landing}
@@ -41,7 +42,7 @@ startNamed s circuit readAddress writeAddress kind =
 unfoldable pub startFits : List ℕ → ℕ → ℕ → ℕ → ℕ → ℕ → Bool
 startFits s circuit readAddress writeAddress count kind =
     1 ≤? count
-    and (kind =? 0 or count =? 1)
+    and (kind =? dataKind or count =? 1)
     and liesIn (circuitAt (sheetIn s) circuit .read) readAddress count
     and liesIn (circuitAt (sheetIn s) circuit .receive) writeAddress count
 

@@ -104,7 +104,7 @@ fn start_fits(s: &[u32], circuit: u32, read: u32, write: u32, count: u32, kind: 
     let regions = Circuit::at(network::sheet_of(s), circuit);
     let source = regions.read;
     let destination = regions.receive;
-    if soundness::holds_beside(kind, count == 1) {
+    if soundness::unless_data(kind, count == 1) {
         if soundness::lies_in(source, read, count) {
             return soundness::lies_in(destination, write, count);
         }

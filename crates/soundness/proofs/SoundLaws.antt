@@ -9,7 +9,7 @@ use native.Mathlib.Decide.{ℕ-discrete}
 use Rattle.words.specs.Tests.{all, _and_, _or_, _≤?_, _=?_, _≠?_}
 use Rattle.words.proofs.TestLaws.{and-left, and-right, and-both, or-yes, or-skip, or-cases, is≤, is<, is=, yes≤, yes<, yes=, yes≠, no≠}
 use Rattle.words.proofs.AllLaws.{all-at}
-use Rattle.packet.specs.Header.{kindOf}
+use Rattle.packet.specs.Header.{dataKind, interruptKind, kinds, kindOf}
 use Rattle.sheet.specs.declared.circuits.Region.{Region}
 use Rattle.sheet.specs.declared.circuits.Circuit.{Circuit}
 use Rattle.sheet.specs.Sheet.{circuits, schedules, nodes, circuitAt, period}
@@ -45,10 +45,12 @@ beside-test x {b} h = go (ℕ-discrete x 0)
     go (yes q) = sym (or-yes b (yes= q))
     go (no q) = sym (or-skip (x =? 0) (sym (h (omega (arith, q)))))
 
--- a kind that travels is 0 or 2
-pub travels-small : (kind : ℕ) → kindTravels kind ≡ true → kind ≤ 2
+-- a kind that travels fits its field
+pub travels-small : (kind : ℕ) → kindTravels kind ≡ true → kind < kinds
 unfolding kindTravels
-travels-small kind e = or-cases (kind =? 0) (kind =? 2) e (λ h. omega (arith, is= kind 0 h)) (λ h. omega (arith, is= kind 2 h))
+travels-small kind e =
+    or-cases (kind =? dataKind) (kind =? interruptKind) e (λ h. omega (arith, is= kind dataKind h))
+    (λ h. omega (arith, is= kind interruptKind h))
 
 pub lies-test : {r : Region} {address count : ℕ} → Lies r address count → liesIn r address count ≡ true
 unfolding liesIn
@@ -90,7 +92,7 @@ pub record TransferParts (circuit : Circuit) (x : Sender) : Type 0 where
 abbrev liveSound : List ℕ → ℕ → Bool
 liveSound s c =
     kindTravels (reg s kindRow c)
-    and (reg s kindRow c =? 0 or reg s leftRow c ≤? 1)
+    and (reg s kindRow c =? dataKind or reg s leftRow c ≤? 1)
     and liesIn (circuitAt (sheetIn s) c .read) (reg s readRow c) (reg s leftRow c)
     and liesIn (circuitAt (sheetIn s) c .receive) (reg s writeRow c) (reg s leftRow c)
 

@@ -10,7 +10,7 @@ use Rattle.words.specs.Tests.{all, _and_, _or_, _≤?_, _<?_, _=?_}
 use Rattle.words.specs.Words.{word}
 use Rattle.words.proofs.TestLaws.{and-no, and-on, and-left, and-right, or-yes, or-on, yes≤, no≤, yes<, no<, yes=, no=, yes≠, no≠, is=}
 use Rattle.words.proofs.AllLaws.{all-more, all-done, all-fails}
-use Rattle.packet.specs.Header.{kindOf}
+use Rattle.packet.specs.Header.{dataKind, interruptKind, kindOf}
 use Rattle.sheet.specs.declared.circuits.Region.{Region}
 use Rattle.sheet.specs.declared.circuits.Circuit.{Circuit}
 use Rattle.sheet.specs.Sheet.{columns, rows, circuits, schedules, nodes, circuitAt, period}
@@ -26,11 +26,11 @@ and-over true b d = refl
 and-over false b d = refl
 
 -- a kind that travels
-pub travels-data : (kind : ℕ) → kind ≡ 0 → true ≡ kindTravels kind
+pub travels-data : (kind : ℕ) → kind ≡ dataKind → true ≡ kindTravels kind
 unfolding kindTravels
 travels-data kind e = or-yes _ (yes= e)
 
-pub travels-rest : (kind : ℕ) → (kind ≡ 0 → ⊥) → (kind =? 2) ≡ kindTravels kind
+pub travels-rest : (kind : ℕ) → (kind ≡ dataKind → ⊥) → (kind =? interruptKind) ≡ kindTravels kind
 unfolding kindTravels
 travels-rest kind ne = or-on (no= ne) refl
 
@@ -81,7 +81,7 @@ module _ (s : List ℕ) (k : ℕ) where
 abbrev pub restSound : Circuit → ℕ → ℕ → ℕ → ℕ → Bool
 restSound circuit kind read write left =
     kindTravels kind
-    and (kind =? 0 or left ≤? 1)
+    and (kind =? dataKind or left ≤? 1)
     and liesIn (circuit .read) read left
     and liesIn (circuit .receive) write left
 

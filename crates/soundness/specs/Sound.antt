@@ -4,7 +4,7 @@ use Prim.Native.Nat.{ℕ, _+_, _*_}
 use mathlib.Core.Bool.{Bool}
 use mathlib.Core.List.{List}
 use Rattle.words.specs.Tests.{all, _and_, _or_, _≤?_, _<?_, _=?_, _≠?_}
-use Rattle.packet.specs.Header.{kindOf}
+use Rattle.packet.specs.Header.{dataKind, interruptKind, kindOf}
 use Rattle.sheet.specs.declared.circuits.Region.{Region}
 use Rattle.sheet.specs.Sheet.{circuits, schedules, nodes, circuitAt, period}
 use Rattle.sheet.specs.Rules.{verdict}
@@ -28,7 +28,7 @@ orderSound s =
 
 -- kinds that may travel: data and interrupt
 unfoldable pub kindTravels : ℕ → Bool
-kindTravels kind = kind =? 0 or kind =? 2
+kindTravels kind = kind =? dataKind or kind =? interruptKind
 
 -- so many words from an address on lie in a region
 unfoldable pub liesIn : Region → ℕ → ℕ → Bool
@@ -41,7 +41,7 @@ transferSound s c =
     reg s toGoRow c ≤? reg s leftRow c
     and (reg s leftRow c =? 0
     or kindTravels (reg s kindRow c)
-    and (reg s kindRow c =? 0 or reg s leftRow c ≤? 1)
+    and (reg s kindRow c =? dataKind or reg s leftRow c ≤? 1)
     and liesIn (circuitAt (sheetIn s) c .read) (reg s readRow c) (reg s leftRow c)
     and liesIn (circuitAt (sheetIn s) c .receive) (reg s writeRow c) (reg s leftRow c))
 

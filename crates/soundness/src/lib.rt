@@ -2,6 +2,7 @@
 ghost use mathlib.Core.Path.{_≡_};
 ghost use Prim.Native.Nat.{ℕ, _*_};
 ghost use Rattle.words.specs.Tests.{all, _and_, _or_, _≤?_, _=?_};
+ghost use Rattle.packet.specs.Header.{dataKind};
 ghost use Rattle.sheet.specs.Sheet.{circuits, nodes as nodesOf};
 ghost use Rattle.sheet.specs.Passed.{Framed};
 ghost use Rattle.network.specs.Registers.{reg as regOf, sheetIn, linkMark, headMark, outMark, choiceRow, receiveMark, receiveKind};
@@ -15,10 +16,10 @@ use sheet::Region;
 pub fn kind_travels(kind: u32) -> bool
     ensures { λ r. ⌜ r ≡ kindTravels kind ⌝ }
 {
-    if kind == 0 {
+    if kind == Header::DATA {
         return true;
     }
-    kind == 2
+    kind == Header::INTERRUPT
 }
 
 // So many words from an address on lie in a region; the ends are sums of 64 bits, so that they cannot wrap.
@@ -32,11 +33,11 @@ pub fn lies_in(region: Region, address: u32, count: u32) -> bool
     end <= region.offset as u64 + region.size as u64
 }
 
-// What is tested only beside a mark, or a count, that is not 0.
-pub fn holds_beside(mark: u32, test: bool) -> bool
-    ensures { λ r. ⌜ r ≡ (mark =? 0 or test) ⌝ }
+// A test that data need not pass: of the kinds that travel, an interrupt alone.
+pub fn unless_data(kind: u32, test: bool) -> bool
+    ensures { λ r. ⌜ r ≡ (kind =? dataKind or test) ⌝ }
 {
-    if mark == 0 {
+    if kind == Header::DATA {
         return true;
     }
     test
@@ -58,12 +59,12 @@ fn wire_sound(s: &[u32], marks: u32, cells: u32, k: u32) -> bool
 
 // The rest of a transfer, which has words left: its kind travels, and so many words lie in both of its regions.
 fn rest_sound(circuit: Circuit, kind: u32, read: u32, write: u32, left: u32) -> bool
-    ensures { λ r. ⌜ r ≡ (kindTravels kind and (kind =? 0 or left ≤? 1) and liesIn (circuit .read) read left and liesIn (circuit .receive) write left) ⌝ }
+    ensures { λ r. ⌜ r ≡ (kindTravels kind and (kind =? dataKind or left ≤? 1) and liesIn (circuit .read) read left and liesIn (circuit .receive) write left) ⌝ }
 {
     let source = circuit.read;
     let destination = circuit.receive;
     if kind_travels(kind) {
-        if holds_beside(kind, left <= 1) {
+        if unless_data(kind, left <= 1) {
             if lies_in(source, read, left) {
                 return lies_in(destination, write, left);
             }

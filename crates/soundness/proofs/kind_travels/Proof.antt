@@ -1,4 +1,4 @@
--- `soundness::kind_travels` meets its contract: kind 0 travels, and of the others kind 2.
+-- `soundness::kind_travels` meets its contract: data travel, and of the other kinds interrupts.
 -- Assumes nothing.
 use Rattle.words.specs.Tests.{_=?_}
 use Rattle.soundness.proofs.SoundnessLaws.{travels-data, travels-rest}

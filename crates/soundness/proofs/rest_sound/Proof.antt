@@ -10,8 +10,8 @@ use Rattle.soundness.proofs.rest_sound.Tie as tie
 kind-travels-requires : tie.Need-kind-travels-requires
 kind-travels-requires c κs = search needs
 
-holds-beside-requires : tie.Need-holds-beside-requires
-holds-beside-requires c κs = search needs
+unless-data-requires : tie.Need-unless-data-requires
+unless-data-requires c κs = search needs
 
 lies-in-requires : tie.Need-lies-in-requires
 lies-in-requires c κs = search needs
@@ -21,15 +21,15 @@ lies-in-requires-2 c κs = search needs
 
 returns : tie.Need-returns
 unfolding _≤?_
-returns c = and-on (sym (c .before .before .before .before .before .before .kind-travels .ensures) ∙ c .before .before .before .before .before .if1 .taken) (and-on (sym (c .before .before .before .before .holds-beside .ensures) ∙ c .before .before .before .if2 .taken) (and-on (sym (c .before .before .lies-in .ensures) ∙ c .before .if3 .taken) (c .lies-in2 .ensures)))
+returns c = and-on (sym (c .before .before .before .before .before .before .kind-travels .ensures) ∙ c .before .before .before .before .before .if1 .taken) (and-on (sym (c .before .before .before .before .unless-data .ensures) ∙ c .before .before .before .if2 .taken) (and-on (sym (c .before .before .lies-in .ensures) ∙ c .before .if3 .taken) (c .lies-in2 .ensures)))
 
 returns-2 : tie.Need-returns-2
 unfolding _≤?_
-returns-2 c = and-on (sym (c .before .before .before .before .before .kind-travels .ensures) ∙ c .before .before .before .before .if1 .taken) (and-on (sym (c .before .before .before .holds-beside .ensures) ∙ c .before .before .if2 .taken) (and-no _ (sym (c .before .lies-in .ensures) ∙ c .if3 .left)))
+returns-2 c = and-on (sym (c .before .before .before .before .before .kind-travels .ensures) ∙ c .before .before .before .before .if1 .taken) (and-on (sym (c .before .before .before .unless-data .ensures) ∙ c .before .before .if2 .taken) (and-no _ (sym (c .before .lies-in .ensures) ∙ c .if3 .left)))
 
 returns-3 : tie.Need-returns-3
 unfolding _≤?_
-returns-3 c = and-on (sym (c .before .before .before .kind-travels .ensures) ∙ c .before .before .if1 .taken) (and-no _ (sym (c .before .holds-beside .ensures) ∙ c .if2 .left))
+returns-3 c = and-on (sym (c .before .before .before .kind-travels .ensures) ∙ c .before .before .if1 .taken) (and-no _ (sym (c .before .unless-data .ensures) ∙ c .if2 .left))
 
 returns-4 : tie.Need-returns-4
 returns-4 c = and-no _ (sym (c .before .kind-travels .ensures) ∙ c .if1 .left)
@@ -39,7 +39,7 @@ rest-sound-spec =
     tie.close
     (tie.spec
     kind-travels-requires
-    holds-beside-requires
+    unless-data-requires
     lies-in-requires
     lies-in-requires-2
     returns

@@ -20,8 +20,8 @@ sheet-of-requires c κs = search needs
 at-requires : tie.Need-at-requires
 at-requires c κs = search needs
 
-holds-beside-requires : tie.Need-holds-beside-requires
-holds-beside-requires c κs = search needs
+unless-data-requires : tie.Need-unless-data-requires
+unless-data-requires c κs = search needs
 
 lies-in-requires : tie.Need-lies-in-requires
 lies-in-requires c κs = search needs
@@ -31,15 +31,15 @@ lies-in-requires-2 c κs = search needs
 
 returns-2 : tie.Need-returns-2
 unfolding startFits _=?_
-returns-2 c = and-on (yes≤ (omega arith)) (and-on (sym (c .before .before .before .before .holds-beside .ensures) ∙ c .before .before .before .if2 .taken) (and-on (sym (reads-in _ _ _ _ (c .before .before .before .before .before .before .before .at .ensures) (c .before .before .before .before .before .before .before .before .sheet-of .ensures) (c .before .before .lies-in .ensures)) ∙ c .before .if3 .taken) (writes-in _ _ _ _ (c .before .before .before .before .before .before .before .at .ensures) (c .before .before .before .before .before .before .before .before .sheet-of .ensures) (c .lies-in2 .ensures))))
+returns-2 c = and-on (yes≤ (omega arith)) (and-on (sym (c .before .before .before .before .unless-data .ensures) ∙ c .before .before .before .if2 .taken) (and-on (sym (reads-in _ _ _ _ (c .before .before .before .before .before .before .before .at .ensures) (c .before .before .before .before .before .before .before .before .sheet-of .ensures) (c .before .before .lies-in .ensures)) ∙ c .before .if3 .taken) (writes-in _ _ _ _ (c .before .before .before .before .before .before .before .at .ensures) (c .before .before .before .before .before .before .before .before .sheet-of .ensures) (c .lies-in2 .ensures))))
 
 returns-3 : tie.Need-returns-3
 unfolding startFits _=?_
-returns-3 c = and-on (yes≤ (omega arith)) (and-on (sym (c .before .before .before .holds-beside .ensures) ∙ c .before .before .if2 .taken) (and-no _ (sym (reads-in _ _ _ _ (c .before .before .before .before .before .before .at .ensures) (c .before .before .before .before .before .before .before .sheet-of .ensures) (c .before .lies-in .ensures)) ∙ c .if3 .left)))
+returns-3 c = and-on (yes≤ (omega arith)) (and-on (sym (c .before .before .before .unless-data .ensures) ∙ c .before .before .if2 .taken) (and-no _ (sym (reads-in _ _ _ _ (c .before .before .before .before .before .before .at .ensures) (c .before .before .before .before .before .before .before .sheet-of .ensures) (c .before .lies-in .ensures)) ∙ c .if3 .left)))
 
 returns-4 : tie.Need-returns-4
 unfolding startFits _=?_
-returns-4 c = and-on (yes≤ (omega arith)) (and-no _ (sym (c .before .holds-beside .ensures) ∙ c .if2 .left))
+returns-4 c = and-on (yes≤ (omega arith)) (and-no _ (sym (c .before .unless-data .ensures) ∙ c .if2 .left))
 
 pub start-fits-spec : {M : Type 1} → statement M
 start-fits-spec =
@@ -48,7 +48,7 @@ start-fits-spec =
     returns
     sheet-of-requires
     at-requires
-    holds-beside-requires
+    unless-data-requires
     lies-in-requires
     lies-in-requires-2
     returns-2
