@@ -8,7 +8,7 @@ use lib.ListN.{set, replicate, drop}
 use Rattle.words.specs.Words.{leastFrom, tab}
 use Rattle.words.specs.Tests.{all, any, between, _and_, _or_, _≤?_, _<?_, _=?_, _≠?_}
 use Rattle.torus.specs.Torus.{neighbourOf, walks, distanceOf}
-use Rattle.torus.specs.Route.{exitOf, follow, routeFrom}
+use Rattle.torus.specs.Route.{outputOf, follow, routeFrom}
 use Rattle.network.specs.Registers.{reg, sheetLength, sheetIn, stateWords, numberPlace}
 use Rattle.soundness.specs.Sound.{sheetSound, clockSound, orderSound, kindTravels, liesIn, transferSound, cellSound, routerSound, nodeSound, sound}
 use Rattle.session.specs.Calls.{unless, _then_, stateNumber, isPending, ahead, orderNumber, loaded}
@@ -108,7 +108,7 @@ unfolding orderNumber stateNumber unless _then_ ahead isPending sound sheetSound
     entryRoute entryLeads rule9 entryEnds rule10 entryOccupied rule11At rule11
     schedulePlace circuitAt entriesOf entryAt
     sameWire same during occupied member meet
-    neighbourOf walks distanceOf exitOf follow routeFrom
+    neighbourOf walks distanceOf outputOf follow routeFrom
     leastFrom all any between _and_ _or_ _≤?_ _<?_ _=?_ _≠?_
 examples = refl
 

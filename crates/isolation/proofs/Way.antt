@@ -4,17 +4,19 @@ use Prim.Native.Nat.{ℕ, zero, suc, _+_, _*_, _/_, _%_, _<_, _≤_}
 use mathlib.Core.Bool.{Bool, true, false}
 use mathlib.Core.List.{List, [], _∷_}
 use mathlib.Core.Path.{_≡_, refl, sym, _∙_, ap, ap₂, subst}
+use native.Mathlib.Nat.{mod-lt}
 use native.Mathlib.Numerals.{add-one}
 use native.Mathlib.Omega.{arith}
-use native.Mathlib.Decide.{decLt}
+use native.Mathlib.Decide.{decLt, ℕ-discrete}
 use lib.ListN.{length}
 use Rattle.words.specs.Tests.{_=?_}
 use Rattle.words.specs.Words.{pick}
 use Rattle.words.proofs.TestLaws.{yes=, no=}
 use Rattle.packet.specs.Header.{kindOf, addressOf, routeOf, firstCode, laterCodes, shiftedWord}
 use Rattle.torus.specs.Torus.{InGrid, neighbourOf, oppositeOf}
-use Rattle.torus.specs.Route.{Wire, source, side, memory, Use, Route, leads, nowhere, exitOf, ending, overSide, fromSource, follow, routeFrom, routerCycles, codes, noSide}
-use Rattle.torus.proofs.NeighbourLaws.{neighbour-inside, neighbour-back, opposite-side, opposite-back}
+use Rattle.torus.specs.Route.{Wire, source, side, memory, Use, Route, leads, nowhere, outputOf, ending, overSide, fromSource, follow, routeFrom, routerCycles, codes, noSide}
+use Rattle.torus.proofs.RouteLaws.{next-inside, side-small, follow-memory, follow-side}
+use Rattle.torus.proofs.NeighbourLaws.{neighbour-back, opposite-side, opposite-back}
 use Rattle.network.specs.View.{sourceInput, memoryOutput}
 use Rattle.network.specs.Cycle.{outputFor}
 
@@ -40,14 +42,14 @@ pub record Stop : Type 0 where
   pub codes : ℕ
 
 -- the output that it leaves by
-unfoldable pub outputOf : Stop → ℕ
-outputOf stop = pick (stop .input =? firstCode (stop .codes)) memoryOutput (firstCode (stop .codes))
+unfoldable pub stopOutput : Stop → ℕ
+stopOutput stop = outputOf (stop .input) (firstCode (stop .codes))
 
 -- the next router, by a side output
 abbrev pub onward : ℕ → ℕ → Stop → Stop
 onward cols rows stop = record {
-  node = neighbourOf cols rows (stop .node) (outputOf stop);
-  input = oppositeOf (outputOf stop);
+  node = neighbourOf cols rows (stop .node) (stopOutput stop);
+  input = oppositeOf (stopOutput stop);
   codes = laterCodes (stop .codes);
 }
 
@@ -91,14 +93,6 @@ unfolding headerAfter
 header-address zero word = refl
 header-address (suc k) word = shifted-address (headerAfter k word) ∙ header-address k word
 
-output-memory : (stop : Stop) → (stop .input =? firstCode (stop .codes)) ≡ true → outputOf stop ≡ memoryOutput
-unfolding outputOf
-output-memory stop q = rw q refl
-
-output-side : (stop : Stop) → (stop .input =? firstCode (stop .codes)) ≡ false → outputOf stop ≡ firstCode (stop .codes)
-unfolding outputOf
-output-side stop q = rw q refl
-
 -- the wire of an output: to the memory, or by a side
 pub wire-memory : (node output : ℕ) → output ≡ memoryOutput → outputWire node output ≡ memory node
 unfolding outputWire
@@ -118,11 +112,11 @@ module _ (cols rows : ℕ) where
   -- what holds from a router on, whose output has the given delay
   record Led (stop : Stop) (delay : ℕ) (uses : List Use) (end hops : ℕ) : Type 0 where
     counted : length uses ≡ hops + 1
-    sides : (k : ℕ) → k < hops → outputOf (stopAfter cols rows stop k) < 4
-    last-out : outputOf (stopAfter cols rows stop hops) ≡ memoryOutput
+    sides : (k : ℕ) → k < hops → stopOutput (stopAfter cols rows stop k) < 4
+    last-out : stopOutput (stopAfter cols rows stop hops) ≡ memoryOutput
     arrives : stopAfter cols rows stop hops .node ≡ end
     wires : (k : ℕ) → k ≤ hops
-        → wireAt uses k ≡ outputWire (stopAfter cols rows stop k .node) (outputOf (stopAfter cols rows stop k))
+        → wireAt uses k ≡ outputWire (stopAfter cols rows stop k .node) (stopOutput (stopAfter cols rows stop k))
     delays : (k : ℕ) → k ≤ hops → delayAt uses k ≡ delay + routerCycles * k
 
   -- and nothing where the route leads nowhere
@@ -130,7 +124,7 @@ module _ (cols rows : ℕ) where
   Followed stop delay (leads uses end hops) = Led stop delay uses end hops
   Followed stop delay nowhere = Unit {0}
 
-  followed-out : (stop : Stop) (delay : ℕ) → outputOf stop ≡ memoryOutput → (b : Bool)
+  followed-out : (stop : Stop) (delay : ℕ) → stopOutput stop ≡ memoryOutput → (b : Bool)
       → Followed stop delay (ending b (stop .node) delay)
   unfolding stopAfter wireAt delayAt
   followed-out stop delay e true = record {
@@ -143,8 +137,8 @@ module _ (cols rows : ℕ) where
   }
     where
       wires : (k : ℕ) → k ≤ 0 → wireAt (record { wire = memory (stop .node); delay = delay } ∷ []) k
-          ≡ outputWire (stopAfter cols rows stop k .node) (outputOf (stopAfter cols rows stop k))
-      wires zero l = sym (wire-memory (stop .node) (outputOf stop) e)
+          ≡ outputWire (stopAfter cols rows stop k .node) (stopOutput (stopAfter cols rows stop k))
+      wires zero l = sym (wire-memory (stop .node) (stopOutput stop) e)
       wires (suc k) l = absurd (omega arith)
 
       delays : (k : ℕ) → k ≤ 0 → delayAt (record { wire = memory (stop .node); delay = delay } ∷ []) k ≡ delay + 3 * k
@@ -152,29 +146,29 @@ module _ (cols rows : ℕ) where
       delays (suc k) l = absurd (omega arith)
   followed-out stop delay e false = tt
 
-  followed-on : (stop : Stop) (delay : ℕ) → outputOf stop < 4 → (r : Route) → Followed (onward cols rows stop) (delay + routerCycles) r
-      → Followed stop delay (overSide (record { wire = side (stop .node) (outputOf stop); delay = delay }) r)
+  followed-on : (stop : Stop) (delay : ℕ) → stopOutput stop < 4 → (r : Route) → Followed (onward cols rows stop) (delay + routerCycles) r
+      → Followed stop delay (overSide (record { wire = side (stop .node) (stopOutput stop); delay = delay }) r)
   unfolding stopAfter wireAt delayAt
   followed-on stop delay l (leads uses end hops) f = record {
     counted = omega (arith, f .counted);
     sides = sides;
-    last-out = rw add-one (ap outputOf (sym (step-first stop hops)) ∙ f .last-out);
+    last-out = rw add-one (ap stopOutput (sym (step-first stop hops)) ∙ f .last-out);
     arrives = rw add-one (ap (λ (s : Stop). s .node) (sym (step-first stop hops)) ∙ f .arrives);
     wires = wires;
     delays = delays;
   }
     where
-      sides : (k : ℕ) → k < hops + 1 → outputOf (stopAfter cols rows stop k) < 4
+      sides : (k : ℕ) → k < hops + 1 → stopOutput (stopAfter cols rows stop k) < 4
       sides zero h = l
-      sides (suc k) h = subst (λ (s : Stop). outputOf s < 4) (step-first stop k) (f .sides k (omega arith))
+      sides (suc k) h = subst (λ (s : Stop). stopOutput s < 4) (step-first stop k) (f .sides k (omega arith))
 
-      wires : (k : ℕ) → k ≤ hops + 1 → wireAt (record { wire = side (stop .node) (outputOf stop); delay = delay } ∷ uses) k
-          ≡ outputWire (stopAfter cols rows stop k .node) (outputOf (stopAfter cols rows stop k))
-      wires zero h = sym (wire-side (stop .node) (outputOf stop) l)
-      wires (suc k) h = f .wires k (omega arith) ∙ ap (λ (s : Stop). outputWire (s .node) (outputOf s)) (step-first stop k)
+      wires : (k : ℕ) → k ≤ hops + 1 → wireAt (record { wire = side (stop .node) (stopOutput stop); delay = delay } ∷ uses) k
+          ≡ outputWire (stopAfter cols rows stop k .node) (stopOutput (stopAfter cols rows stop k))
+      wires zero h = sym (wire-side (stop .node) (stopOutput stop) l)
+      wires (suc k) h = f .wires k (omega arith) ∙ ap (λ (s : Stop). outputWire (s .node) (stopOutput s)) (step-first stop k)
 
       delays : (k : ℕ) → k ≤ hops + 1
-          → delayAt (record { wire = side (stop .node) (outputOf stop); delay = delay } ∷ uses) k ≡ delay + routerCycles * k
+          → delayAt (record { wire = side (stop .node) (stopOutput stop); delay = delay } ∷ uses) k ≡ delay + routerCycles * k
       delays zero h = omega arith
       delays (suc k) h = omega (arith, f .delays k (omega arith))
   followed-on stop delay l nowhere f = tt
@@ -182,32 +176,21 @@ module _ (cols rows : ℕ) where
   abbrev followAt : ℕ → Stop → ℕ → Route
   followAt left stop delay = follow left cols rows (stop .node) (stop .input) delay (stop .codes)
 
-  follow-side : (left : ℕ) (stop : Stop) (delay : ℕ) → (stop .input =? firstCode (stop .codes)) ≡ false
-      → overSide (record { wire = side (stop .node) (outputOf stop); delay = delay })
-      (followAt left (onward cols rows stop) (delay + routerCycles)) ≡ followAt (suc left) stop delay
-  unfolding follow exitOf
-  follow-side left stop delay q = rw (output-side stop q, q, follow, exitOf) refl
-
-  follow-memory : (left : ℕ) (stop : Stop) (delay : ℕ) → (stop .input =? firstCode (stop .codes)) ≡ true
-      → ending (laterCodes (stop .codes) =? 0) (stop .node) delay ≡ followAt (suc left) stop delay
-  unfolding follow exitOf
-  follow-memory left stop delay q = rw (q, follow, exitOf) refl
-
   followed : (left : ℕ) (stop : Stop) (delay : ℕ) → Followed stop delay (followAt left stop delay)
-  unfolding follow
+  unfolding follow stopOutput
   followed zero stop delay = tt
   followed (suc left) stop delay =
-      go (stop .input =? firstCode (stop .codes)) refl (followed left (onward cols rows stop) (delay + routerCycles))
+      go (ℕ-discrete (stopOutput stop) memoryOutput) (followed left (onward cols rows stop) (delay + routerCycles))
     where
-      go : (b : Bool) → (stop .input =? firstCode (stop .codes)) ≡ b
+      go : Dec (stopOutput stop ≡ memoryOutput)
           → Followed (onward cols rows stop) (delay + routerCycles) (followAt left (onward cols rows stop) (delay + routerCycles))
           → Followed stop delay (followAt (suc left) stop delay)
-      go true q r =
-          subst (Followed stop delay) (follow-memory left stop delay q)
-          (followed-out stop delay (output-memory stop q) (laterCodes (stop .codes) =? 0))
-      go false q r =
-          subst (Followed stop delay) (follow-side left stop delay q)
-          (followed-on stop delay (omega (arith, output-side stop q))
+      go (yes e) r =
+          subst (Followed stop delay) (sym (follow-memory cols rows (stop .node) (stop .input) delay (stop .codes) left e))
+          (followed-out stop delay e (laterCodes (stop .codes) =? 0))
+      go (no ne) r =
+          subst (Followed stop delay) (sym (follow-side cols rows (stop .node) (stop .input) delay (stop .codes) left ne))
+          (followed-on stop delay (side-small (stop .input) (firstCode (stop .codes)) (mod-lt (stop .codes) (omega arith)) ne)
           (followAt left (onward cols rows stop) (delay + routerCycles)) r)
 
 -- a packet at its first router, which it enters from the source
@@ -222,7 +205,7 @@ unfoldable pub wayInput : ℕ → ℕ → ℕ → ℕ → ℕ → ℕ
 wayInput cols rows from route k = stopAfter cols rows (startOf from route) k .input
 
 unfoldable pub wayOutput : ℕ → ℕ → ℕ → ℕ → ℕ → ℕ
-wayOutput cols rows from route k = outputOf (stopAfter cols rows (startOf from route) k)
+wayOutput cols rows from route k = stopOutput (stopAfter cols rows (startOf from route) k)
 
 -- the uses of a route along its way, and where it ends
 pub record Way (cols rows from route : ℕ) (uses : List Use) (end hops : ℕ) : Type 0 where
@@ -261,14 +244,7 @@ module _ (cols rows from route : ℕ) where
   unfolding wayNode wayOutput stopAfter
   way-inside g zero = g
   way-inside g (suc k) =
-      let h = way-inside g k in
-      record {
-        cols-low = h .cols-low;
-        cols-high = h .cols-high;
-        rows-low = h .rows-low;
-        rows-high = h .rows-high;
-        inside = neighbour-inside h (wayOutput cols rows from route k);
-      }
+      next-inside (way-inside g k) (wayOutput cols rows from route k)
 
   -- the codes that a header holds after k routers
   header-codes : (word : ℕ) → routeOf word ≡ route → (k : ℕ)
@@ -280,9 +256,9 @@ module _ (cols rows from route : ℕ) where
   -- the header asks for the output of each router
   pub header-output : (word : ℕ) → routeOf word ≡ route → (k : ℕ)
       → outputFor (wayInput cols rows from route k) (headerAfter k word) ≡ wayOutput cols rows from route k
-  unfolding outputFor wayInput wayOutput outputOf
+  unfolding outputFor wayInput wayOutput stopOutput
   header-output word e k =
-      ap (λ (c : ℕ). pick (stopAfter cols rows (startOf from route) k .input =? firstCode c) memoryOutput (firstCode c))
+      ap (λ (c : ℕ). outputOf (stopAfter cols rows (startOf from route) k .input) (firstCode c))
       (header-codes word e k)
 
   -- where a route leads, that is its way

@@ -1,35 +1,19 @@
 -- The header stage, from the words that were read and the tests that were taken.
 -- Assumes nothing.
 use Prim.Native.Nat.{ℕ, _+_, _<_, _≤_}
-use mathlib.Core.Bool.{Bool, true, false}
 use mathlib.Core.Path.{_≡_, sym, _∙_, ap}
+use native.Mathlib.Nat.{mod-lt}
 use native.Mathlib.Omega.{arith}
-use Rattle.words.specs.Tests.{_=?_}
-use Rattle.words.specs.Words.{pick}
 use Rattle.words.proofs.TestLaws.{yes=, no=, yes≤, no≤}
 use Rattle.packet.specs.Header.{routeOf, firstCode, shiftedWord}
-use Rattle.network.specs.View.{memoryOutput}
+use Rattle.torus.proofs.RouteLaws.{output-small as output-at-most}
 use Rattle.network.specs.Cycle.{outputFor}
 use Rattle.network.specs.Machine.{nextHeadWord, nextLatch}
-
--- the output for a route's first code
-module _ (input w route : ℕ) (e : route ≡ routeOf w) where
-  pub output-memory : input ≡ firstCode route → memoryOutput ≡ outputFor input w
-  unfolding outputFor
-  output-memory h = rw (yes= (h ∙ ap firstCode e))
-
-  pub output-side : (input ≡ firstCode route → ⊥) → firstCode route ≡ outputFor input w
-  unfolding outputFor
-  output-side ne = rw (no= (λ h. ne (h ∙ ap firstCode (sym e)))) (ap firstCode e)
 
 -- an output is one of five
 pub output-small : (input w o : ℕ) → o ≡ outputFor input w → o ≤ 4
 unfolding outputFor
-output-small input w o e = go (input =? firstCode (routeOf w)) e
-  where
-    go : (t : Bool) → o ≡ pick t memoryOutput (firstCode (routeOf w)) → o ≤ 4
-    go true q = omega arith
-    go false q = omega arith
+output-small input w o e = output-at-most input (firstCode (routeOf w)) o e (mod-lt (routeOf w) (omega arith))
 
 -- the word that leaves the header stage
 module _ (mark w : ℕ) where

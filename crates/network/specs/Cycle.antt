@@ -6,14 +6,14 @@ use Rattle.words.specs.Tests.{any, _and_, _or_, _≤?_, _=?_}
 use Rattle.words.specs.Words.{pick, countOf}
 use Rattle.packet.specs.Header.{headerWord, kindOf, addressOf, routeOf, firstCode, shiftedWord}
 use Rattle.torus.specs.Torus.{neighbourOf, oppositeOf}
+use Rattle.torus.specs.Route.{outputOf}
 use Rattle.sheet.specs.Sheet.{columns, rows, memoryWords, circuits, nodes, period}
 use Rattle.sheet.specs.Slots.{slotLength, slotRoute, sourceOf}
 use Rattle.network.specs.View.{Cell, empty, header, payload, sourceInput, memoryOutput, Choice, noOutput, toOutput, Routers, Sender, Receiver, Landing, nothing, landed, Order, noOrder, pending, View}
 
--- the header stage. The output that a header asks for: the code of the side that the packet came in by means this node's memory, any
--- other a side to leave by
+-- the header stage. The output that a header asks for, by its route's first code
 unfoldable pub outputFor : ℕ → ℕ → ℕ
-outputFor input word = pick (input =? firstCode (routeOf word)) memoryOutput (firstCode (routeOf word))
+outputFor input word = outputOf input (firstCode (routeOf word))
 
 -- it takes the header's first code off; a payload word goes on as it is
 abbrev pub advance : Cell → Cell

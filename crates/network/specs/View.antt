@@ -4,6 +4,7 @@
 -- 0 to 3, a side, or 4, the memory.
 use Prim.Native.Nat.{ℕ}
 use mathlib.Core.Bool.{Bool}
+pub use Rattle.torus.specs.Route.{memoryOutput}
 
 -- what a register between two stages holds: nothing, a packet's header word, or a payload word, which may be the packet's last
 pub data Cell : Type 0 where
@@ -13,9 +14,6 @@ pub data Cell : Type 0 where
 
 abbrev pub sourceInput : ℕ
 sourceInput = 4
-
-abbrev pub memoryOutput : ℕ
-memoryOutput = 4
 
 -- what is chosen for a word: no output, or one
 pub data Choice : Type 0 where

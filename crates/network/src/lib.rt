@@ -80,7 +80,7 @@ pub const OUTPUTS: u32 = 5;
 
 pub const SOURCE_INPUT: u32 = 4;
 
-pub const MEMORY_OUTPUT: u32 = 4;
+pub const MEMORY_OUTPUT: u32 = torus::MEMORY_OUTPUT;
 
 // Register k of a row; past the end of the words it is 0.
 pub fn reg(s: &[u32], row: u32, k: u32) -> u32
@@ -111,15 +111,11 @@ pub fn sheet_of(s: &[u32]) -> &[u32]
     &s[from..from + size]
 }
 
-// The output that a header asks for: its first code, where that is the input's own side this node's memory.
+// The output that a header asks for, by its route's first code.
 pub fn output_for(input: u32, word: u32) -> u32
     ensures { λ r. ⌜ r ≡ outputFor input word ⌝ }
 {
-    let code = Header(word).route() % 4;
-    if input == code {
-        return MEMORY_OUTPUT;
-    }
-    code
+    torus::output_of(input, Header(word).route() % 4)
 }
 
 // A word as it leaves the header stage: a header without its first code, any other word as it is.

@@ -13,7 +13,7 @@ use Rattle.words.specs.Tests.{_≤?_, _=?_}
 use Rattle.words.specs.Words.{word, pick, tab}
 use Rattle.words.proofs.TestLaws.{and-left, and-right, is≤, yes=, no=}
 use Rattle.words.proofs.WordLaws.{length-tab}
-use Rattle.packet.specs.Header.{headerWord, kindOf, shiftedWord, routeOf, firstCode}
+use Rattle.packet.specs.Header.{headerWord, kindOf, shiftedWord}
 use Rattle.torus.proofs.NeighbourLaws.{neighbour-inside}
 use Rattle.sheet.specs.Sheet.{circuits, schedules, nodes, circuitAt, period}
 use Rattle.sheet.proofs.PassedLaws.{in-grid}
@@ -28,6 +28,7 @@ use Rattle.soundness.proofs.SoundLaws.{travels-small, CellParts, cell-none, Tra
 use Rattle.session.proofs.MoveLaws.{move-opens, transfer-step}
 use Rattle.soundness.proofs.SheetLaws.{SheetBounds, period-some, circuit-bounds}
 use Rattle.network.proofs.SlotLaws.{route-small}
+use Rattle.network.proofs.StageLaws.{output-small}
 
 -- cells: a payload word, a header whose kind travels
 cell-body : (mark w : ℕ) → 2 ≤ mark → mark ≤ 3 → CellParts mark w
@@ -76,12 +77,7 @@ pick-high true most p q = p
 pick-high false most p q = q
 
 output-high : (input w : ℕ) → outputFor input w + 1 ≤ 5
-unfolding outputFor
-output-high input w = go (input =? firstCode (routeOf w))
-  where
-    go : (b : Bool) → pick b memoryOutput (firstCode (routeOf w)) + 1 ≤ 5
-    go true = omega arith
-    go false = omega arith
+output-high input w = omega (arith, output-small input w (outputFor input w) refl)
 
 choice-high : (input latch mark w : ℕ) → latch ≤ 5 → nextChoice input latch mark w ≤ 5
 unfolding nextChoice

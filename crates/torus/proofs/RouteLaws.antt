@@ -5,6 +5,7 @@ use mathlib.Core.Bool.{Bool, true, false}
 use mathlib.Core.List.{List, [], _∷_, map}
 use mathlib.Core.Path.{_≡_, refl, sym, ap, subst, _∙_}
 use native.Mathlib.Nat.{not-suc-le-zero, le-of-suc-le-suc, mod-lt, add-zero, zero-add}
+use native.Mathlib.Decide.{ℕ-discrete}
 use native.Mathlib.Numerals.{sub-one}
 use native.Mathlib.Omega.{arith}
 use lib.ListN.{length, getD, set, replicate, length-set}
@@ -13,53 +14,78 @@ use Rattle.words.specs.Words.{pick, putAll}
 use Rattle.words.proofs.TestLaws.{yes=, no=}
 use Rattle.packet.specs.Header.{firstCode, laterCodes}
 use Rattle.torus.specs.Torus.{InGrid, neighbourOf, oppositeOf}
-use Rattle.torus.specs.Route.{Wire, source, side, memory, Use, Route, leads, nowhere, exitOf, ending, overSide, fromSource, follow, routeFrom, wireNumber, pathOf}
-use Rattle.torus.specs.declared.Exit.{Exit}
-use Rattle.torus.specs.declared.Exit.the-variants.{Memory, To}
+use Rattle.torus.specs.Route.{Wire, source, side, memory, Use, Route, leads, nowhere, memoryOutput, outputOf, ending, overSide, fromSource, routerCycles, follow, routeFrom, wireNumber, pathOf}
 use Rattle.torus.specs.declared.Path.{Path}
 use Rattle.torus.proofs.NeighbourLaws.{neighbour-inside}
 
--- the router that a packet goes on to is a node of the grid
-pub next-inside : (cols rows node entry code next : ℕ) → InGrid cols rows node → exitOf cols rows node entry code ≡ To next
-    → InGrid cols rows next
-unfolding exitOf
-next-inside cols rows node entry code next g h = go (entry =? code) h
+-- the router by a side is a node of the grid
+pub next-inside : {cols rows node : ℕ} → InGrid cols rows node → (output : ℕ) → InGrid cols rows (neighbourOf cols rows node output)
+next-inside g output = record {
+  cols-low = g .cols-low;
+  cols-high = g .cols-high;
+  rows-low = g .rows-low;
+  rows-high = g .rows-high;
+  inside = neighbour-inside g output;
+}
+
+-- the output for a code, where the packet came in by its side and where it did not
+pub output-memory : {entry code named : ℕ} → code ≡ named → entry ≡ named → memoryOutput ≡ outputOf entry code
+unfolding outputOf
+output-memory e q = rw (yes= (q ∙ sym e))
+
+pub output-side : {entry code named : ℕ} → code ≡ named → (entry ≡ named → ⊥) → named ≡ outputOf entry code
+unfolding outputOf
+output-side e ne = rw (no= (λ q. ne (q ∙ e))) (sym e)
+
+-- an output is a side or the memory
+pub output-small : (entry code output : ℕ) → output ≡ outputOf entry code → code < 4 → output ≤ 4
+unfolding outputOf
+output-small entry code output e l = go (entry =? code) e
   where
-    go : (b : Bool) → pick b Memory (To (neighbourOf cols rows node code)) ≡ To next → InGrid cols rows next
-    go true q = absurd (let z : _≡_ {A = ℕ} 0 1 = cc in omega arith)
-    go false q =
-        let e : neighbourOf cols rows node code ≡ next = cc in
-        record {
-          cols-low = g .cols-low;
-          cols-high = g .cols-high;
-          rows-low = g .rows-low;
-          rows-high = g .rows-high;
-          inside = omega (arith, neighbour-inside g code);
-        }
+    go : (b : Bool) → output ≡ pick b memoryOutput code → output ≤ 4
+    go true q = omega arith
+    go false q = omega arith
+
+-- and a side where it is not the memory
+pub side-small : (entry code : ℕ) → code < 4 → (outputOf entry code ≡ memoryOutput → ⊥) → outputOf entry code < 4
+side-small entry code l ne = omega (arith, output-small entry code (outputOf entry code) refl l)
 
 module _ (cols rows node entry delay route : ℕ) where
-  -- a router's output to the memory ends a route that has no bits left
-  pub follow-out : (left : ℕ) → 0 < left → exitOf cols rows node entry (firstCode route) ≡ Memory → laterCodes route ≡ 0
-      → follow left cols rows node entry delay route ≡ leads (record { wire = memory node; delay = delay } ∷ []) node 0
-  unfolding follow
-  follow-out zero h e z = absurd (not-suc-le-zero h)
-  follow-out (suc left) h e z = rw (e, follow) (simp (yes= z))
+  -- the output for the route's first code
+  abbrev outputHere : ℕ
+  outputHere = outputOf entry (firstCode route)
 
-  -- with bits left it leads nowhere
-  pub follow-lost : (left : ℕ) → 0 < left → exitOf cols rows node entry (firstCode route) ≡ Memory → (laterCodes route ≡ 0 → ⊥)
-      → follow left cols rows node entry delay route ≡ nowhere
+  -- the output to the memory is the route's end
+  pub follow-memory : (left : ℕ) → outputHere ≡ memoryOutput
+      → follow (suc left) cols rows node entry delay route ≡ ending (laterCodes route =? 0) node delay
   unfolding follow
-  follow-lost zero h e z = absurd (not-suc-le-zero h)
-  follow-lost (suc left) h e z = rw (e, follow) (simp (no= z))
+  follow-memory left e = rw (yes= e, follow) refl
 
   -- a side output goes on at the next router
-  pub follow-on : (next left : ℕ) → 0 < left → exitOf cols rows node entry (firstCode route) ≡ To next
-      → follow left cols rows node entry delay route
-      ≡ overSide (record { wire = side node (firstCode route); delay = delay })
-      (follow (left - 1) cols rows next (oppositeOf (firstCode route)) (delay + 3) (laterCodes route))
+  pub follow-side : (left : ℕ) → (outputHere ≡ memoryOutput → ⊥)
+      → follow (suc left) cols rows node entry delay route
+      ≡ overSide (record { wire = side node outputHere; delay = delay })
+      (follow left cols rows (neighbourOf cols rows node outputHere) (oppositeOf outputHere) (delay + routerCycles) (laterCodes route))
   unfolding follow
-  follow-on next zero h e = absurd (not-suc-le-zero h)
-  follow-on next (suc left) h e = rw (sub-one, e, follow) refl
+  follow-side left ne = rw (no= ne, follow) refl
+
+  -- the same where some routers are left: a route that has no bits left, one that has, and one that goes on
+  pub follow-out : (left : ℕ) → 0 < left → outputHere ≡ memoryOutput → laterCodes route ≡ 0
+      → follow left cols rows node entry delay route ≡ leads (record { wire = memory node; delay = delay } ∷ []) node 0
+  follow-out zero h e z = absurd (not-suc-le-zero h)
+  follow-out (suc left) h e z = follow-memory left e ∙ ap (λ b. ending b node delay) (yes= z)
+
+  pub follow-lost : (left : ℕ) → 0 < left → outputHere ≡ memoryOutput → (laterCodes route ≡ 0 → ⊥)
+      → follow left cols rows node entry delay route ≡ nowhere
+  follow-lost zero h e z = absurd (not-suc-le-zero h)
+  follow-lost (suc left) h e z = follow-memory left e ∙ ap (λ b. ending b node delay) (no= z)
+
+  pub follow-on : (left : ℕ) → 0 < left → (outputHere ≡ memoryOutput → ⊥)
+      → follow left cols rows node entry delay route
+      ≡ overSide (record { wire = side node outputHere; delay = delay })
+      (follow (left - 1) cols rows (neighbourOf cols rows node outputHere) (oppositeOf outputHere) (delay + routerCycles) (laterCodes route))
+  follow-on zero h ne = absurd (not-suc-le-zero h)
+  follow-on (suc left) h ne = rw sub-one (follow-side left ne)
 
   -- with no router left a route leads nowhere
   pub follow-end : (left : ℕ) → left ≤ 0 → follow left cols rows node entry delay route ≡ nowhere
@@ -126,7 +152,7 @@ going-start cols rows node route g = record {
 module _ {answer : Path} {cols rows : ℕ} {wires delays : List ℕ} {node entry delay rest hops : ℕ}
     (g : Going answer cols rows wires delays node entry delay rest hops) where
   -- out to the memory at the route's end, the last wire is written
-  pub going-out : hops < 8 → {way : Exit} → way ≡ exitOf cols rows node entry (firstCode rest) → way ≡ Memory → laterCodes rest ≡ 0
+  pub going-out : hops < 8 → {output : ℕ} → output ≡ outputOf entry (firstCode rest) → output ≡ memoryOutput → laterCodes rest ≡ 0
       → record {
         leads = true;
         node = node;
@@ -141,28 +167,29 @@ module _ {answer : Path} {cols rows : ℕ} {wires delays : List ℕ} {node entry
       ∙ g .rest-leads)
 
   -- out to the memory with bits left, the route leads nowhere
-  pub going-lost : hops < 8 → {way : Exit} → way ≡ exitOf cols rows node entry (firstCode rest) → way ≡ Memory → (laterCodes rest ≡ 0 → ⊥)
+  pub going-lost : hops < 8 → {output : ℕ} → output ≡ outputOf entry (firstCode rest) → output ≡ memoryOutput → (laterCodes rest ≡ 0 → ⊥)
       → pathOf nowhere ≡ answer
   going-lost h w e z =
       sym (ap (written wires delays (hops + 1) hops) (follow-lost cols rows node entry delay rest (8 - hops) (omega arith) (sym w ∙ e) z))
       ∙ g .rest-leads
 
   -- on to the next router, one more wire is written
-  pub going-on : hops < 8 → {way : Exit} → way ≡ exitOf cols rows node entry (firstCode rest) → {next : ℕ} → way ≡ To next
-      → Going answer cols rows (set wires (hops + 1) (node * 6 + firstCode rest)) (set delays (hops + 1) delay) next
-      (oppositeOf (firstCode rest)) (delay + 3) (laterCodes rest) (hops + 1)
-  going-on h w {next} e = record {
-    here = next-inside cols rows node entry (firstCode rest) next (g .here) (sym w ∙ e);
+  pub going-on : hops < 8 → {output : ℕ} → output ≡ outputOf entry (firstCode rest) → (output ≡ memoryOutput → ⊥)
+      → {next : ℕ} → next ≡ neighbourOf cols rows node output
+      → Going answer cols rows (set wires (hops + 1) (node * 6 + output)) (set delays (hops + 1) delay) next
+      (oppositeOf output) (delay + 3) (laterCodes rest) (hops + 1)
+  going-on h {output} w ne {next} e = record {
+    here = subst (InGrid cols rows) (sym e) (next-inside (g .here) output);
     few = omega arith;
     late = omega (arith, g .late);
-    wires-long = length-set wires (hops + 1) (node * 6 + firstCode rest) ∙ g .wires-long;
+    wires-long = length-set wires (hops + 1) (node * 6 + output) ∙ g .wires-long;
     delays-long = length-set delays (hops + 1) delay ∙ g .delays-long;
     rest-leads =
         let less : 8 - (hops + 1) ≡ 8 - hops - 1 = omega arith in
-        rw less
-        (written-on wires delays (hops + 1) hops (record { wire = side node (firstCode rest); delay = delay })
-        (follow (8 - hops - 1) cols rows next (oppositeOf (firstCode rest)) (delay + 3) (laterCodes rest))
-        ∙ sym (ap (written wires delays (hops + 1) hops) (follow-on cols rows node entry delay rest next (8 - hops) (omega arith) (sym w ∙ e)))
+        rw (less, e, w)
+        (written-on wires delays (hops + 1) hops (record { wire = side node (outputOf entry (firstCode rest)); delay = delay })
+        (follow (8 - hops - 1) cols rows (neighbourOf cols rows node (outputOf entry (firstCode rest))) (oppositeOf (outputOf entry (firstCode rest))) (delay + 3) (laterCodes rest))
+        ∙ sym (ap (written wires delays (hops + 1) hops) (follow-on cols rows node entry delay rest (8 - hops) (omega arith) (λ q. ne (w ∙ q))))
         ∙ g .rest-leads);
   }
 
@@ -223,40 +250,42 @@ module _ (cols rows : ℕ) where
   }
   followed-out left node delay g false = tt
 
-  followed-on : (left node delay code : ℕ) → InGrid cols rows node → code < 4 → (r : Route) → Followed cols rows left (delay + 3) r
-      → Followed cols rows (suc left) delay (overSide (record { wire = side node code; delay = delay }) r)
-  followed-on left node delay code g c (leads uses end hops) f = record {
+  followed-on : (left node delay output : ℕ) → InGrid cols rows node → output < 4 → (r : Route) → Followed cols rows left (delay + 3) r
+      → Followed cols rows (suc left) delay (overSide (record { wire = side node output; delay = delay }) r)
+  followed-on left node delay output g c (leads uses end hops) f = record {
     arrives = f .arrives;
     counted = omega (arith, f .counted);
     within = omega (arith, f .within);
     small = λ d h.
         (record { proper = c; numbered = omega (arith, g .inside); soon = omega arith }, f .small d (omega arith));
   }
-  followed-on left node delay code g c nowhere f = tt
+  followed-on left node delay output g c nowhere f = tt
 
-  -- the rest of a route behind the next router
-  abbrev onFrom : ℕ → ℕ → ℕ → ℕ → Route
-  onFrom left delay route next = follow left cols rows next (oppositeOf (firstCode route)) (delay + 3) (laterCodes route)
+  -- the rest of a route behind the router by an output
+  abbrev onFrom : ℕ → ℕ → ℕ → ℕ → ℕ → Route
+  onFrom left node delay route output =
+      follow left cols rows (neighbourOf cols rows node output) (oppositeOf output) (delay + routerCycles) (laterCodes route)
 
   followed : (left node entry delay route : ℕ) → InGrid cols rows node
       → Followed cols rows left delay (follow left cols rows node entry delay route)
   unfolding follow
   followed zero node entry delay route g = tt
   followed (suc left) node entry delay route g =
-      go (exitOf cols rows node entry (firstCode route)) refl
-      (λ next i. followed left next (oppositeOf (firstCode route)) (delay + 3) (laterCodes route) i)
+      go (ℕ-discrete output memoryOutput)
+      (followed left (neighbourOf cols rows node output) (oppositeOf output) (delay + routerCycles) (laterCodes route) (next-inside g output))
     where
-      go : (x : Exit) → exitOf cols rows node entry (firstCode route) ≡ x
-          → ((next : ℕ) → InGrid cols rows next → Followed cols rows left (delay + 3) (onFrom left delay route next))
-          → Followed cols rows (suc left) delay
-          (elim x [
-            | Memory ↦ ending (laterCodes route =? 0) node delay
-            | To next ↦ overSide (record { wire = side node (firstCode route); delay = delay }) (onFrom left delay route next)
-          ])
-      go Memory e r = followed-out left node delay g (laterCodes route =? 0)
-      go (To next) e r =
-          followed-on left node delay (firstCode route) g (mod-lt route (omega arith)) (onFrom left delay route next)
-          (r next (next-inside cols rows node entry (firstCode route) next g e))
+      output : ℕ
+      output = outputOf entry (firstCode route)
+
+      go : Dec (output ≡ memoryOutput) → Followed cols rows left (delay + routerCycles) (onFrom left node delay route output)
+          → Followed cols rows (suc left) delay (follow (suc left) cols rows node entry delay route)
+      go (yes e) r =
+          subst (Followed cols rows (suc left) delay) (sym (follow-memory cols rows node entry delay route left e))
+          (followed-out left node delay g (laterCodes route =? 0))
+      go (no ne) r =
+          subst (Followed cols rows (suc left) delay) (sym (follow-side cols rows node entry delay route left ne))
+          (followed-on left node delay output g (side-small entry (firstCode route) (mod-lt route (omega arith)) ne)
+          (onFrom left node delay route output) r)
 
 -- what holds where a route leads from its source
 record LedFrom (cols rows : ℕ) (uses : List Use) (node hops : ℕ) : Type 0 where

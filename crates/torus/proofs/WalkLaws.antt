@@ -2,22 +2,20 @@
 -- Assumes nothing.
 use Prim.Native.Nat.{ℕ, zero, suc, _+_, _*_, _<_, _≤_}
 use mathlib.Core.Bool.{Bool, true, false}
-use mathlib.Core.List.{List, []}
-use mathlib.Core.Path.{_≡_, refl, sym, _∙_, ap, subst}
+use mathlib.Core.List.{List}
+use mathlib.Core.Path.{_≡_, refl, sym, subst}
 use native.Mathlib.Nat.{mod-lt}
 use native.Mathlib.Numerals.{add-one}
 use native.Mathlib.Omega.{arith}
-use native.Mathlib.Decide.{decLt}
-use Rattle.words.specs.Tests.{any, _=?_}
-use Rattle.words.specs.Words.{pick}
+use native.Mathlib.Decide.{decLt, ℕ-discrete}
+use Rattle.words.specs.Tests.{_=?_}
 use Rattle.words.proofs.TestLaws.{yes=}
 use Rattle.words.proofs.AllLaws.{any-at}
 use Rattle.words.proofs.WordLaws.{leastFrom-least, leastFrom-most}
 use Rattle.packet.specs.Header.{firstCode, laterCodes}
 use Rattle.torus.specs.Torus.{neighbourOf, oppositeOf, walks, distanceOf}
-use Rattle.torus.specs.Route.{Use, Route, leads, nowhere, exitOf, ending, overSide, fromSource, side, source, follow, routeFrom, codes, noSide, routerCycles}
-use Rattle.torus.specs.declared.Exit.{Exit}
-use Rattle.torus.specs.declared.Exit.the-variants.{Memory, To}
+use Rattle.torus.specs.Route.{Use, Route, leads, nowhere, memoryOutput, outputOf, ending, overSide, fromSource, side, source, follow, routeFrom, codes, noSide, routerCycles}
+use Rattle.torus.proofs.RouteLaws.{side-small, follow-memory, follow-side}
 
 module _ (cols rows : ℕ) where
   -- where a route leads, a walk of as many steps as its hops leads too
@@ -30,39 +28,33 @@ module _ (cols rows : ℕ) where
   walked-end node delay true = yes= refl
   walked-end node delay false = tt
 
-  exit-to : (node entry code next : ℕ) (b : Bool) → pick b Memory (To (neighbourOf cols rows node code)) ≡ To next
-      → neighbourOf cols rows node code ≡ next
-  exit-to node entry code next true e = absurd (let z : _≡_ {A = ℕ} 0 1 = cc in omega arith)
-  exit-to node entry code next false e = cc
-
-  exit-next : (node entry code next : ℕ) → exitOf cols rows node entry code ≡ To next → neighbourOf cols rows node code ≡ next
-  unfolding exitOf
-  exit-next node entry code next e = exit-to node entry code next (entry =? code) e
-
-  walked-on : (node code next : ℕ) (u : Use) → code < 4 → neighbourOf cols rows node code ≡ next → (r : Route) → Walked next r
-      → Walked node (overSide u r)
+  walked-on : (node output : ℕ) (u : Use) → output < 4 → (r : Route) → Walked (neighbourOf cols rows node output) r → Walked node (overSide u r)
   unfolding walks
-  walked-on node code next u h e (leads uses to hops) w =
-      rw add-one
-      (any-at 4 (λ s. walks cols rows hops (neighbourOf cols rows node s) to) code h
-      (ap (λ (n : ℕ). walks cols rows hops n to) e ∙ w))
-  walked-on node code next u h e nowhere w = tt
+  walked-on node output u h (leads uses to hops) w =
+      rw add-one (any-at 4 (λ s. walks cols rows hops (neighbourOf cols rows node s) to) output h w)
+  walked-on node output u h nowhere w = tt
 
   walked : (left node entry delay route : ℕ) → Walked node (follow left cols rows node entry delay route)
   unfolding follow
   walked zero node entry delay route = tt
   walked (suc left) node entry delay route =
-      go (exitOf cols rows node entry (firstCode route)) refl
-      (λ next. walked left next (oppositeOf (firstCode route)) (delay + routerCycles) (laterCodes route))
+      go (ℕ-discrete output memoryOutput)
+      (walked left (neighbourOf cols rows node output) (oppositeOf output) (delay + routerCycles) (laterCodes route))
     where
-      go : (x : Exit) → exitOf cols rows node entry (firstCode route) ≡ x
-          → ((next : ℕ) → Walked next (follow left cols rows next (oppositeOf (firstCode route)) (delay + routerCycles) (laterCodes route)))
+      output : ℕ
+      output = outputOf entry (firstCode route)
+
+      rest : Route
+      rest = follow left cols rows (neighbourOf cols rows node output) (oppositeOf output) (delay + routerCycles) (laterCodes route)
+
+      go : Dec (output ≡ memoryOutput) → Walked (neighbourOf cols rows node output) rest
           → Walked node (follow (suc left) cols rows node entry delay route)
-      go Memory e w = rw (e, follow) (walked-end node delay (laterCodes route =? 0))
-      go (To next) e w = rw (e, follow)
-          (walked-on node (firstCode route) next (record { wire = side node (firstCode route); delay = delay }) (mod-lt route (omega arith))
-          (exit-next node entry (firstCode route) next e)
-          (follow left cols rows next (oppositeOf (firstCode route)) (delay + routerCycles) (laterCodes route)) (w next))
+      go (yes e) w =
+          subst (Walked node) (sym (follow-memory cols rows node entry delay route left e)) (walked-end node delay (laterCodes route =? 0))
+      go (no ne) w =
+          subst (Walked node) (sym (follow-side cols rows node entry delay route left ne))
+          (walked-on node output (record { wire = side node output; delay = delay })
+          (side-small entry (firstCode route) (mod-lt route (omega arith)) ne) rest w)
 
   walked-source : (node : ℕ) (u : Use) (r : Route) → Walked node r → Walked node (fromSource u r)
   walked-source node u (leads uses to hops) w = w

@@ -7,17 +7,19 @@ use Rattle.words.specs.Tests.{_=?_}
 use Rattle.words.specs.Words.{pick, putAll}
 use Rattle.packet.specs.Header.{firstCode, laterCodes}
 use Rattle.torus.specs.Torus.{neighbourOf, oppositeOf}
-use Rattle.torus.specs.declared.Exit.{Exit}
-use Rattle.torus.specs.declared.Exit.the-variants.{Memory, To}
 use Rattle.torus.specs.declared.Path.{Path}
 
 -- the entry side of a packet at its first router, where each code names a side to leave by
 abbrev pub noSide : ℕ
 noSide = 4
 
--- the exit of a router: the code of the side that the packet came in by means this node's memory, any other a side to leave by
-unfoldable pub exitOf : ℕ → ℕ → ℕ → ℕ → ℕ → Exit
-exitOf cols rows node entry code = pick (entry =? code) Memory (To (neighbourOf cols rows node code))
+-- a router's output to its node's memory; outputs 0 to 3 are its sides
+abbrev pub memoryOutput : ℕ
+memoryOutput = 4
+
+-- the output for a packet: the code of the side that it came in by means this node's memory, any other a side to leave by
+unfoldable pub outputOf : ℕ → ℕ → ℕ
+outputOf entry code = pick (entry =? code) memoryOutput code
 
 -- a wire: from a node's source into its router, a router's output by a side, a router's output to its node's memory
 pub data Wire : Type 0 where
@@ -58,10 +60,11 @@ fromSource first nowhere = nowhere
 unfoldable pub follow : ℕ → ℕ → ℕ → ℕ → ℕ → ℕ → ℕ → Route
 follow zero cols rows node entry delay route = nowhere
 follow (suc left) cols rows node entry delay route =
-    elim (exitOf cols rows node entry (firstCode route)) [
-      | Memory ↦ ending (laterCodes route =? 0) node delay
-      | To next ↦ overSide (record { wire = side node (firstCode route); delay = delay })
-          (follow left cols rows next (oppositeOf (firstCode route)) (delay + routerCycles) (laterCodes route))
+    let output = outputOf entry (firstCode route) in
+    elim (output =? memoryOutput) [
+      | true ↦ ending (laterCodes route =? 0) node delay
+      | false ↦ overSide (record { wire = side node output; delay = delay })
+          (follow left cols rows (neighbourOf cols rows node output) (oppositeOf output) (delay + routerCycles) (laterCodes route))
     ]
 
 -- a route of 16 bits has eight codes

@@ -4,13 +4,14 @@ mod distances;
 ghost use mathlib.Core.Path.{_≡_};
 ghost use mathlib.Core.Bool.{true, false};
 ghost use Prim.Native.Nat.{ℕ, _+_, _*_, _%_, _<_, _≤_};
-ghost use Rattle.words.specs.Tests.{_=?_};
-ghost use Rattle.words.specs.Words.{pick};
 ghost use Rattle.torus.specs.Torus.{InGrid, neighbourOf, distanceOf};
-ghost use Rattle.torus.specs.Route.{exitOf, routeFrom, pathOf, nowhere};
+ghost use Rattle.torus.specs.Route.{outputOf, routeFrom, pathOf, nowhere};
 use distances::DISTANCES;
 
+// The entry side of a packet at its first router, and a router's output to its node's memory; 0 to 3 are the sides.
 pub const NO_SIDE: u32 = 4;
+
+pub const MEMORY_OUTPUT: u32 = 4;
 
 pub const SOURCE: u32 = 4;
 
@@ -21,12 +22,6 @@ pub const WIRES_PER_NODE: u32 = 6;
 pub const ROUTER_CYCLES: u32 = 3;
 
 pub const CODES: u32 = 8;
-
-// What a router does with a packet: out to its node's memory, or on to a neighbour.
-pub enum Exit {
-    Memory,
-    To(u32),
-}
 
 // Where a route leads: the node at its end, its hops, and the wires that it uses with their delays, in the first hops + 2
 // places of the two lists; or, where leads is false, nowhere. (An enum cannot hold lists.)
@@ -112,27 +107,29 @@ pub fn neighbour(cols: u32, rows: u32, node: u32, side: u32) -> u32
     }
 }
 
-// Out to the memory where the packet came in by the side that its code names, else on to the neighbour by that side.
-fn exit_by(entry: u32, side: u32, next: u32) -> Exit
-    ensures { λ r. ⌜ r ≡ pick (entry =? side) Exit.Memory (Exit.To next) ⌝ }
-{
-    if entry == side {
-        Exit::Memory
-    } else {
-        Exit::To(next)
-    }
-}
-
-// The exit of a router at a node for a packet that came in by a side (NO_SIDE at its first router) and whose next code is given.
-pub fn leave(cols: u32, rows: u32, node: u32, entry: u32, code: u32) -> Exit
-    requires { ⌜ InGrid cols rows node ⌝ }
-    ensures { λ r. ⌜ r ≡ exitOf cols rows node entry code ⌝ }
+// The output of a router for a packet that came in by a side (NO_SIDE at its first router) and whose next code is given: the code's
+// side, or the memory where the packet came in by that side. A code is two bits of a route, which meets the requires.
+pub fn output_of(entry: u32, code: u32) -> u32
+    requires { ⌜ code < 4 ⌝ }
+    ensures { λ r. ⌜ r ≡ outputOf entry code ⌝ }
 {
     match code {
-        0 => exit_by(entry, 0, north(cols, rows, node)),
-        1 => exit_by(entry, 1, east(cols, rows, node)),
-        2 => exit_by(entry, 2, south(cols, rows, node)),
-        _ => exit_by(entry, code, west(cols, rows, node)),
+        0 => match entry {
+            0 => MEMORY_OUTPUT,
+            _ => 0,
+        },
+        1 => match entry {
+            1 => MEMORY_OUTPUT,
+            _ => 1,
+        },
+        2 => match entry {
+            2 => MEMORY_OUTPUT,
+            _ => 2,
+        },
+        _ => match entry {
+            3 => MEMORY_OUTPUT,
+            _ => 3,
+        },
     }
 }
 
@@ -167,27 +164,23 @@ pub fn follow_route(cols: u32, rows: u32, source: u32, route: u32) -> Path
         rest = rest / 4;
         let at = (hops + 1) as usize;
         delays[at] = delay;
-        let way = leave(cols, rows, node, entry, code);
-        match way {
-            Exit::Memory => {
-                if rest != 0 {
-                    return nowhere_path();
-                }
-                wires[at] = node * WIRES_PER_NODE + MEMORY;
-                return Path {
-                    leads: true,
-                    node,
-                    hops,
-                    wires,
-                    delays,
-                };
+        let output = output_of(entry, code);
+        if output == MEMORY_OUTPUT {
+            if rest != 0 {
+                return nowhere_path();
             }
-            Exit::To(next) => {
-                wires[at] = node * WIRES_PER_NODE + code;
-                node = next;
-            }
+            wires[at] = node * WIRES_PER_NODE + MEMORY;
+            return Path {
+                leads: true,
+                node,
+                hops,
+                wires,
+                delays,
+            };
         }
-        entry = (code + 2) % 4;
+        wires[at] = node * WIRES_PER_NODE + output;
+        node = neighbour(cols, rows, node, output);
+        entry = (output + 2) % 4;
         delay += ROUTER_CYCLES;
         hops += 1;
     }

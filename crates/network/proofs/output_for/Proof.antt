@@ -1,7 +1,11 @@
--- `network::output_for` meets its contract: the header's first code is compared as in the definition.
+-- `network::output_for` meets its contract: a route's first code is below 4, and the output is the torus's for it.
 -- Assumes nothing.
+use mathlib.Core.Path.{_∙_, ap}
+use native.Mathlib.Nat.{mod-lt}
 use native.Mathlib.Omega.{arith}
-use Rattle.network.proofs.StageLaws.{output-memory, output-side}
+use Rattle.packet.specs.Header.{firstCode}
+use Rattle.torus.specs.Route.{outputOf}
+use Rattle.network.specs.Cycle.{outputFor}
 use borrow.Author.Needs.{needs}
 use Rattle.network.proofs.output_for.Statement.{statement}
 use Rattle.network.proofs.output_for.Tie as tie
@@ -9,11 +13,12 @@ use Rattle.network.proofs.output_for.Tie as tie
 route-requires : tie.Need-route-requires
 route-requires c κs = search needs
 
-returns : tie.Need-returns
-returns c = output-memory _ _ _ (c .before .route .ensures) (omega arith)
+output-of-requires : tie.Need-output-of-requires
+output-of-requires c κs = mod-lt _ (omega arith)
 
-returns-2 : tie.Need-returns-2
-returns-2 c = output-side _ _ _ (c .before .route .ensures) (λ e. (let z : ⊥ = omega (arith, e) in z))
+returns : tie.Need-returns
+unfolding outputFor
+returns c = c .output-of .ensures ∙ ap (λ route. outputOf (c .before .before .args .input) (firstCode route)) (c .before .route .ensures)
 
 pub output-for-spec : {M : Type 1} → statement M
-output-for-spec = tie.close (tie.spec route-requires returns returns-2)
+output-for-spec = tie.close (tie.spec route-requires output-of-requires returns)

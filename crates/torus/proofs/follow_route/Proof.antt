@@ -2,11 +2,12 @@
 -- The measure is how many routers are left. Assumes nothing.
 use mathlib.Core.Path.{_∙_}
 use Prim.Native.Nat.{_-_}
+use native.Mathlib.Nat.{mod-lt}
 use native.Mathlib.Omega.{arith}
 use borrow.Author.Needs.{needs}
 use Rattle.torus.specs.Route.{routeFrom, pathOf}
 use Rattle.torus.proofs.NeighbourLaws.{bounds}
-use Rattle.torus.proofs.RouteLaws.{Going, going-start, going-out, going-lost, going-on, going-end}
+use Rattle.torus.proofs.RouteLaws.{Going, going-start, going-out, going-lost, going-on, going-end, output-small}
 use Rattle.torus.proofs.follow_route.Statement.{statement}
 use Rattle.torus.proofs.follow_route.Tie as tie
 
@@ -42,27 +43,24 @@ mul-delays c = omega arith
 array-write-delays : tie.Need-array-write-delays Inv-loop μ-loop
 array-write-delays c = omega arith
 
-leave-requires : tie.Need-leave-requires Inv-loop μ-loop
-leave-requires c κs = c .before .loop .inv .here
-
-enum-told : tie.Need-enum-told Inv-loop μ-loop
-enum-told c = search needs
+output-of-requires : tie.Need-output-of-requires Inv-loop μ-loop
+output-of-requires c κs = mod-lt _ (omega arith)
 
 nowhere-path-requires : tie.Need-nowhere-path-requires Inv-loop μ-loop
 nowhere-path-requires c κs = search needs
 
 returns : tie.Need-returns Inv-loop μ-loop
 returns c =
-    let left = c .before .before .before .before in
+    let out = c .before .before in
     c .nowhere-path .ensures
-    ∙ going-lost (left .before .before .loop .inv) (left .before .loop-test .taken) (left .leave .ensures)
-    (c .before .before .enum-told .given .1) (λ e. omega arith)
+    ∙ going-lost (out .before .before .before .loop .inv) (out .before .before .loop-test .taken) (out .before .output-of .ensures)
+    (out .if1 .taken) (λ e. omega arith)
 
 mul-wires-2 : tie.Need-mul-wires-2 Inv-loop μ-loop
-mul-wires-2 c = let b = bounds (c .before .before .before .before .before .loop .inv .here) in omega arith
+mul-wires-2 c = let b = bounds (c .before .before .before .before .loop .inv .here) in omega arith
 
 add-wires-2 : tie.Need-add-wires-2 Inv-loop μ-loop
-add-wires-2 c = let b = bounds (c .before .before .before .before .before .loop .inv .here) in omega arith
+add-wires-2 c = let b = bounds (c .before .before .before .before .loop .inv .here) in omega arith
 
 mul-wires-3 : tie.Need-mul-wires-3 Inv-loop μ-loop
 mul-wires-3 c = omega arith
@@ -72,18 +70,17 @@ array-write-wires-2 c = omega arith
 
 returns-2 : tie.Need-returns-2 Inv-loop μ-loop
 returns-2 c =
-    let left = c .before .before .before in
-    going-out (left .before .before .loop .inv) (left .before .loop-test .taken) (left .leave .ensures)
-    (c .before .enum-told .given .1) (omega arith)
-
-enum-known-way : tie.Need-enum-known-way Inv-loop μ-loop
-enum-known-way c = search needs
+    let out = c .before in
+    going-out (out .before .before .before .loop .inv) (out .before .before .loop-test .taken) (out .before .output-of .ensures)
+    (out .if1 .taken) (omega arith)
 
 mul-wires-4 : tie.Need-mul-wires-4 Inv-loop μ-loop
-mul-wires-4 c = let b = bounds (c .before .before .before .before .before .loop .inv .here) in omega arith
+mul-wires-4 c = let b = bounds (c .before .before .before .loop .inv .here) in omega arith
 
 add-wires-3 : tie.Need-add-wires-3 Inv-loop μ-loop
-add-wires-3 c = let b = bounds (c .before .before .before .before .before .loop .inv .here) in omega arith
+add-wires-3 c =
+    let b = bounds (c .before .before .before .loop .inv .here) in
+    omega (arith, output-small _ _ _ (c .before .output-of .ensures) (mod-lt _ (omega arith)))
 
 mul-wires-5 : tie.Need-mul-wires-5 Inv-loop μ-loop
 mul-wires-5 c = omega arith
@@ -91,8 +88,11 @@ mul-wires-5 c = omega arith
 array-write-wires-3 : tie.Need-array-write-wires-3 Inv-loop μ-loop
 array-write-wires-3 c = omega arith
 
+neighbour-requires : tie.Need-neighbour-requires Inv-loop μ-loop
+neighbour-requires c κs = c .before .before .before .loop .inv .here
+
 add-entry : tie.Need-add-entry Inv-loop μ-loop
-add-entry c = omega arith
+add-entry c = omega (arith, output-small _ _ _ (c .before .before .output-of .ensures) (mod-lt _ (omega arith)))
 
 add-delay : tie.Need-add-delay Inv-loop μ-loop
 add-delay c = omega arith
@@ -105,8 +105,9 @@ loop-less c = omega arith
 
 loop-again : tie.Need-loop-again Inv-loop μ-loop
 loop-again c =
-    let left = c .before .before .before in
-    going-on (left .before .before .loop .inv) (left .before .loop-test .taken) (left .leave .ensures) (c .before .way .given .1)
+    let on = c .before in
+    going-on (on .before .before .before .loop .inv) (on .before .before .loop-test .taken) (on .before .output-of .ensures)
+    (on .if1 .left) (c .neighbour .ensures)
 
 nowhere-path-requires-2 : tie.Need-nowhere-path-requires-2 Inv-loop μ-loop
 nowhere-path-requires-2 c κs = search needs
@@ -128,8 +129,7 @@ follow-route-spec =
     cast-at
     mul-delays
     array-write-delays
-    leave-requires
-    enum-told
+    output-of-requires
     nowhere-path-requires
     returns
     mul-wires-2
@@ -137,11 +137,11 @@ follow-route-spec =
     mul-wires-3
     array-write-wires-2
     returns-2
-    enum-known-way
     mul-wires-4
     add-wires-3
     mul-wires-5
     array-write-wires-3
+    neighbour-requires
     add-entry
     add-delay
     add-hops
