@@ -1,15 +1,21 @@
-//! Compares our verdicts on circuit sheets with those of the second checker: first the
-//! library call, then the program `sheet_check`, whose path is the argument.
+//! Compares our verdicts on circuit sheets, and the entries of a schedule that we hand
+//! back, with those of the second checker: first the library calls, then the program
+//! `sheet_check`, whose path is the argument.
 
+#[allow(dead_code)]
 mod second {
+    pub mod calls;
     pub mod checker;
+    pub mod exports;
+    pub mod lent;
+    pub mod machine;
     pub mod near_misses;
-    #[allow(dead_code)]
     pub mod sheets;
 }
 
 use second::sheets::{largest, sheet_a, Case};
-use second::{checker, near_misses};
+use second::{checker, exports, near_misses};
+use std::collections::BTreeMap;
 use std::io::Write;
 use std::process::{Command, ExitCode, Stdio};
 
@@ -22,6 +28,8 @@ const SHEETS_REQUIRED_OF_EACH_NUMBER: usize = 100;
 const INPUTS_REQUIRED: usize = 250;
 const MOST_SHEET_WORDS: u32 = 8_597;
 const DIFFERENCES_SHOWN: usize = 10;
+const SCHEDULES_ASKED: [u32; 10] = [0, 1, 2, 3, 4, 5, 6, 7, 8, u32::MAX];
+const FIELDS_ASKED: [u32; 5] = [0, 1, 2, 3, u32::MAX];
 
 fn our_verdict(sheet: &[u32]) -> u32 {
     // The pointer and the length are those of a live slice.
@@ -38,6 +46,7 @@ fn main() -> ExitCode {
 
     let cases = near_misses::all_cases();
     let mut sheets_by_number = [0; 12];
+    let mut entries_by_number: BTreeMap<u32, usize> = BTreeMap::new();
     let mut numbers = Vec::new();
     for case in &cases {
         let second = checker::verdict(&case.words);
@@ -51,6 +60,17 @@ fn main() -> ExitCode {
                 "sheet ({}): ours {ours}, second checker {second}, made for {:?}\n  words {:?}",
                 case.name, case.expected, case.words
             ));
+        }
+        let asked: Result<Vec<u32>, String> =
+            SCHEDULES_ASKED.iter().map(|&schedule| entries_agree(&case.words, second, schedule)).collect();
+        match asked {
+            Ok(numbers) => {
+                passed += 1;
+                for number in numbers {
+                    *entries_by_number.entry(number).or_insert(0) += 1;
+                }
+            }
+            Err(said) => differences.push(format!("entries ({}): {said}\n  words {:?}", case.name, case.words)),
         }
     }
 
@@ -79,6 +99,10 @@ fn main() -> ExitCode {
         println!("{number:>6}  {count:>6}");
     }
     println!(" total  {:>6}", cases.len());
+    println!("number  entries asked for");
+    for (number, count) in &entries_by_number {
+        println!("{number:>6}  {count:>6}");
+    }
     println!("line of sheet_check  inputs");
     inputs_by_line.sort();
     for (line, count) in &inputs_by_line {
@@ -100,11 +124,46 @@ fn main() -> ExitCode {
             enough = false;
         }
     }
+    for number in (0..12).chain([15]) {
+        if entries_by_number.get(&number).copied().unwrap_or(0) < SHEETS_REQUIRED_OF_EACH_NUMBER {
+            println!("too few entries were asked for with number {number}");
+            enough = false;
+        }
+    }
     println!("{passed} passed, {} failed", differences.len());
     if enough && differences.is_empty() {
         ExitCode::SUCCESS
     } else {
         ExitCode::FAILURE
+    }
+}
+
+/// The number beside one schedule's entries, where every field of ours is the second
+/// checker's and the words at our place are its words; else what differs.
+fn entries_agree(words: &[u32], verdict: u32, schedule: u32) -> Result<u32, String> {
+    let second = checker::entries(words, verdict, schedule);
+    for field in FIELDS_ASKED {
+        let wanted = match (&second, field) {
+            (Err(number), _) => u64::from(*number) << 32,
+            (Ok((place, _)), 0) => *place as u64,
+            (Ok((_, part)), 1) => part.len() as u64,
+            (Ok(_), _) => 0,
+        };
+        let ours = exports::entries(words, schedule, field);
+        if ours != wanted {
+            return Err(format!("schedule {schedule}, field {field}: ours {ours}, second checker {wanted}"));
+        }
+    }
+    let Ok((_, wanted)) = second else {
+        return Ok(second.unwrap_err());
+    };
+    let place = exports::entries(words, schedule, 0) as usize;
+    let length = exports::entries(words, schedule, 1) as usize;
+    let part: Vec<u64> = words[place..place + length].iter().map(|&word| u64::from(word)).collect();
+    if part == wanted {
+        Ok(0)
+    } else {
+        Err(format!("schedule {schedule}: our part {part:?}, second checker {wanted:?}"))
     }
 }
 

@@ -33,7 +33,8 @@ fn main() -> ExitCode {
         }
     }
 
-    // The sheets that are timed have to be of the stated sizes.
+    // The entries of sheet A, and the sheets that are timed, which have to be of the stated sizes.
+    let sheet_a = sheets::sheet_a().words();
     let largest = sheets::largest(1).words();
     let middle = sheets::middle(1);
     let middle_is_right = middle.nodes() == 16
@@ -41,6 +42,9 @@ fn main() -> ExitCode {
         && middle.schedules.len() == 3
         && middle.schedules.iter().all(|schedule| schedule.entries.len() == 40);
     for right in [
+        checker::entries(&sheet_a, 0, 0) == Ok((13, vec![0, 3, 0, 13])),
+        checker::entries(&sheet_a, 0, 1) == Err(15),
+        checker::entries(&sheet_a, 9, 1) == Err(9),
         largest.len() == 8_597,
         checker::verdict(&largest) == 0,
         middle_is_right,

@@ -43,6 +43,13 @@ extern "C" {
     fn argo_order(state: *mut u32, state_words: usize, schedule: u32, period_number: u32) -> u32;
     fn argo_cycle(state: *mut u32, state_words: usize, memory: *mut u32, memory_words: usize) -> u32;
     fn argo_state_words() -> u32;
+    fn argo_entries(sheet: *const u32, sheet_words: usize, schedule: u32, field: u32) -> u64;
+}
+
+/// A field of one schedule's entries: 0 the place of their first word in the sheet, 1 how many words they are; any other: 0.
+pub fn entries(sheet: &[u32], schedule: u32, field: u32) -> u64 {
+    // The pointer and the length are those of a live slice.
+    unsafe { argo_entries(sheet.as_ptr(), sheet.len(), schedule, field) }
 }
 
 pub struct Exports;

@@ -5,11 +5,13 @@ ghost use Prim.Native.Nat.{_*_, _<_};
 ghost use Rattle.words.specs.Tests.{_=?_};
 ghost use Rattle.words.specs.Words.{pick};
 ghost use Rattle.sheet.specs.Rules.{verdict};
+ghost use Rattle.checker.specs.Answers.{entriesNumber};
 ghost use Rattle.network.specs.Registers.{stateWords};
 ghost use Rattle.network.specs.Machine.{nextState, nextMemory};
 ghost use Rattle.session.specs.Calls.{loadNumber, loaded, startNumber, started, placeNumber, stored, fetched, leftNumber, wordsLeft, stateNumber, periodNumberIn, landedNumber, lastLanding, orderNumber, ordered, cycleNumber};
 ghost use Rattle.session.specs.Answers.{foundOf, landedOf};
-ghost use Rattle.exports.specs.Packed.{packed, chosen, fieldOf, packedFound, packedLanded};
+ghost use Rattle.exports.specs.Packed.{packed, entriesField, chosen, fieldOf, packedFound, packedLanded};
+use checker::Outcome;
 use session::Found;
 use session::Landed;
 use session::number_of;
@@ -20,6 +22,30 @@ pub extern "C" fn argo_verdict(sheet: &[u32]) -> u32
     ensures { λ r. ⌜ r ≡ verdict (now (sheet .entry)) ⌝ }
 {
     checker::verdict_number(sheet)
+}
+
+// A field of a schedule's entries: the place of their first word in the sheet, or how many words are handed back. argo_entries asks only
+// where the number is 0, which meets the requires.
+fn entries_field(sheet: &[u32], schedule: u32, field: u32) -> u64
+    requires { ⌜ entriesNumber (now sheet) schedule ≡ 0 ⌝ }
+    ensures { λ r. ⌜ r ≡ entriesField (now (sheet .entry)) schedule field ⌝ }
+{
+    match field {
+        0 => (sheet::schedule_place(sheet, schedule) + 2) as u64,
+        1 => checker::entries(sheet, schedule).len() as u64,
+        _ => 0,
+    }
+}
+
+// A field of one schedule's entries, as the part of the sheet that is handed back.
+#[no_mangle]
+pub extern "C" fn argo_entries(sheet: &[u32], schedule: u32, field: u32) -> u64
+    ensures { λ r. ⌜ r ≡ packed (entriesNumber (now (sheet .entry)) schedule) (entriesField (now (sheet .entry)) schedule field) ⌝ }
+{
+    match checker::entries_number(sheet, schedule) {
+        Outcome::Passes => entries_field(sheet, schedule, field),
+        Outcome::Refused(n) => n as u64 * 4294967296,
+    }
 }
 
 // The published length of the state.

@@ -75,7 +75,7 @@ pub fn keeps_rule3(s: &[u32]) -> bool
 }
 
 // The place of schedule j. Whoever has checked the rules 1 to 3 meets the requires, here and below.
-fn schedule_place(s: &[u32], j: u32) -> usize
+pub fn schedule_place(s: &[u32], j: u32) -> usize
     requires { ⌜ (Framed (now s)) × (j < schedules (now s)) ⌝ }
     ensures { λ r. ⌜ (r ≡ schedulePlace (now (s .entry)) j) × Placed (now (s .entry)) r ⌝ }
 {

@@ -16,3 +16,4 @@ pub use frame::keeps_rule1;
 pub use frame::keeps_rule2;
 pub use frame::keeps_rule3;
 pub use frame::schedule_period;
+pub use frame::schedule_place;
