@@ -63,6 +63,7 @@ fn contract_cases() -> Vec<Case> {
         one("function in a string", format!("const S: &[u8] = b\"pub fn h() {{}}\";\n{f}"), None),
         one("strings with backslashes", strings(&f), None),
         one("strings with backslashes, without", strings(&bare), no_ensures),
+        one("raw string, without", strings(&bare).replace("br\"", "r\""), no_ensures),
         one("brace in quotes", format!("fn g() -> u8 {{ b'{{' }}\n{f}"), None),
         one("quotes in quotes", format!("fn g() -> u8 {{ b'\"' }} {f} fn h() -> u8 {{ b'\\'' }}"), None),
         one("quotes in quotes, without", format!("fn g() -> u8 {{ b'\"' }} {bare} fn h() -> u8 {{ b'\\'' }}"), no_ensures),
@@ -138,6 +139,7 @@ fn module_cases() -> Vec<Case> {
     vec![
         of_files("handed on", &[("lib.rt", &handed), ("x.rt", &g)], &own, None),
         of_files("handed on, row deleted", &[("lib.rt", &handed), ("x.rt", &g)], ROW, not_listed),
+        of_files("a folder's own file", &[("lib.rt", &handed), ("x/mod.rt", &g)], ROW, not_listed),
         of_files("not handed on", &[("lib.rt", &hidden), ("x.rt", &g)], ROW, None),
         of_files("from a folder", &[("lib.rt", &deep), ("x/mod.rt", "pub mod y;"), ("x/y.rt", &g)], ROW, not_listed),
         of_files("by another name", &[("lib.rt", &renamed), ("x.rt", &g)], &own, not_listed),

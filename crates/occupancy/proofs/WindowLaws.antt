@@ -55,11 +55,12 @@ module _ (table : List ℕ) (q : ℕ) (small : word table q < 2 ^ 32) where
       ap₂ _or_ (window-bit b (omega arith)) (ap (λ (p : ℕ). anyTaken table (run n p)) e ∙ any-bits n (b + 1) (omega arith))
       ∙ sym (low-more (window table q) b n)
 
--- the test of a run by its mask
-pub any-mask : (table : List ℕ) (place size : ℕ) → word table (place / 32) < 2 ^ 32 → size ≤ 16
-    → (bitAnd (window table (place / 32)) (slotMask (place % 32) size) ≠? 0) ≡ anyTaken table (run size place)
-any-mask table place size small few =
+-- the test of a run by its mask, with the window and the mask as they were worked out
+pub any-mask : (table : List ℕ) (place size : ℕ) {v m : ℕ} → word table (place / 32) < 2 ^ 32 → size ≤ 16
+    → v ≡ window table (place / 32) → m ≡ slotMask (place % 32) size → (bitAnd v m ≠? 0) ≡ anyTaken table (run size place)
+any-mask table place size small few window-is mask-is =
     let e : 32 * (place / 32) + place % 32 ≡ place = omega arith in
-    and-mask-none (window table (place / 32)) (place % 32) size
+    ap₂ (λ (v m : ℕ). bitAnd v m ≠? 0) window-is mask-is
+    ∙ and-mask-none (window table (place / 32)) (place % 32) size
     ∙ sym (any-bits table (place / 32) small size (place % 32) (omega arith))
     ∙ ap (λ (p : ℕ). anyTaken table (run size p)) e

@@ -42,9 +42,9 @@ module _ (marks : List ℕ) (node v : ℕ) (e : v ≡ word marks node) where
     pub is-free : false ≡ (1 ≤? word marks node)
     is-free = sym (no≤ (let l : word marks node < 1 = omega arith in l))
 
-    pub free-set : (w : ℕ) (list : List ℕ) → set list node w ≡ putFree marks node w list
+    pub free-set : (w : ℕ) (list : List ℕ) {after : List ℕ} → after ≡ set list node w → after ≡ putFree marks node w list
     unfolding putFree
-    free-set w list = ap (λ (b : Bool). pick b (set list node w) list) (sym (yes= (sym e ∙ h)))
+    free-set w list t = t ∙ ap (λ (b : Bool). pick b (set list node w) list) (sym (yes= (sym e ∙ h)))
 
 -- a circuit reopens where its mark is a header's and words are to go
 reopens-by : (slot left going : Bool) (toGo : ℕ) → (markOf (moveOf slot left going) toGo =? 1 and going) ≡ (slot and left and going)

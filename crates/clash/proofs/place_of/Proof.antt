@@ -16,7 +16,7 @@ add-result-2 : tie.Need-add-result-2
 add-result-2 c = omega (arith, mul-le-mul {n₁ = c .args .wire} {m₁ = c .args .stride} {n₂ = 4294967295} {m₂ = 65536} (omega arith) (omega arith))
 
 returns : tie.Need-returns
-returns c = search needs
+returns c = omega arith
 
 pub place-of-spec : {M : Type 1} → statement M
 place-of-spec = tie.close (tie.spec mul-result add-result add-result-2 returns)

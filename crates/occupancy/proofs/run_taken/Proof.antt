@@ -1,9 +1,7 @@
 -- `occupancy::run_taken` meets its contract: what the mask leaves of the window is the bits of the run.
 -- Assumes nothing.
-use mathlib.Core.Path.{_∙_, ap₂}
-use Prim.Native.Nat.{ℕ, _/_}
+use Prim.Native.Nat.{_/_}
 use denote.Ref.{now}
-use lib.Bits.{bitAnd}
 use borrow.Author.Needs.{needs}
 use Rattle.words.specs.Tests.{_≠?_}
 use Rattle.occupancy.proofs.WindowLaws.{any-mask}
@@ -22,10 +20,11 @@ slot-mask-requires c κs = search needs
 returns : tie.Need-returns
 unfolding _≠?_
 returns c =
-    ap₂ (λ (v m : ℕ). bitAnd v m ≠? 0) (c .before .window .ensures) (c .slot-mask .ensures)
-    ∙ any-mask (now (c .before .before .before .args .table)) (c .before .before .before .args .place) (c .before .before .before .args .size)
+    any-mask (now (c .before .before .before .args .table)) (c .before .before .before .args .place) (c .before .before .before .args .size)
     (c .before .before .shared-slice-known .given (c .before .before .before .args .place / 32) .fits)
     (c .before .before .before .pre .1)
+    (c .before .window .ensures)
+    (c .slot-mask .ensures)
 
 pub run-taken-spec : {M : Type 1} → statement M
 run-taken-spec = tie.close (tie.spec cast-bit window-requires slot-mask-requires returns)

@@ -1,7 +1,6 @@
 -- `sources::put_on_wire` meets its contract: a mark other than 0 says that the wire is taken.
 -- Assumes nothing.
 use native.Mathlib.Omega.{arith}
-use mathlib.Core.Path.{_∙_}
 use Rattle.sources.proofs.WireLaws.{is-taken, taken-stays, is-free, free-set}
 use borrow.Author.Needs.{needs}
 use Rattle.sources.proofs.put_on_wire.Statement.{statement}
@@ -29,7 +28,15 @@ same-length-3 : tie.Need-same-length-3
 same-length-3 c = search needs
 
 returns-2 : tie.Need-returns-2
-returns-2 c = (is-free (c .before .before .before .before .before .before .before .before .before .before .before .before .before .args .marks .now) (c .before .before .before .before .before .before .before .before .before .before .before .before .before .args .node) _ (c .before .before .before .before .before .before .before .before .before .get .ensures) (omega arith), (c .before .before .before .before .before .before .put .ensures ∙ free-set _ _ _ (c .before .before .before .before .before .before .before .before .before .get .ensures) (omega arith) _ _, c .before .before .put2 .ensures ∙ free-set _ _ _ (c .before .before .before .before .before .before .before .before .before .get .ensures) (omega arith) _ _))
+returns-2 c =
+    let a = c .before .before .before .before .before .before .before .before .before .before .before .before .before .args in
+    let word = c .before .before .before .before .before .before .before .before .before .get .ensures in (
+      is-free (a .marks .now) (a .node) _ word (omega arith),
+      (
+        free-set _ _ _ word (omega arith) (a .mark) (a .marks .now) (c .before .before .before .before .before .before .put .ensures),
+        free-set _ _ _ word (omega arith) (a .word) (a .cells .now) (c .before .before .put2 .ensures),
+      ),
+    )
 
 pub put-on-wire-spec : {M : Type 1} → statement M
 put-on-wire-spec =

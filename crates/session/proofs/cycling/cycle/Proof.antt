@@ -1,5 +1,7 @@
 -- `session::cycling::cycle` meets its contract: a number of 12 to 14 is the answer, and nothing is written; else the words have passed.
 -- Assumes nothing.
+use native.Mathlib.Omega.{arith}
+use mathlib.Core.Path.{_≡_}
 use Rattle.session.proofs.CyclingLaws.{cycle-early}
 use Rattle.session.proofs.WritingLaws.{answer-refused, words-kept}
 use borrow.Author.Needs.{needs}
@@ -16,10 +18,13 @@ same-length-2 : tie.Need-same-length-2
 same-length-2 c = search needs
 
 returns : tie.Need-returns
-returns c = let e = cycle-early _ _ (c .before .memory-number .ensures) (c .if1 .taken) in (answer-refused _ e (c .if1 .taken), (words-kept _ _ _ e (c .if1 .taken), words-kept _ _ _ e (c .if1 .taken)))
+returns c =
+    let some : c .before .memory-number .result ≡ 0 → ⊥ = λ z. omega arith in
+    let e = cycle-early _ _ (c .before .memory-number .ensures) some in
+    (answer-refused _ e some, (words-kept _ _ _ e some, words-kept _ _ _ e some))
 
 cycle-sound-requires : tie.Need-cycle-sound-requires
-cycle-sound-requires c κs = search needs
+cycle-sound-requires c κs = omega (arith, c .before .before .before .memory-number .ensures)
 
 same-length-3 : tie.Need-same-length-3
 same-length-3 c = search needs

@@ -1,6 +1,6 @@
 -- `session::reading::period_number` meets its contract: the answer of the state's number and the clock's register.
 -- Assumes nothing.
-use mathlib.Core.Path.{_∙_, ap₂}
+use mathlib.Core.Path.{_≡_, _∙_, ap₂}
 use Rattle.session.specs.Calls.{periodNumberIn}
 use Rattle.session.specs.Answers.{foundOf}
 use borrow.Author.Needs.{needs}
@@ -18,7 +18,9 @@ found-of-requires c κs = search needs
 
 returns : tie.Need-returns
 unfolding periodNumberIn
-returns c = c .found-of .ensures ∙ ap₂ foundOf (c .before .before .state-number .ensures) (c .before .reg .ensures)
+returns c =
+    let register : c .before .reg .result ≡ periodNumberIn (c .before .before .before .before .args .s .now) = c .before .reg .ensures in
+    c .found-of .ensures ∙ ap₂ foundOf (c .before .before .state-number .ensures) register
 
 pub period-number-spec : {M : Type 1} → statement M
 period-number-spec =

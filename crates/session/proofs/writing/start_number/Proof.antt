@@ -31,7 +31,7 @@ returns-2 c = then-next (sym (c .before .before .before .before .before .before 
 
 returns-3 : tie.Need-returns-3
 unfolding startNumber isBusy
-returns-3 c = then-next (sym (c .before .before .before .before .before .before .before .state-number .ensures) ∙ c .before .before .before .before .before .before .if1 .left) (then-on 15 (sym (c .before .before .before .before .before .start-named .ensures) ∙ c .before .before .before .before .if2 .taken) (then-on 16 (sym (c .before .before .before .start-fits .ensures) ∙ c .before .before .if3 .taken) (unless-no 17 (some-there (c .before .reg .ensures) (c .if4 .left)))))
+returns-3 c = then-next (sym (c .before .before .before .before .before .before .before .state-number .ensures) ∙ c .before .before .before .before .before .before .if1 .left) (then-on 15 (sym (c .before .before .before .before .before .start-named .ensures) ∙ c .before .before .before .before .if2 .taken) (then-on 16 (sym (c .before .before .before .start-fits .ensures) ∙ c .before .before .if3 .taken) (unless-no 17 (some-there (c .before .reg .ensures) (λ z. omega arith)))))
 
 returns-4 : tie.Need-returns-4
 unfolding startNumber isBusy
