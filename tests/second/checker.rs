@@ -82,8 +82,9 @@ pub fn verdict(words: &[u32]) -> u32 {
     0
 }
 
-/// The part of a sheet that holds one schedule's entries (document 01, "The sheet"): the place of its first word, and its words. Where the
-/// sheet's own number is not 0 that number, else 15 where it has no such schedule.
+/// The part of a sheet that holds one schedule's entries (document 01, "The sheet"): the
+/// place of its first word, and its words. Where the sheet's own number is not 0 that
+/// number, else 15 where it has no such schedule.
 pub fn entries(words: &[u32], number: u32, schedule: u32) -> Result<(usize, Vec<u64>), u32> {
     if number != 0 {
         return Err(number);
@@ -92,11 +93,14 @@ pub fn entries(words: &[u32], number: u32, schedule: u32) -> Result<(usize, Vec<
     let Some(wanted) = sheet.schedules.get(schedule as usize) else {
         return Err(15);
     };
-    // The head, six words a circuit, for each earlier schedule two words and four an entry, and the two words of this one.
-    let earlier: usize = sheet.schedules[..schedule as usize].iter().map(|one| 2 + 4 * one.entries.len()).sum();
-    let place = 5 + 6 * sheet.circuits.len() + earlier + 2;
-    let part = wanted.entries.iter().flat_map(|entry| [entry.offset, entry.length, entry.circuit, entry.route]);
-    Ok((place, part.collect()))
+    // Before it: the head, six words a circuit, for each earlier schedule two words and
+    // four an entry, and its own two words.
+    let mut place = 5 + 6 * sheet.circuits.len() + 2;
+    for earlier in &sheet.schedules[..schedule as usize] {
+        place += 2 + 4 * earlier.entries.len();
+    }
+    let words_of = |entry: &Entry| [entry.offset, entry.length, entry.circuit, entry.route];
+    Ok((place, wanted.entries.iter().flat_map(words_of).collect()))
 }
 
 // Each rule answers whether its number applies.

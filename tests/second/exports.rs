@@ -46,7 +46,8 @@ extern "C" {
     fn argo_entries(sheet: *const u32, sheet_words: usize, schedule: u32, field: u32) -> u64;
 }
 
-/// A field of one schedule's entries: 0 the place of their first word in the sheet, 1 how many words they are; any other: 0.
+/// Field 0: the place of the schedule's first entry word in the sheet; 1 how many words its
+/// entries are; any other: 0.
 pub fn entries(sheet: &[u32], schedule: u32, field: u32) -> u64 {
     // The pointer and the length are those of a live slice.
     unsafe { argo_entries(sheet.as_ptr(), sheet.len(), schedule, field) }
