@@ -228,7 +228,7 @@ starts-ready bytes s m (suc k) r e = go (startsOn bytes s k .refusal =? 0) refl 
     go true q h before = next-ready bytes (startsOn bytes s k .state) m k (before (is= _ _ q)) h
     go false q h before = before h
 
-calls-ready : (bytes s m : List ℕ) → callsOn bytes s m .refusal ≡ 0 → memoryNumber (callsOn bytes s m .state) m ≡ 0
+pub calls-ready : (bytes s m : List ℕ) → callsOn bytes s m .refusal ≡ 0 → memoryNumber (callsOn bytes s m .state) m ≡ 0
 unfolding callsOn
 calls-ready bytes s m e = go (loadNumber (sheetOf bytes) s m =? 0) refl e
   where
@@ -251,14 +251,5 @@ module _ (bytes s m : List ℕ) {s′ : List ℕ} {r : ℕ} (e : inputMessage by
       ap refusalOf (f ∙ ap (λ (c : Called). c .refusal) calls-are)
       ∙ sym (ap (λ (x : Message). behind x (refusalOf (calls bytes .refusal))) e)
 
-  pub prepared : (refusalOf r ≡ message bytes) × ((s′ ≡ calls bytes .state) × ((m ≡ memoryOf bytes) × (r ≡ 0 → memoryNumber s′ m ≡ 0)))
-  prepared = (
-    message-is,
-    (
-      g ∙ ap (λ (c : Called). c .state) calls-are,
-      (
-        q,
-        λ z. ap (λ (x : List ℕ). memoryNumber x m) g ∙ calls-ready bytes s m (sym f ∙ z),
-      ),
-    ),
-  )
+  pub prepared : (refusalOf r ≡ message bytes) × ((s′ ≡ calls bytes .state) × (m ≡ memoryOf bytes))
+  prepared = (message-is, (g ∙ ap (λ (c : Called). c .state) calls-are, q))

@@ -156,7 +156,7 @@ pub record Whole (bytes : List ℕ) : Type 0 where
   pub long : 4 * (cyclesPlace bytes + 1) ≤ length bytes
   pub few-cycles : cycles bytes ≤ mostCycles
 
-abbrev isRuns : Message → Bool
+abbrev pub isRuns : Message → Bool
 isRuns TooLarge = false
 isRuns InputEnds = false
 isRuns (Refused n) = false

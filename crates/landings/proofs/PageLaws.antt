@@ -3,27 +3,27 @@
 use Prim.Native.Nat.{ℕ, zero, suc, _+_, _-_, _*_, _≤_, _<_}
 use mathlib.Core.Bool.{Bool, true, false}
 use mathlib.Core.List.{List, [], _++_}
-use mathlib.Core.Path.{_≡_, refl, sym, _∙_, ap, subst}
+use mathlib.Core.Path.{_≡_, refl, sym, _∙_, ap}
 use native.Mathlib.Omega.{arith}
-use native.Mathlib.Nat.{add-zero}
+use native.Mathlib.Nat.{add-zero, zero-add}
 use native.Mathlib.Numerals.{add-one}
+use native.Mathlib.Decide.{decLt}
 use lib.ListN.{length, take, length-append}
-use Rattle.words.specs.Tests.{_=?_}
-use Rattle.words.specs.Words.{pick, putAll}
-use Rattle.words.proofs.TestLaws.{yes=, no=, is=}
-use Rattle.words.proofs.WordLaws.{length-putAll}
+use Rattle.words.specs.Tests.{_<?_, _=?_}
+use Rattle.words.specs.Words.{pick, putAll, leastFrom}
+use Rattle.words.proofs.TestLaws.{yes<, no<, is=}
+use Rattle.words.proofs.WordLaws.{length-putAll, leastFrom-most}
 use Rattle.network.specs.View.{Landing, nothing, landed}
 use Rattle.network.specs.Machine.{nextState, nextMemory}
-use Rattle.session.specs.declared.Answer.{Answer}
-use Rattle.session.specs.declared.Answer.the-variants.{Done, Refused}
 use Rattle.session.specs.declared.Landed.{Landed}
 use Rattle.session.specs.declared.Landed.the-variants.{Nothing, Word as LandedWord, Refused as LandedRefused}
-use Rattle.session.specs.Answers.{answerOf, landedOf}
-use Rattle.session.specs.Calls.{memoryNumber, cycleNumber, lastLanding, Lent, cycle, does, after}
+use Rattle.session.specs.Answers.{landedOf}
+use Rattle.session.specs.Calls.{memoryNumber, cycleNumber, lastLanding, Lent, cycle, number, does, after}
 use Rattle.session.proofs.KeptLaws.{state-length-kept, memory-length-kept}
 use Rattle.listing.specs.Text.{landingLine}
-use Rattle.listing.proofs.TextLaws.{line-short, put-behind, putAll-front}
+use Rattle.listing.proofs.TextLaws.{least-is, line-short, put-behind, putAll-front}
 use Rattle.landings.specs.Lines.{lent, lineFor, cycleLines, cyclesLines, cyclesOn}
+use Rattle.landings.specs.Pages.{cycleRoom, pageCycles}
 use Rattle.landings.proofs.ReadyLaws.{ready-kept}
 
 -- the line of an answer
@@ -122,15 +122,7 @@ lines-short (suc n) time s =
       length-append (cycleLines n time s) (lineFor time n (lastLanding s n)),
     )
 
--- a cycle, by its answer
-abbrev pub isDone : Answer → Bool
-isDone Done = true
-isDone (Refused n) = false
-
-pub done-is : (n : ℕ) {o : Answer} → o ≡ answerOf n → isDone o ≡ (n =? 0)
-done-is zero e = ap isDone e ∙ sym (yes= refl)
-done-is (suc n) e = ap isDone e ∙ sym (no= (λ z. let none : ⊥ = omega (arith, z) in none))
-
+-- a cycle, from what it leaves of state and memory
 lent-either : (t : Bool) (a b s m : List ℕ) → lent (pick t a s) (pick t b m) ≡ pick t (lent a b) (lent s m)
 lent-either true a b s m = refl
 lent-either false a b s m = refl
@@ -145,6 +137,62 @@ cycle-after s m {s′} {m′} e f =
     ∙ ap (λ (y : List ℕ). lent (pick (cycleNumber s m =? 0) (nextState s m) s) y) f
     ∙ lent-either (cycleNumber s m =? 0) (nextState s m) (nextMemory s m) s m
 
+-- what holds of words that stay, and of words after a cycle that is carried out, holds of the words after a cycle
+after-has : (P : Lent → Type 0) (w : Lent) → (number cycle w ≡ 0 → P (does cycle w)) → P w → P (after cycle w)
+unfolding after
+after-has P w a b = go (number cycle w =? 0) refl
+  where
+    go : (t : Bool) → (number cycle w =? 0) ≡ t → P (pick t (does cycle w) w)
+    go true e = a (is= _ _ e)
+    go false e = b
+
+-- how many cycles a page has: none of those before it fills the page
+least-none : (test : ℕ → Bool) (n k : ℕ) → ((j : ℕ) → k ≤ j → j < k + n → test j ≡ false) → leastFrom n k test ≡ k + n
+unfolding leastFrom
+least-none test zero k f = sym (add-zero k)
+least-none test (suc n) k f =
+    let here : test k ≡ false = f k (omega arith) (omega arith) in
+    let next : k + 1 + n ≡ k + suc n = omega arith in
+    rw (here, leastFrom) (least-none test n (k + 1) (λ j a b. f j (omega arith) (omega arith)) ∙ next)
+
+least-from : (test : ℕ → Bool) (n k : ℕ) → k ≤ leastFrom n k test
+unfolding leastFrom
+least-from test zero k = omega arith
+least-from test (suc n) k = go (test k) (least-from test n (k + 1))
+  where
+    go : (t : Bool) → k + 1 ≤ leastFrom n (k + 1) test → k ≤ elim t [ true ↦ k | false ↦ leastFrom n (k + 1) test ]
+    go true h = omega arith
+    go false h = omega arith
+
+module _ (size nodes first left : ℕ) (w : Lent) where
+  -- the page has no room for another cycle
+  abbrev isFull : ℕ → Bool
+  isFull k = size <? length (cyclesLines nodes first k w) + cycleRoom
+
+  page-stopped : (n : ℕ) → n < left → isFull n ≡ true → ((j : ℕ) → j < n → isFull j ≡ false) → n ≡ pageCycles size nodes first left w
+  unfolding pageCycles
+  page-stopped n l e f = sym (least-is isFull left 0 n (omega arith) (omega arith) e (λ j a b. f j b))
+
+  page-over : ((j : ℕ) → j < left → isFull j ≡ false) → left ≡ pageCycles size nodes first left w
+  unfolding pageCycles
+  page-over f = sym (least-none isFull left 0 (λ j a b. f j (omega arith)) ∙ zero-add left)
+
+  -- it has no more than are left, and at least one where any is
+  pub page-most : pageCycles size nodes first left w ≤ left
+  unfolding pageCycles
+  page-most = omega (arith, leastFrom-most isFull left 0)
+
+  pub page-some : cycleRoom ≤ size → 0 < left → 0 < pageCycles size nodes first left w
+  unfolding pageCycles cyclesLines leastFrom
+  page-some r l = go left l
+    where
+      none : isFull 0 ≡ false
+      none = no< (omega arith)
+
+      go : (n : ℕ) → 0 < n → 0 < leastFrom n 0 isFull
+      go zero h = absurd (let z : ⊥ = omega arith in z)
+      go (suc n) h = rw (none, leastFrom) (omega (arith, least-from isFull n 1))
+
 -- the loop over the cycles of a page
 pub record Filling (nodes first last : ℕ) (w : Lent) (start s m buffer : List ℕ) (at time : ℕ) : Type 0 where
   pub begun : first ≤ time
@@ -157,6 +205,7 @@ pub record Filling (nodes first last : ℕ) (w : Lent) (start s m buffer : List 
   pub placed : at ≡ length (cyclesLines nodes first (time - first) w)
   pub bytes : buffer ≡ putAll start 0 (cyclesLines nodes first (time - first) w)
   pub fits : at ≤ length start
+  pub roomy : (j : ℕ) → j < time - first → isFull (length start) nodes first (last - first) w j ≡ false
 
 pub fill-start : (nodes first last : ℕ) (start s m : List ℕ) → first ≤ last → memoryNumber s m ≡ 0
     → Filling nodes first last (lent s m) start s m start 0 first
@@ -174,24 +223,29 @@ fill-start nodes first last start s m l r =
       placed = rw none refl;
       bytes = rw none refl;
       fits = omega arith;
+      roomy = λ j h. absurd (let z : ⊥ = omega arith in z);
     }
-
--- what a cycle that is carried out leaves
-cycle-done : (s m : List ℕ) {s′ m′ : List ℕ} → (cycleNumber s m =? 0) ≡ true → lent s′ m′ ≡ after cycle (lent s m) → lent s′ m′ ≡ does cycle (lent s m)
-unfolding after
-cycle-done s m e f = f ∙ ap (λ (t : Bool). pick t (does cycle (lent s m)) (lent s m)) e
 
 module _ (nodes first last : ℕ) (w : Lent) (start s m buffer : List ℕ) (at time : ℕ)
     (i : Filling nodes first last w start s m buffer at time)
     {s′ m′ : List ℕ}
-    (e : (cycleNumber s m =? 0) ≡ true)
     (f : lent s′ m′ ≡ after cycle (lent s m)) where
-  done : lent s′ m′ ≡ does cycle (lent s m)
-  done = cycle-done s m e f
-
   still-ready : memoryNumber s′ m′ ≡ 0
   still-ready =
-      ap (λ (x : Lent). memoryNumber (x .state) (x .memory)) done ∙ ready-kept cycle (lent s m) refl (is= _ _ e) (i .ready)
+      ap (λ (x : Lent). memoryNumber (x .state) (x .memory)) f
+      ∙ after-has (λ (x : Lent). memoryNumber (x .state) (x .memory) ≡ 0) (lent s m) (λ e. ready-kept cycle (lent s m) refl e (i .ready)) (i .ready)
+
+  still-long : length s′ ≡ length (w .state)
+  still-long =
+      ap (λ (x : Lent). length (x .state)) f
+      ∙ after-has (λ (x : Lent). length (x .state) ≡ length s) (lent s m) (λ e. state-length-kept cycle (lent s m) e) refl
+      ∙ i .state-long
+
+  still-wide : length m′ ≡ length (w .memory)
+  still-wide =
+      ap (λ (x : Lent). length (x .memory)) f
+      ∙ after-has (λ (x : Lent). length (x .memory) ≡ length m) (lent s m) (λ e. memory-length-kept cycle (lent s m)) refl
+      ∙ i .memory-long
 
   more-cycles : lent s′ m′ ≡ cyclesOn (suc (time - first)) w
   unfolding cyclesOn
@@ -204,10 +258,20 @@ module _ (nodes first last : ℕ) (w : Lent) (start s m buffer : List ℕ) (at t
       ap (λ (x : Lent). cyclesLines nodes first (time - first) w ++ cycleLines nodes (first + (time - first)) (x .state)) (sym more-cycles)
       ∙ ap (λ k. cyclesLines nodes first (time - first) w ++ cycleLines nodes k s′) now
 
+  still-roomy : at + cycleRoom ≤ length buffer → (j : ℕ) → j < suc (time - first) → isFull (length start) nodes first (last - first) w j ≡ false
+  still-roomy free j h = go (decLt j (time - first))
+    where
+      go : Dec (j < time - first) → isFull (length start) nodes first (last - first) w j ≡ false
+      go (yes p) = i .roomy j p
+      go (no p) =
+          let e : time - first ≡ j = omega (arith, p, h) in
+          let lines : at ≡ length (cyclesLines nodes first j w) = i .placed ∙ ap (λ k. length (cyclesLines nodes first k w)) e in
+          no< (omega (arith, lines, i .long, free))
+
   pub fill-more : {place : ℕ} {written : List ℕ}
       → time < last
       → nodes ≤ 16
-      → at + 1024 ≤ length buffer
+      → at + cycleRoom ≤ length buffer
       → place ≡ at + length (cycleLines nodes time s′)
       → written ≡ putAll buffer at (cycleLines nodes time s′)
       → Filling nodes first last w start s′ m′ written place (time + 1)
@@ -221,72 +285,42 @@ module _ (nodes first last : ℕ) (w : Lent) (start s m buffer : List ℕ) (at t
         in-time = omega arith;
         words = rw next more-cycles;
         ready = still-ready;
-        state-long = ap (λ (x : Lent). length (x .state)) done ∙ state-length-kept cycle (lent s m) (is= _ _ e) ∙ i .state-long;
-        memory-long = ap (λ (x : Lent). length (x .memory)) done ∙ memory-length-kept cycle (lent s m) ∙ i .memory-long;
+        state-long = still-long;
+        memory-long = still-wide;
         long = ap length b ∙ length-putAll buffer lines at ∙ i .long;
         placed = rw (next, more-lines) (omega (arith, p, i .placed, length-append before lines));
         bytes = rw (next, more-lines) (put-behind start before lines 0 at (i .bytes) behind b);
         fits = omega (arith, p, i .long, lines-short nodes time s′);
+        roomy = rw next (still-roomy free);
       }
 
--- a cycle that is refused leaves all as it was
-pub fill-stay : (nodes first last : ℕ) (w : Lent) (start s m buffer : List ℕ) (at time : ℕ) {s′ m′ : List ℕ}
-    → Filling nodes first last w start s m buffer at time
-    → (cycleNumber s m =? 0) ≡ false
-    → lent s′ m′ ≡ after cycle (lent s m)
-    → Filling nodes first last w start s′ m′ buffer at time
-unfolding after
-fill-stay nodes first last w start s m buffer at time i e f =
-    subst (λ (x : Lent). Filling nodes first last w start (x .state) (x .memory) buffer at time)
-    (sym (f ∙ ap (λ (t : Bool). pick t (does cycle (lent s m)) (lent s m)) e)) i
+-- what a page has: the fewest cycles that fill it, or all
+module _ (nodes first last : ℕ) (w : Lent) (start s m buffer : List ℕ) (at time : ℕ)
+    (i : Filling nodes first last w start s m buffer at time) where
+  page-lines : take at buffer ≡ cyclesLines nodes first (time - first) w
+  page-lines =
+      let text = cyclesLines nodes first (time - first) w in
+      ap (λ (x : List ℕ). take at x) (i .bytes)
+      ∙ ap (λ k. take k (putAll start 0 text)) (i .placed)
+      ∙ putAll-front start text (omega (arith, i .placed, i .fits))
 
--- what a page has
-fill-lines : (nodes first last : ℕ) (w : Lent) (start s m buffer : List ℕ) (at time : ℕ)
-    → Filling nodes first last w start s m buffer at time
-    → take at buffer ≡ cyclesLines nodes first (time - first) w
-fill-lines nodes first last w start s m buffer at time i =
-    let text = cyclesLines nodes first (time - first) w in
-    ap (λ (x : List ℕ). take at x) (i .bytes)
-    ∙ ap (λ k. take k (putAll start 0 text)) (i .placed)
-    ∙ putAll-front start text (omega (arith, i .placed, i .fits))
+  abbrev PageMade : Type 0
+  PageMade =
+      (time - first ≡ pageCycles (length start) nodes first (last - first) w)
+      × ((lent s m ≡ cyclesOn (time - first) w)
+      × ((take at buffer ≡ cyclesLines nodes first (time - first) w)
+      × ((buffer ≡ putAll start 0 (cyclesLines nodes first (time - first) w))
+      × ((at ≤ length buffer) × (memoryNumber s m ≡ 0)))))
 
-pub fill-page : (nodes first last : ℕ) (w : Lent) (start s m buffer : List ℕ) (at time : ℕ)
-    → Filling nodes first last w start s m buffer at time
-    → (lent s m ≡ cyclesOn (time - first) w)
-    × ((take at buffer ≡ cyclesLines nodes first (time - first) w)
-    × ((buffer ≡ putAll start 0 (cyclesLines nodes first (time - first) w))
-    × (((at ≤ length buffer) × (first + (time - first) ≤ last)) × (memoryNumber s m ≡ 0))))
-fill-page nodes first last w start s m buffer at time i = (
-  i .words,
-  (
-    fill-lines nodes first last w start s m buffer at time i,
-    (i .bytes, ((omega (arith, i .fits, i .long), omega (arith, i .begun, i .in-time)), i .ready)),
-  ),
-)
+  page-made : time - first ≡ pageCycles (length start) nodes first (last - first) w → PageMade
+  page-made e = (e, (i .words, (page-lines, (i .bytes, (omega (arith, i .fits, i .long), i .ready)))))
 
--- the loop over the pages
-pub record Paging (last : ℕ) (s₀ m₀ buffer₀ s m buffer : List ℕ) (time : ℕ) : Type 0 where
-  pub in-time : time ≤ last
-  pub ready : memoryNumber s m ≡ 0
-  pub state-long : length s ≡ length s₀
-  pub memory-long : length m ≡ length m₀
-  pub long : length buffer ≡ length buffer₀
+  pub fill-stop : time < last → length buffer < at + cycleRoom → PageMade
+  fill-stop l full =
+      page-made
+      (page-stopped (length start) nodes first (last - first) w (time - first) (omega (arith, i .begun)) (yes< (omega (arith, i .placed, i .long))) (i .roomy))
 
-pub page-start : (last : ℕ) (s m buffer : List ℕ) → memoryNumber s m ≡ 0 → Paging last s m buffer s m buffer 0
-page-start last s m buffer r = record { in-time = omega arith; ready = r; state-long = refl; memory-long = refl; long = refl }
-
-pub page-next : (last : ℕ) (s₀ m₀ buffer₀ s m buffer : List ℕ) (time n : ℕ) {s′ m′ buffer′ : List ℕ}
-    → Paging last s₀ m₀ buffer₀ s m buffer time
-    → time + n ≤ last
-    → memoryNumber s′ m′ ≡ 0
-    → length s′ ≡ length s
-    → length m′ ≡ length m
-    → length buffer′ ≡ length buffer
-    → Paging last s₀ m₀ buffer₀ s′ m′ buffer′ (time + n)
-page-next last s₀ m₀ buffer₀ s m buffer time n i l r a b d = record {
-  in-time = l;
-  ready = r;
-  state-long = a ∙ i .state-long;
-  memory-long = b ∙ i .memory-long;
-  long = d ∙ i .long;
-}
+  pub fill-done : last ≤ time → PageMade
+  fill-done l =
+      let all : time - first ≡ last - first = omega (arith, i .in-time, l) in
+      page-made (all ∙ page-over (length start) nodes first (last - first) w (λ j h. i .roomy j (omega (arith, all))))

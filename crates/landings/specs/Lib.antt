@@ -1,3 +1,5 @@
 pub mod Input
 pub mod Messages
 pub mod Lines
+pub mod Output
+pub mod Pages

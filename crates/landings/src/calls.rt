@@ -6,7 +6,7 @@ ghost use Rattle.words.specs.Tests.{_=?_};
 ghost use Rattle.words.specs.Words.{pick};
 ghost use Rattle.octets.specs.Octets.{wordIn};
 ghost use Rattle.network.specs.Registers.{stateWords};
-ghost use Rattle.session.specs.Calls.{memoryNumber, startNumber, started};
+ghost use Rattle.session.specs.Calls.{startNumber, started};
 ghost use Rattle.landings.specs.declared.input.Message.the-variants.{Runs};
 ghost use Rattle.landings.specs.Input.{sheetOf, memorySize, memoryOf, transfersPlace, transfers};
 ghost use Rattle.landings.specs.Messages.{inputMessage, startsOn, callsOn, calls, refusalOf, message};
@@ -65,7 +65,6 @@ pub fn prepare(bytes: &[u8], sheet: &[u32], s: &mut [u32], m: &mut [u32]) -> u32
     ensures message { λ r. ⌜ refusalOf r ≡ message (now (bytes .entry)) ⌝ }
     ensures state { λ _. ⌜ now (s .exit) ≡ calls (now (bytes .entry)) .state ⌝ }
     ensures memory { λ _. ⌜ now (m .exit) ≡ memoryOf (now (bytes .entry)) ⌝ }
-    ensures ready { λ r. ⌜ (r ≡ 0 → memoryNumber (now (s .exit)) (now (m .exit)) ≡ 0) ⌝ }
 {
     octets::read_words(bytes, 1 + sheet.len(), m);
     call_all(bytes, sheet, s, m)

@@ -1,102 +1,123 @@
 // Runs the session of standard input, and lists what landed, cycle by cycle (document 01, "The key's examples").
 mod calls;
 mod input;
+mod output;
 mod pages;
 
 ghost use mathlib.Core.Path.{_≡_};
 ghost use Prim.Native.Nat.{ℕ, _≤_};
 ghost use lib.ListN.{length, replicate};
+ghost use Rattle.sheet.specs.Sheet.{nodes as nodesIn};
 ghost use Rattle.network.specs.Registers.{stateWords};
-ghost use Rattle.session.specs.Calls.{memoryNumber};
-ghost use Rattle.landings.specs.declared.input.Message.the-variants.{Runs};
-ghost use Rattle.landings.specs.Input.{sheetLength, sheetOf, memorySize};
-ghost use Rattle.landings.specs.Messages.{inputMessage};
+ghost use Rattle.landings.specs.declared.input.Message.the-variants.{Refused, Runs};
+ghost use Rattle.landings.specs.Input.{sheetLength, sheetOf, memorySize, cycles};
+ghost use Rattle.landings.specs.Messages.{inputMessage, message};
+ghost use Rattle.landings.specs.Lines.{lent, cyclesOn};
+ghost use Rattle.landings.specs.Output.{heading, beforeCycles, outputOf, atEnd};
 use input::Message;
-use libc::STDOUT_FILENO;
+use output::write_part;
 
-fn print_refused(number: u32) {
-    io::write_all(STDOUT_FILENO, b"refused ");
-    io::print_decimal(STDOUT_FILENO, number as u64);
-    io::write_all(STDOUT_FILENO, b"\n");
+const LINE_END: u8 = 10;
+
+// Prints the line of a refusal; the callers have its number from the input.
+fn print_refused(bytes: &[u8], place: &mut usize, number: u32)
+    requires { ⌜ (message (now bytes) ≡ Refused number) × (now place ≡ 0) ⌝ }
+    ensures { λ _. ⌜ now (place .exit) ≡ length (outputOf (now (bytes .entry))) ⌝ }
+{
+    write_part(bytes, place, b"refused ");
+    let mut line = [0u8; 12];
+    let end = listing::put_field(&mut line, 0, number, LINE_END);
+    write_part(bytes, place, &line[..end]);
 }
 
-// Writes the pages of so many cycles, until none is carried out any more or a write fails; `list` meets the requires, by the load.
-fn write_pages(s: &mut [u32], m: &mut [u32], nodes: u32, last: u32, buffer: &mut [u8])
-    requires { ⌜ (memoryNumber (now s) (now m) ≡ 0) × (nodes ≤ 16) × (length (now buffer) ≡ 65536) ⌝ }
+// Runs all cycles and writes their lines, page by page, behind the heading; `list` has written that.
+fn write_pages(
+    bytes: &[u8],
+    place: &mut usize,
+    s: &mut [u32],
+    m: &mut [u32],
+    nodes: u32,
+    last: u32,
+    buffer: &mut [u8],
+)
+    requires { ⌜ (message (now bytes) ≡ Runs) × (lent (now s) (now m) ≡ beforeCycles (now bytes)) × (nodes ≡ nodesIn (sheetOf (now bytes))) × (last ≡ cycles (now bytes)) × (now place ≡ length heading) × (length (now buffer) ≡ 65536) ⌝ }
+    ensures place { λ _. ⌜ now (place .exit) ≡ length (outputOf (now (bytes .entry))) ⌝ }
+    ensures words { λ _. ⌜ lent (now (s .exit)) (now (m .exit)) ≡ cyclesOn (cycles (now (bytes .entry))) (beforeCycles (now (bytes .entry))) ⌝ }
 {
     let mut time: u32 = 0;
     while time < last {
         let page = pages::fill(s, m, nodes, time, last, buffer);
-        if page.cycles == 0 {
-            return;
-        }
-        if io::write_all(STDOUT_FILENO, &buffer[..page.place]) {
-            time += page.cycles;
-        } else {
-            return;
-        }
+        write_part(bytes, place, &buffer[..page.place]);
+        time += page.cycles;
     }
 }
 
-// Prints the listing of so many cycles; run_session has loaded and started.
-fn list(s: &mut [u32], m: &mut [u32], nodes: u32, last: u32)
-    requires { ⌜ (memoryNumber (now s) (now m) ≡ 0) × (nodes ≤ 16) ⌝ }
+// Prints the listing of all cycles; run_session has loaded and started.
+fn list(bytes: &[u8], place: &mut usize, s: &mut [u32], m: &mut [u32], nodes: u32, last: u32)
+    requires { ⌜ (message (now bytes) ≡ Runs) × (lent (now s) (now m) ≡ beforeCycles (now bytes)) × (nodes ≡ nodesIn (sheetOf (now bytes))) × (last ≡ cycles (now bytes)) × (now place ≡ 0) ⌝ }
+    ensures place { λ _. ⌜ now (place .exit) ≡ length (outputOf (now (bytes .entry))) ⌝ }
+    ensures words { λ _. ⌜ lent (now (s .exit)) (now (m .exit)) ≡ cyclesOn (cycles (now (bytes .entry))) (beforeCycles (now (bytes .entry))) ⌝ }
 {
+    write_part(bytes, place, b"cycle node address word kind\n");
     let mut buffer = [0u8; 65536];
-    io::write_all(STDOUT_FILENO, b"cycle node address word kind\n");
-    write_pages(s, m, nodes, last, &mut buffer);
+    write_pages(bytes, place, s, m, nodes, last, &mut buffer);
 }
 
 // Runs the session of a sheet on a state of zeros and room for its memories.
-fn run_session(bytes: &[u8], sheet: &[u32], s: &mut [u32], m: &mut [u32])
-    requires { ⌜ (inputMessage (now bytes) ≡ Runs) × (now sheet ≡ sheetOf (now bytes)) × (now s ≡ replicate stateWords 0) × (length (now m) ≡ memorySize (now bytes)) ⌝ }
+fn run_session(bytes: &[u8], place: &mut usize, sheet: &[u32], s: &mut [u32], m: &mut [u32])
+    requires { ⌜ (inputMessage (now bytes) ≡ Runs) × (now sheet ≡ sheetOf (now bytes)) × (now s ≡ replicate stateWords 0) × (length (now m) ≡ memorySize (now bytes)) × (now place ≡ 0) ⌝ }
+    ensures place { λ _. ⌜ now (place .exit) ≡ length (outputOf (now (bytes .entry))) ⌝ }
+    ensures words { λ _. ⌜ lent (now (s .exit)) (now (m .exit)) ≡ atEnd (now (bytes .entry)) ⌝ }
 {
     let number = calls::prepare(bytes, sheet, s, m);
     if number != 0 {
-        print_refused(number);
+        print_refused(bytes, place, number);
         return;
     }
     let nodes = input::nodes_of(sheet);
     let last = input::cycles_in(bytes, 1 + sheet.len() + m.len());
-    list(s, m, nodes, last);
+    list(bytes, place, s, m, nodes, last);
 }
 
 // Reads the sheet of an input whose words are all there, and makes room for its memories.
-fn run(bytes: &[u8], sheet: &mut [u32])
-    requires { ⌜ (inputMessage (now bytes) ≡ Runs) × (length (now sheet) ≡ sheetLength (now bytes)) ⌝ }
+fn run(bytes: &[u8], place: &mut usize, sheet: &mut [u32])
+    requires { ⌜ (inputMessage (now bytes) ≡ Runs) × (length (now sheet) ≡ sheetLength (now bytes)) × (now place ≡ 0) ⌝ }
+    ensures place { λ _. ⌜ now (place .exit) ≡ length (outputOf (now (bytes .entry))) ⌝ }
+    ensures sheet { λ _. ⌜ now (sheet .exit) ≡ sheetOf (now (bytes .entry)) ⌝ }
 {
     octets::read_words(bytes, 1, sheet);
     let size = input::memory_size(sheet) as usize;
     let mut state = [0u32; 10278];
     let mut memory = [0u32; 4096];
-    run_session(bytes, sheet, &mut state, &mut memory[..size]);
+    run_session(bytes, place, sheet, &mut state, &mut memory[..size]);
 }
 
 // Makes room for the sheet of an input whose words are all there.
-fn run_input(bytes: &[u8])
-    requires { ⌜ inputMessage (now bytes) ≡ Runs ⌝ }
+fn run_input(bytes: &[u8], place: &mut usize)
+    requires { ⌜ (inputMessage (now bytes) ≡ Runs) × (now place ≡ 0) ⌝ }
+    ensures { λ _. ⌜ now (place .exit) ≡ length (outputOf (now (bytes .entry))) ⌝ }
 {
     let n = octets::word_in(bytes, 0) as usize;
     let mut sheet = [0u32; 8597];
-    run(bytes, &mut sheet[..n]);
+    run(bytes, place, &mut sheet[..n]);
 }
 
-// Prints the one line that an input earns, or runs it.
-fn answer(bytes: &[u8]) {
+// Prints all of an input's output: the one line that it earns, or the listing.
+fn answer(bytes: &[u8], place: &mut usize)
+    requires { ⌜ now place ≡ 0 ⌝ }
+    ensures { λ _. ⌜ now (place .exit) ≡ length (outputOf (now (bytes .entry))) ⌝ }
+{
     match input::input_message(bytes) {
-        Message::TooLarge => {
-            io::write_all(STDOUT_FILENO, b"too large\n");
-        }
-        Message::InputEnds => {
-            io::write_all(STDOUT_FILENO, b"input ends\n");
-        }
-        Message::Refused(n) => print_refused(n),
-        Message::Runs => run_input(bytes),
+        Message::TooLarge => write_part(bytes, place, b"too large\n"),
+        Message::InputEnds => write_part(bytes, place, b"input ends\n"),
+        Message::Refused(n) => print_refused(bytes, place, n),
+        Message::Runs => run_input(bytes, place),
     }
 }
 
 fn main() {
     let mut bytes = [0u8; 52064];
     let n = io::read_full(libc::STDIN_FILENO, &mut bytes);
-    answer(&bytes[..n]);
+    let mut place = 0;
+    answer(&bytes[..n], &mut place);
 }

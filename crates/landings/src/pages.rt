@@ -1,15 +1,14 @@
 // The listing, page by page: cycles are run, and their lines put into a buffer, until it could overflow.
 ghost use mathlib.Core.Path.{_≡_};
-ghost use Prim.Native.Nat.{ℕ, _+_, _*_, _≤_};
+ghost use Prim.Native.Nat.{ℕ, _+_, _-_, _*_, _≤_};
 ghost use lib.ListN.{length, take};
-ghost use Rattle.words.specs.Tests.{_=?_};
 ghost use Rattle.words.specs.Words.{putAll};
-ghost use Rattle.session.specs.Calls.{cycle as cycleCall, after, memoryNumber, cycleNumber, lastLanding};
+ghost use Rattle.session.specs.Calls.{memoryNumber, lastLanding};
 ghost use Rattle.landings.specs.Lines.{lent, lineFor, cycleLines, cyclesLines, cyclesOn};
-use session::Answer;
+ghost use Rattle.landings.specs.Pages.{pageCycles};
 use session::Landed;
 
-// The most bytes of a cycle's lines, 16 of at most 60 bytes, and some more.
+// Room for a cycle's lines, 16 of at most 60 bytes, and some more.
 const CYCLE_BYTES: usize = 1024;
 
 // How far a page's lines reach in the buffer, and how many cycles they are of.
@@ -50,20 +49,8 @@ fn put_cycle(s: &[u32], nodes: u32, time: u32, buffer: &mut [u8], at: usize) -> 
     place
 }
 
-// Runs a cycle, and answers whether it was carried out; fill keeps the words such that 12 to 14 do not apply.
-fn run_cycle(s: &mut [u32], m: &mut [u32]) -> bool
-    requires { ⌜ memoryNumber (now s) (now m) ≡ 0 ⌝ }
-    ensures answer { λ r. ⌜ r ≡ (cycleNumber (now (s .entry)) (now (m .entry)) =? 0) ⌝ }
-    ensures words { λ _. ⌜ lent (now (s .exit)) (now (m .exit)) ≡ after cycleCall (lent (now (s .entry)) (now (m .entry))) ⌝ }
-{
-    match session::cycle_sound(s, m) {
-        Answer::Done => true,
-        Answer::Refused(_) => false,
-    }
-}
-
-// Fills the buffer with the lines of the cycles from `first` on and before `last`, as many as surely fit. A cycle that is refused ends
-// the page; demand 3 says that there is none. The program meets the requires: load and starts were carried out.
+// Runs the cycles from `first` on and before `last`, and fills the buffer with their lines, as many as surely fit. No cycle of a session is
+// refused (`cycles-carried-out`), so its answer is not looked at. The program meets the requires: load and starts were carried out.
 pub fn fill(
     s: &mut [u32],
     m: &mut [u32],
@@ -73,10 +60,11 @@ pub fn fill(
     buffer: &mut [u8],
 ) -> Page
     requires { ⌜ (memoryNumber (now s) (now m) ≡ 0) × (nodes ≤ 16) × (first ≤ last) × (length (now buffer) ≡ 65536) ⌝ }
+    ensures cycles { λ r. ⌜ r .cycles ≡ pageCycles (length (now (buffer .entry))) nodes first (last - first) (lent (now (s .entry)) (now (m .entry))) ⌝ }
     ensures words { λ r. ⌜ lent (now (s .exit)) (now (m .exit)) ≡ cyclesOn (r .cycles) (lent (now (s .entry)) (now (m .entry))) ⌝ }
     ensures lines { λ r. ⌜ take (r .place) (now (buffer .exit)) ≡ cyclesLines nodes first (r .cycles) (lent (now (s .entry)) (now (m .entry))) ⌝ }
     ensures buffer { λ r. ⌜ now (buffer .exit) ≡ putAll (now (buffer .entry)) 0 (cyclesLines nodes first (r .cycles) (lent (now (s .entry)) (now (m .entry)))) ⌝ }
-    ensures fits { λ r. ⌜ (r .place ≤ length (now (buffer .exit))) × (first + r .cycles ≤ last) ⌝ }
+    ensures fits { λ r. ⌜ r .place ≤ length (now (buffer .exit)) ⌝ }
     ensures ready { λ _. ⌜ memoryNumber (now (s .exit)) (now (m .exit)) ≡ 0 ⌝ }
 {
     let mut at = 0;
@@ -88,15 +76,9 @@ pub fn fill(
                 cycles: time - first,
             };
         }
-        if run_cycle(s, m) {
-            at = put_cycle(s, nodes, time, buffer, at);
-            time += 1;
-        } else {
-            return Page {
-                place: at,
-                cycles: time - first,
-            };
-        }
+        session::cycle_sound(s, m);
+        at = put_cycle(s, nodes, time, buffer, at);
+        time += 1;
     }
     Page {
         place: at,

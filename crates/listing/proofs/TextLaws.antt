@@ -80,7 +80,7 @@ copy-done text count start buffer at k c l =
     c .bytes ∙ ap (λ j. putAll start at (take j text)) e
 
 -- the least number at which a test holds, from the test
-least-is : (test : ℕ → Bool) (n k r : ℕ) → k ≤ r → r < k + n → test r ≡ true → ((j : ℕ) → k ≤ j → j < r → test j ≡ false)
+pub least-is : (test : ℕ → Bool) (n k r : ℕ) → k ≤ r → r < k + n → test r ≡ true → ((j : ℕ) → k ≤ j → j < r → test j ≡ false)
     → leastFrom n k test ≡ r
 unfolding leastFrom
 least-is test zero k r a b e f = absurd (let z : ⊥ = omega arith in z)

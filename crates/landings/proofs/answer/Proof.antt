@@ -1,6 +1,8 @@
--- `landings::answer` meets its contract: only an input whose words are all there is run.
+-- `landings::answer` meets its contract: a message is the whole output, and an input whose words are all there is run.
 -- Assumes nothing.
-use mathlib.Core.Path.{sym, _∙_}
+use Rattle.landings.proofs.OutputLaws.{message-stops, line-has, line-done}
+use Rattle.landings.specs.Output.{tooLarge, inputEnds}
+use mathlib.Core.Path.{refl, sym, _∙_}
 use borrow.Author.Needs.{needs}
 use Rattle.landings.proofs.answer.Statement.{statement}
 use Rattle.landings.proofs.answer.Tie as tie
@@ -11,44 +13,48 @@ input-message-requires c κs = search needs
 enum-told : tie.Need-enum-told
 enum-told c = search needs
 
-slice-aggregate-write-all : tie.Need-slice-aggregate-write-all
-slice-aggregate-write-all c = search needs
+slice-aggregate-write-part : tie.Need-slice-aggregate-write-part
+slice-aggregate-write-part c = search needs
 
-write-all-requires : tie.Need-write-all-requires
-write-all-requires c κs = search needs
+write-part-requires : tie.Need-write-part-requires
+unfolding tooLarge
+write-part-requires c κs = line-has _ (message-stops _ _ refl (sym (c .before .before .before .before .input-message .ensures) ∙ c .before .before .enum-told .given .1)) (c .before .before .before .before .before .before .pre)
 
 enum-told-2 : tie.Need-enum-told-2
 enum-told-2 c = search needs
 
-slice-aggregate-write-all-2 : tie.Need-slice-aggregate-write-all-2
-slice-aggregate-write-all-2 c = search needs
+slice-aggregate-write-part-2 : tie.Need-slice-aggregate-write-part-2
+slice-aggregate-write-part-2 c = search needs
 
-write-all-requires-2 : tie.Need-write-all-requires-2
-write-all-requires-2 c κs = search needs
+write-part-requires-2 : tie.Need-write-part-requires-2
+unfolding inputEnds
+write-part-requires-2 c κs = line-has _ (message-stops _ _ refl (sym (c .before .before .before .before .input-message .ensures) ∙ c .before .before .enum-told2 .given .1)) (c .before .before .before .before .before .before .pre)
 
 enum-known-n : tie.Need-enum-known-n
 enum-known-n c = search needs
 
 print-refused-requires : tie.Need-print-refused-requires
-print-refused-requires c κs = search needs
+print-refused-requires c κs = (message-stops _ _ refl (sym (c .before .before .before .before .input-message .ensures) ∙ c .before .before .n .given .1), c .before .before .before .before .before .before .pre)
 
 enum-told-3 : tie.Need-enum-told-3
 enum-told-3 c = search needs
 
 run-input-requires : tie.Need-run-input-requires
-run-input-requires c κs = sym (c .before .before .input-message .ensures) ∙ c .enum-told3 .given .1
+run-input-requires c κs = (sym (c .before .before .before .input-message .ensures) ∙ c .before .enum-told3 .given .1, c .before .before .before .before .before .pre)
 
 returns : tie.Need-returns
-returns c = search needs
+unfolding tooLarge
+returns c = line-done _ (message-stops _ _ refl (sym (c .before .before .before .before .before .input-message .ensures) ∙ c .before .before .before .enum-told .given .1)) (c .before .before .before .before .before .before .before .pre) (c .write-part .ensures)
 
 returns-2 : tie.Need-returns-2
-returns-2 c = search needs
+unfolding inputEnds
+returns-2 c = line-done _ (message-stops _ _ refl (sym (c .before .before .before .before .before .input-message .ensures) ∙ c .before .before .before .enum-told2 .given .1)) (c .before .before .before .before .before .before .before .pre) (c .write-part2 .ensures)
 
 returns-3 : tie.Need-returns-3
-returns-3 c = search needs
+returns-3 c = c .print-refused .ensures
 
 returns-4 : tie.Need-returns-4
-returns-4 c = search needs
+returns-4 c = c .run-input .ensures
 
 pub answer-spec : {M : Type 1} → statement M
 answer-spec =
@@ -56,11 +62,11 @@ answer-spec =
     (tie.spec
     input-message-requires
     enum-told
-    slice-aggregate-write-all
-    write-all-requires
+    slice-aggregate-write-part
+    write-part-requires
     enum-told-2
-    slice-aggregate-write-all-2
-    write-all-requires-2
+    slice-aggregate-write-part-2
+    write-part-requires-2
     enum-known-n
     print-refused-requires
     enum-told-3

@@ -21,19 +21,19 @@ slice-aggregate-run-session : tie.Need-slice-aggregate-run-session
 slice-aggregate-run-session c = search needs
 
 array-borrow-prefix-memory : tie.Need-array-borrow-prefix-memory
-array-borrow-prefix-memory c = omega (arith, memory-size-is _ (c .before .before .before .before .before .before .before .before .before .before .pre .1) (c .before .before .before .before .before .before .read-words .ensures) (c .before .before .memory-size .ensures), whole _ (c .before .before .before .before .before .before .before .before .before .before .pre .0) .small-memory)
+array-borrow-prefix-memory c = omega (arith, memory-size-is _ (c .before .before .before .before .before .before .before .before .before .before .before .pre .1) (c .before .before .before .before .before .before .before .read-words .ensures) (c .before .before .before .memory-size .ensures), whole _ (c .before .before .before .before .before .before .before .before .before .before .before .pre .0) .small-memory)
 
 slice-aggregate-run-session-2 : tie.Need-slice-aggregate-run-session-2
-slice-aggregate-run-session-2 c = sym (part-length _ 4096 (omega (arith, memory-size-is _ (c .before .before .before .before .before .before .before .before .before .before .before .pre .1) (c .before .before .before .before .before .before .before .read-words .ensures) (c .before .before .before .memory-size .ensures), whole _ (c .before .before .before .before .before .before .before .before .before .before .before .pre .0) .small-memory)))
+slice-aggregate-run-session-2 c = sym (part-length _ 4096 (omega (arith, memory-size-is _ (c .before .before .before .before .before .before .before .before .before .before .before .before .pre .1) (c .before .before .before .before .before .before .before .before .read-words .ensures) (c .before .before .before .before .memory-size .ensures), whole _ (c .before .before .before .before .before .before .before .before .before .before .before .before .pre .0) .small-memory)))
 
 run-session-requires : tie.Need-run-session-requires
-run-session-requires c κs = (c .before .before .before .before .before .before .before .before .before .before .before .pre .0, sheet-is _ (c .before .before .before .before .before .before .before .before .before .before .before .pre .1) (c .before .before .before .before .before .before .before .read-words .ensures), refl, part-length _ 4096 (omega (arith, memory-size-is _ (c .before .before .before .before .before .before .before .before .before .before .before .pre .1) (c .before .before .before .before .before .before .before .read-words .ensures) (c .before .before .before .memory-size .ensures), whole _ (c .before .before .before .before .before .before .before .before .before .before .before .pre .0) .small-memory)) ∙ memory-size-is _ (c .before .before .before .before .before .before .before .before .before .before .before .pre .1) (c .before .before .before .before .before .before .before .read-words .ensures) (c .before .before .before .memory-size .ensures))
+run-session-requires c κs = (c .before .before .before .before .before .before .before .before .before .before .before .before .pre .0, sheet-is _ (c .before .before .before .before .before .before .before .before .before .before .before .before .pre .1) (c .before .before .before .before .before .before .before .before .read-words .ensures), refl, part-length _ 4096 (omega (arith, memory-size-is _ (c .before .before .before .before .before .before .before .before .before .before .before .before .pre .1) (c .before .before .before .before .before .before .before .before .read-words .ensures) (c .before .before .before .before .memory-size .ensures), whole _ (c .before .before .before .before .before .before .before .before .before .before .before .before .pre .0) .small-memory)) ∙ memory-size-is _ (c .before .before .before .before .before .before .before .before .before .before .before .before .pre .1) (c .before .before .before .before .before .before .before .before .read-words .ensures) (c .before .before .before .before .memory-size .ensures), c .before .before .before .before .before .before .before .before .before .before .before .before .pre .2)
 
 same-length : tie.Need-same-length
 same-length c = search needs
 
 returns : tie.Need-returns
-returns c = search needs
+returns c = (c .before .before .run-session .ensures .0, sheet-is _ (c .before .before .before .before .before .before .before .before .before .before .before .before .before .before .before .pre .1) (c .before .before .before .before .before .before .before .before .before .before .before .read-words .ensures))
 
 pub run-spec : {M : Type 1} → statement M
 run-spec =

@@ -8,22 +8,22 @@ use Rattle.landings.proofs.run_input.Statement.{statement}
 use Rattle.landings.proofs.run_input.Tie as tie
 
 word-in-requires : tie.Need-word-in-requires
-word-in-requires c κs = omega (arith, whole _ (c .before .pre) .some)
+word-in-requires c κs = omega (arith, whole _ (c .before .pre .0) .some)
 
 cast-n : tie.Need-cast-n
 cast-n c = search needs
 
 array-borrow-prefix-sheet : tie.Need-array-borrow-prefix-sheet
-array-borrow-prefix-sheet c = omega (arith, c .word-in .ensures, whole _ (c .before .before .pre) .small-sheet)
+array-borrow-prefix-sheet c = omega (arith, c .before .word-in .ensures, whole _ (c .before .before .before .pre .0) .small-sheet)
 
 slice-aggregate-run : tie.Need-slice-aggregate-run
-slice-aggregate-run c = sym (part-length _ 8597 (omega (arith, c .before .word-in .ensures, whole _ (c .before .before .before .pre) .small-sheet)))
+slice-aggregate-run c = sym (part-length _ 8597 (omega (arith, c .before .before .word-in .ensures, whole _ (c .before .before .before .before .pre .0) .small-sheet)))
 
 run-requires : tie.Need-run-requires
-run-requires c κs = (c .before .before .before .pre, part-length _ 8597 (omega (arith, c .before .word-in .ensures, whole _ (c .before .before .before .pre) .small-sheet)) ∙ c .before .word-in .ensures)
+run-requires c κs = (c .before .before .before .before .pre .0, part-length _ 8597 (omega (arith, c .before .before .word-in .ensures, whole _ (c .before .before .before .before .pre .0) .small-sheet)) ∙ c .before .before .word-in .ensures, c .before .before .before .before .pre .1)
 
 returns : tie.Need-returns
-returns c = search needs
+returns c = c .before .run .ensures .0
 
 pub run-input-spec : {M : Type 1} → statement M
 run-input-spec =

@@ -1,8 +1,7 @@
--- `landings::pages::fill` meets its contract: each turn runs the next cycle and puts its lines behind those before; a refused cycle changes nothing.
+-- `landings::pages::fill` meets its contract: each turn runs the next cycle and puts its lines behind those before, until the page could overflow.
 -- Assumes nothing.
-use Rattle.landings.proofs.PageLaws.{Filling, fill-start, fill-more, fill-stay, fill-page}
+use Rattle.landings.proofs.PageLaws.{Filling, fill-start, fill-more, fill-stop, fill-done, cycle-after}
 use Rattle.landings.specs.Lines.{lent}
-use mathlib.Core.Path.{sym, _∙_}
 use native.Mathlib.Omega.{arith}
 use Prim.Native.Nat.{_-_}
 use Rattle.landings.proofs.pages.fill.Statement.{statement}
@@ -33,13 +32,13 @@ same-length-3 : tie.Need-same-length-3 Inv-loop μ-loop
 same-length-3 c = c .before .before .loop .inv .long
 
 returns : tie.Need-returns Inv-loop μ-loop
-returns c = fill-page _ _ _ _ _ _ _ _ _ _ (c .before .before .loop .inv)
+returns c = fill-stop _ _ _ _ _ _ _ _ _ _ (c .before .before .loop .inv) (c .before .loop-test .taken) (omega arith)
 
-run-cycle-requires : tie.Need-run-cycle-requires Inv-loop μ-loop
-run-cycle-requires c κs = c .before .before .before .before .loop .inv .ready
+cycle-sound-requires : tie.Need-cycle-sound-requires Inv-loop μ-loop
+cycle-sound-requires c κs = c .before .before .before .before .loop .inv .ready
 
 put-cycle-requires : tie.Need-put-cycle-requires Inv-loop μ-loop
-put-cycle-requires c κs = (c .before .before .before .before .before .before .before .before .before .before .before .before .before .before .before .before .pre .1, omega arith)
+put-cycle-requires c κs = (c .before .before .before .before .before .before .before .before .before .before .before .before .before .before .before .pre .1, omega arith)
 
 add-time : tie.Need-add-time Inv-loop μ-loop
 add-time c = omega arith
@@ -48,37 +47,22 @@ loop-less : tie.Need-loop-less Inv-loop μ-loop
 loop-less c = omega arith
 
 loop-again : tie.Need-loop-again Inv-loop μ-loop
-loop-again c = fill-more _ _ _ _ _ _ _ _ _ _ (c .before .before .before .before .before .before .before .before .before .before .before .before .before .before .before .loop .inv) (sym (c .before .before .before .before .before .before .before .before .before .before .run-cycle .ensures .0) ∙ c .before .before .before .before .before .if2 .taken) (c .before .before .before .before .before .before .before .before .before .before .run-cycle .ensures .1) (c .before .before .before .before .before .before .before .before .before .before .before .before .before .before .loop-test .taken) (c .before .before .before .before .before .before .before .before .before .before .before .before .before .before .before .before .before .before .before .pre .1) (omega arith) (c .before .before .put-cycle .ensures .0) (c .before .before .put-cycle .ensures .1)
+loop-again c = fill-more _ _ _ _ _ _ _ _ _ _ (c .before .before .before .before .before .before .before .before .before .before .before .before .before .before .loop .inv) (cycle-after _ _ (c .before .before .before .before .before .before .before .before .before .cycle-sound .ensures .1 .0) (c .before .before .before .before .before .before .before .before .before .cycle-sound .ensures .1 .1)) (c .before .before .before .before .before .before .before .before .before .before .before .before .before .loop-test .taken) (c .before .before .before .before .before .before .before .before .before .before .before .before .before .before .before .before .before .before .pre .1) (omega arith) (c .before .before .put-cycle .ensures .0) (c .before .before .put-cycle .ensures .1)
 
 sub-t22 : tie.Need-sub-t22 Inv-loop μ-loop
 sub-t22 c = omega arith
 
 same-length-4 : tie.Need-same-length-4 Inv-loop μ-loop
-same-length-4 c = fill-stay _ _ _ _ _ _ _ _ _ _ (c .before .before .before .before .before .before .before .before .before .before .loop .inv) (sym (c .before .before .before .before .before .run-cycle .ensures .0) ∙ c .if2 .left) (c .before .before .before .before .before .run-cycle .ensures .1) .state-long
+same-length-4 c = c .before .loop .inv .state-long
 
 same-length-5 : tie.Need-same-length-5 Inv-loop μ-loop
-same-length-5 c = fill-stay _ _ _ _ _ _ _ _ _ _ (c .before .before .before .before .before .before .before .before .before .before .loop .inv) (sym (c .before .before .before .before .before .run-cycle .ensures .0) ∙ c .if2 .left) (c .before .before .before .before .before .run-cycle .ensures .1) .memory-long
+same-length-5 c = c .before .loop .inv .memory-long
 
 same-length-6 : tie.Need-same-length-6 Inv-loop μ-loop
-same-length-6 c = c .before .before .before .before .before .before .before .before .before .before .loop .inv .long
+same-length-6 c = c .before .loop .inv .long
 
 returns-2 : tie.Need-returns-2 Inv-loop μ-loop
-returns-2 c = fill-page _ _ _ _ _ _ _ _ _ _ (fill-stay _ _ _ _ _ _ _ _ _ _ (c .before .before .before .before .before .before .before .before .before .before .loop .inv) (sym (c .before .before .before .before .before .run-cycle .ensures .0) ∙ c .if2 .left) (c .before .before .before .before .before .run-cycle .ensures .1))
-
-sub-t23 : tie.Need-sub-t23 Inv-loop μ-loop
-sub-t23 c = omega arith
-
-same-length-7 : tie.Need-same-length-7 Inv-loop μ-loop
-same-length-7 c = c .before .loop .inv .state-long
-
-same-length-8 : tie.Need-same-length-8 Inv-loop μ-loop
-same-length-8 c = c .before .loop .inv .memory-long
-
-same-length-9 : tie.Need-same-length-9 Inv-loop μ-loop
-same-length-9 c = c .before .loop .inv .long
-
-returns-3 : tie.Need-returns-3 Inv-loop μ-loop
-returns-3 c = fill-page _ _ _ _ _ _ _ _ _ _ (c .before .loop .inv)
+returns-2 c = fill-done _ _ _ _ _ _ _ _ _ _ (c .before .loop .inv) (omega arith)
 
 pub fill-spec : {M : Type 1} → statement M
 fill-spec =
@@ -93,7 +77,7 @@ fill-spec =
     same-length-2
     same-length-3
     returns
-    run-cycle-requires
+    cycle-sound-requires
     put-cycle-requires
     add-time
     loop-less
@@ -102,9 +86,4 @@ fill-spec =
     same-length-4
     same-length-5
     same-length-6
-    returns-2
-    sub-t23
-    same-length-7
-    same-length-8
-    same-length-9
-    returns-3)
+    returns-2)

@@ -1,0 +1,43 @@
+-- `landings::list` meets its contract: the heading begins the output, and the pages are the rest.
+-- Assumes nothing.
+use Rattle.landings.proofs.OutputLaws.{heading-has}
+use Rattle.landings.specs.Output.{heading}
+use native.Mathlib.Omega.{arith}
+use borrow.Author.Needs.{needs}
+use Rattle.landings.proofs.list.Statement.{statement}
+use Rattle.landings.proofs.list.Tie as tie
+
+slice-aggregate-write-part : tie.Need-slice-aggregate-write-part
+slice-aggregate-write-part c = search needs
+
+write-part-requires : tie.Need-write-part-requires
+unfolding heading
+write-part-requires c κs = heading-has _ (c .before .before .before .before .before .pre .0) (c .before .before .before .before .before .pre .4)
+
+slice-aggregate-write-pages : tie.Need-slice-aggregate-write-pages
+slice-aggregate-write-pages c = search needs
+
+write-pages-requires : tie.Need-write-pages-requires
+unfolding heading
+write-pages-requires c κs = (c .before .before .before .before .before .before .before .before .before .before .pre .0, c .before .before .before .before .before .before .before .before .before .before .pre .1, c .before .before .before .before .before .before .before .before .before .before .pre .2, c .before .before .before .before .before .before .before .before .before .before .pre .3, omega (arith, c .before .before .before .before .write-part .ensures, c .before .before .before .before .before .before .before .before .before .before .pre .4), omega arith)
+
+same-length : tie.Need-same-length
+same-length c = search needs
+
+same-length-2 : tie.Need-same-length-2
+same-length-2 c = search needs
+
+returns : tie.Need-returns
+returns c = c .before .before .before .before .before .write-pages .ensures
+
+pub list-spec : {M : Type 1} → statement M
+list-spec =
+    tie.close
+    (tie.spec
+    slice-aggregate-write-part
+    write-part-requires
+    slice-aggregate-write-pages
+    write-pages-requires
+    same-length
+    same-length-2
+    returns)
