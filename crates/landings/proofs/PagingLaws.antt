@@ -12,7 +12,7 @@ use Rattle.landings.specs.declared.input.Message.the-variants.{Runs}
 use Rattle.landings.specs.Input.{sheetOf, cycles}
 use Rattle.landings.specs.Messages.{message}
 use Rattle.landings.specs.Lines.{lent, cyclesLines, cyclesOn}
-use Rattle.landings.specs.Pages.{cycleRoom, pageCycles}
+use Rattle.landings.specs.Pages.{pageCycles}
 use Rattle.landings.specs.Output.{heading, beforeCycles, outputOf, HasAt}
 use Rattle.landings.proofs.PageLaws.{page-most, page-some}
 use Rattle.landings.proofs.OutputLaws.{has-between, cycles-behind, lines-behind, before-ready, lines-are}

@@ -5,8 +5,7 @@ use mathlib.Core.Bool.{Bool, true, false, false≢true}
 use mathlib.Core.List.{List, [], _∷_, _++_}
 use mathlib.Core.Path.{_≡_, refl, sym, _∙_, ap}
 use native.Mathlib.Omega.{arith}
-use native.Mathlib.Nat.{add-zero}
-use lib.ListN.{length, take, getD, replicate, length-append, length-replicate, getD-replicate}
+use lib.ListN.{length, take, replicate, length-append, length-replicate, getD-replicate}
 use lib.Seq.{take-append-add, getD-append-add}
 use Rattle.words.specs.Tests.{_=?_}
 use Rattle.words.specs.Words.{pick}
@@ -33,24 +32,17 @@ run-append (x ∷ xs) ys w = run-append xs ys (after x w)
 abbrev NoLoads : List Call → Type 0
 NoLoads xs = (w : Lent) → LoadsRefused xs w
 
-none-loads : NoLoads []
-none-loads w = tt
+no-load-one : (x : Call) → isLoad x ≡ false → NoLoads (x ∷ [])
+no-load-one x n w = (λ e. absurd (false≢true (sym n ∙ e)), tt)
 
-one-loads : (x : Call) → isLoad x ≡ false → NoLoads (x ∷ [])
-one-loads x n w = (λ e. absurd (false≢true (sym n ∙ e)), tt)
-
-both-load : (xs ys : List Call) → NoLoads xs → NoLoads ys → NoLoads (xs ++ ys)
-both-load [] ys a b w = b w
-both-load (x ∷ xs) ys a b w = (a w .0, rest xs ys (after x w) (a w .1) b)
-  where
-    rest : (xs ys : List Call) (w : Lent) → LoadsRefused xs w → NoLoads ys → LoadsRefused (xs ++ ys) w
-    rest [] ys w c b = b w
-    rest (y ∷ xs) ys w c b = (c .0, rest xs ys (after y w) (c .1) b)
+no-load-behind : (xs ys : List Call) (w : Lent) → LoadsRefused xs w → NoLoads ys → LoadsRefused (xs ++ ys) w
+no-load-behind [] ys w a b = b w
+no-load-behind (x ∷ xs) ys w a b = (a .0, no-load-behind xs ys (after x w) (a .1) b)
 
 -- some cycles
-cycles-load : (n : ℕ) → NoLoads (replicate n cycle)
-cycles-load zero w = tt
-cycles-load (suc n) w = (λ e. absurd (false≢true e), cycles-load n (after cycle w))
+no-load-cycles : (n : ℕ) → NoLoads (replicate n cycle)
+no-load-cycles zero w = tt
+no-load-cycles (suc n) w = (λ e. absurd (false≢true e), no-load-cycles n (after cycle w))
 
 cycles-later : (n : ℕ) (w : Lent) → cyclesOn n (after cycle w) ≡ after cycle (cyclesOn n w)
 unfolding cyclesOn
@@ -76,10 +68,11 @@ startCalls : List ℕ → ℕ → List Call
 startCalls bytes zero = []
 startCalls bytes (suc k) = startCalls bytes k ++ (startCall bytes k ∷ [])
 
-starts-load : (bytes : List ℕ) (k : ℕ) → NoLoads (startCalls bytes k)
+no-load-starts : (bytes : List ℕ) (k : ℕ) → NoLoads (startCalls bytes k)
 unfolding startCalls startCall
-starts-load bytes zero = none-loads
-starts-load bytes (suc k) = both-load (startCalls bytes k) (startCall bytes k ∷ []) (starts-load bytes k) (one-loads (startCall bytes k) refl)
+no-load-starts bytes zero w = tt
+no-load-starts bytes (suc k) w =
+    no-load-behind (startCalls bytes k) (startCall bytes k ∷ []) w (no-load-starts bytes k w) (no-load-one (startCall bytes k) refl)
 
 -- a start that is carried out
 start-done : (bytes s m : List ℕ) (k : ℕ) → startNext bytes s k .refusal ≡ 0
@@ -139,8 +132,9 @@ module _ (bytes s m : List ℕ) (n : ℕ) (e : callsOn bytes s m .refusal ≡ 0)
     calls = startCalls bytes (transfers bytes) ++ replicate n cycle;
     carried-out = load-first bytes s m e .0;
     loads-refused =
-        both-load (startCalls bytes (transfers bytes)) (replicate n cycle) (starts-load bytes (transfers bytes)) (cycles-load n)
-        (lent (loaded (sheetOf bytes) s) m);
+        no-load-behind (startCalls bytes (transfers bytes)) (replicate n cycle) (lent (loaded (sheetOf bytes) s) m)
+        (no-load-starts bytes (transfers bytes) (lent (loaded (sheetOf bytes) s) m))
+        (no-load-cycles n);
   }
 
   started-is : run (startCalls bytes (transfers bytes)) (lent (loaded (sheetOf bytes) s) m) ≡ lent (callsOn bytes s m .state) m

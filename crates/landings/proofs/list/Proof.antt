@@ -3,29 +3,31 @@
 use Rattle.landings.proofs.OutputLaws.{heading-has}
 use Rattle.landings.specs.Output.{heading}
 use native.Mathlib.Omega.{arith}
-use borrow.Author.Needs.{needs}
+use Prim.Native.Nat.{ℕ}
+use mathlib.Core.Path.{refl, sym}
+use lib.ListN.{length-replicate}
 use Rattle.landings.proofs.list.Statement.{statement}
 use Rattle.landings.proofs.list.Tie as tie
 
 slice-aggregate-write-part : tie.Need-slice-aggregate-write-part
-slice-aggregate-write-part c = search needs
+slice-aggregate-write-part c = refl
 
 write-part-requires : tie.Need-write-part-requires
 unfolding heading
 write-part-requires c κs = heading-has _ (c .before .before .before .before .before .pre .0) (c .before .before .before .before .before .pre .4)
 
 slice-aggregate-write-pages : tie.Need-slice-aggregate-write-pages
-slice-aggregate-write-pages c = search needs
+slice-aggregate-write-pages c = sym (length-replicate {A = ℕ} 65536 0)
 
 write-pages-requires : tie.Need-write-pages-requires
 unfolding heading
-write-pages-requires c κs = (c .before .before .before .before .before .before .before .before .before .before .pre .0, c .before .before .before .before .before .before .before .before .before .before .pre .1, c .before .before .before .before .before .before .before .before .before .before .pre .2, c .before .before .before .before .before .before .before .before .before .before .pre .3, omega (arith, c .before .before .before .before .write-part .ensures, c .before .before .before .before .before .before .before .before .before .before .pre .4), omega arith)
+write-pages-requires c κs = (c .before .before .before .before .before .before .before .before .before .before .pre .0, c .before .before .before .before .before .before .before .before .before .before .pre .1, c .before .before .before .before .before .before .before .before .before .before .pre .2, c .before .before .before .before .before .before .before .before .before .before .pre .3, omega (arith, c .before .before .before .before .write-part .ensures, c .before .before .before .before .before .before .before .before .before .before .pre .4), length-replicate {A = ℕ} 65536 0)
 
 same-length : tie.Need-same-length
-same-length c = search needs
+same-length c = omega arith
 
 same-length-2 : tie.Need-same-length-2
-same-length-2 c = search needs
+same-length-2 c = omega arith
 
 returns : tie.Need-returns
 returns c = c .before .before .before .before .before .write-pages .ensures
