@@ -39,7 +39,7 @@ beforeCycles bytes = lent (calls bytes .state) (memoryOf bytes)
 unfoldable pub allLines : List ℕ → List ℕ
 allLines bytes = cyclesLines (nodes (sheetOf bytes)) 0 (cycles bytes) (beforeCycles bytes)
 
--- what is printed for a message; for none, the heading and some lines
+-- what is printed for a message; where the input runs, the heading and its lines
 abbrev pub printed : Message → List ℕ → List ℕ
 printed TooLarge lines = tooLarge
 printed InputEnds lines = inputEnds
