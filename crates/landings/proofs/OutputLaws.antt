@@ -21,7 +21,8 @@ use Rattle.landings.specs.declared.input.Message.the-variants.{TooLarge,
 use Rattle.landings.specs.Input.{sheetOf, memoryOf, cycles}
 use Rattle.landings.specs.Messages.{inputMessage, calls, refusalOf, callsMessage, message, behind}
 use Rattle.landings.specs.Lines.{lent, cycleLines, cyclesLines, cyclesOn}
-use Rattle.landings.specs.Output.{heading, tooLarge, inputEnds, refused, beforeCycles, allLines, printed, outputOf, HasAt, cyclesRun, atEnd}
+use Rattle.listing.specs.Text.{tooLarge, inputEnds, refused}
+use Rattle.landings.specs.Output.{heading, beforeCycles, allLines, printed, outputOf, HasAt, cyclesRun, atEnd}
 use Rattle.landings.proofs.MessageLaws.{whole, isRuns}
 use Rattle.landings.proofs.PageLaws.{lines-short}
 use Rattle.landings.proofs.CallLaws.{calls-ready}

@@ -6,7 +6,7 @@ use mathlib.Core.Path.{_≡_}
 use lib.ListN.{length, take, drop}
 use Rattle.sheet.specs.Sheet.{nodes}
 use Rattle.session.specs.Calls.{Lent}
-use Rattle.listing.specs.Text.{lineEnd, field}
+use Rattle.listing.specs.Text.{lineEnd, field, tooLarge, inputEnds, refused}
 use Rattle.landings.specs.declared.input.Message.{Message}
 use Rattle.landings.specs.declared.input.Message.the-variants.{TooLarge, InputEnds, Refused, Runs}
 use Rattle.landings.specs.Input.{sheetOf, memoryOf, cycles}
@@ -18,18 +18,6 @@ unfoldable pub heading : List ℕ
 heading =
     99 ∷ 121 ∷ 99 ∷ 108 ∷ 101 ∷ 32 ∷ 110 ∷ 111 ∷ 100 ∷ 101 ∷ 32 ∷ 97 ∷ 100 ∷ 100 ∷ 114 ∷ 101 ∷ 115 ∷ 115 ∷ 32 ∷ 119 ∷ 111 ∷ 114 ∷ 100 ∷ 32
     ∷ 107 ∷ 105 ∷ 110 ∷ 100 ∷ 10 ∷ []
-
--- `too large`, and a line end
-unfoldable pub tooLarge : List ℕ
-tooLarge = 116 ∷ 111 ∷ 111 ∷ 32 ∷ 108 ∷ 97 ∷ 114 ∷ 103 ∷ 101 ∷ 10 ∷ []
-
--- `input ends`, and a line end
-unfoldable pub inputEnds : List ℕ
-inputEnds = 105 ∷ 110 ∷ 112 ∷ 117 ∷ 116 ∷ 32 ∷ 101 ∷ 110 ∷ 100 ∷ 115 ∷ 10 ∷ []
-
--- `refused` and a space; the number follows
-unfoldable pub refused : List ℕ
-refused = 114 ∷ 101 ∷ 102 ∷ 117 ∷ 115 ∷ 101 ∷ 100 ∷ 32 ∷ []
 
 -- the lent words before the first cycle: after the load and the starts
 unfoldable pub beforeCycles : List ℕ → Lent

@@ -1,4 +1,5 @@
--- The text of a listing of landings, as bytes in ASCII (document 01, "The key's examples": the program `landings`).
+-- The texts that the programs print, as bytes in ASCII (document 01, "The key's examples"): a word in decimal, a landing's line, and the
+-- messages.
 use Prim.Native.Nat.{ℕ, _^_}
 use mathlib.Core.List.{List, [], _∷_, _++_}
 use Rattle.io.specs.Digits.{digits}
@@ -23,3 +24,15 @@ field n end = digits 10 (places n) n ++ (end ∷ [])
 unfoldable pub landingLine : ℕ → ℕ → ℕ → ℕ → ℕ → List ℕ
 landingLine cycle node address payload kind =
     field cycle space ++ (field node space ++ (field address space ++ (field payload space ++ field kind lineEnd)))
+
+-- `too large`, and a line end
+unfoldable pub tooLarge : List ℕ
+tooLarge = 116 ∷ 111 ∷ 111 ∷ 32 ∷ 108 ∷ 97 ∷ 114 ∷ 103 ∷ 101 ∷ 10 ∷ []
+
+-- `input ends`, and a line end
+unfoldable pub inputEnds : List ℕ
+inputEnds = 105 ∷ 110 ∷ 112 ∷ 117 ∷ 116 ∷ 32 ∷ 101 ∷ 110 ∷ 100 ∷ 115 ∷ 10 ∷ []
+
+-- `refused` and a space; the number follows
+unfoldable pub refused : List ℕ
+refused = 114 ∷ 101 ∷ 102 ∷ 117 ∷ 115 ∷ 101 ∷ 100 ∷ 32 ∷ []

@@ -2,22 +2,25 @@
 -- Assumes nothing.
 use Prim.Native.Nat.{ℕ, zero, suc, _+_, _*_, _<_, _≤_}
 use mathlib.Core.Bool.{Bool, true, false}
-use mathlib.Core.List.{List}
+use mathlib.Core.List.{List, [], _∷_, _++_}
 use mathlib.Core.Path.{_≡_, refl, sym, _∙_, ap}
 use native.Mathlib.Omega.{arith}
-use lib.ListN.{length, take, replicate, length-replicate}
+use lib.ListN.{length, take, replicate, length-replicate, length-append}
 use lib.Seq.{length-take-le}
 use Rattle.words.specs.Tests.{_<?_}
-use Rattle.words.specs.Words.{pick, tab}
+use Rattle.words.specs.Words.{pick, tab, putAll}
 use Rattle.words.proofs.TestLaws.{yes<, no<}
+use Rattle.words.proofs.WordLaws.{length-putAll}
 use Rattle.sheet.specs.Rules.{verdict}
 use Rattle.octets.specs.Octets.{wordIn}
+use Rattle.listing.specs.Text.{lineEnd, field, refused}
+use Rattle.listing.proofs.TextLaws.{putAll-append, putAll-front, field-short}
 use Rattle.checker.specs.declared.Outcome.{Outcome}
 use Rattle.checker.specs.declared.Outcome.the-variants.{Passes as PassesOutcome, Refused as RefusedOutcome}
 use Rattle.checker.specs.Answers.{outcomeOf}
 use Rattle.sheet_check.specs.declared.Line.{Line}
 use Rattle.sheet_check.specs.declared.Line.the-variants.{Passes, Refused, TooLarge, InputEnds}
-use Rattle.sheet_check.specs.Line.{mostWords, sheetIn, verdictLine, lineOf}
+use Rattle.sheet_check.specs.Line.{mostWords, sheetIn, verdictLine, lineOf, textOf}
 
 module _ (b : List ℕ) where
   pub no-length : length b < 4 → InputEnds ≡ lineOf b
@@ -76,3 +79,17 @@ part-length n m h = length-take-le n (replicate m 0) (omega (arith, length-repli
 pub part-ready : (n m : ℕ) (b : List ℕ) → n ≤ m → 4 * (1 + n) ≤ length b → n ≡ wordIn b 0
     → (4 * (1 + length {A = ℕ} (take n (replicate m 0))) ≤ length b) × (length {A = ℕ} (take n (replicate m 0)) ≡ wordIn b 0)
 part-ready n m b h k e = (omega (arith, part-length n m h), part-length n m h ∙ e)
+
+-- `refused ` with zeros behind it, and the number put there
+pub refused-put : (n count : ℕ) (s : List ℕ) → count ≡ 8 + length (field n lineEnd)
+    → s ≡ putAll (114 ∷ 101 ∷ 102 ∷ 117 ∷ 115 ∷ 101 ∷ 100 ∷ 32 ∷ 0 ∷ 0 ∷ 0 ∷ 0 ∷ 0 ∷ 0 ∷ 0 ∷ 0 ∷ 0 ∷ 0 ∷ 0 ∷ 0 ∷ []) 8 (field n lineEnd)
+    → (take count s ≡ textOf (Refused n)) × (count ≤ length s)
+unfolding refused putAll
+refused-put n count s e f =
+    let text : List ℕ = refused ++ field n lineEnd in
+    let long : length text ≡ 8 + length (field n lineEnd) = length-append refused (field n lineEnd) in
+    let whole : s ≡ putAll (replicate 20 0) 0 text = f ∙ sym (putAll-append (replicate 20 0) refused (field n lineEnd) 0) in (
+      ap (λ (k : ℕ). take k s) (e ∙ sym long) ∙ ap (take (length text)) whole
+          ∙ putAll-front (replicate 20 0) text (omega (arith, long, field-short n lineEnd)),
+      omega (arith, field-short n lineEnd, ap length whole, length-putAll (replicate 20 0) text 0),
+    )

@@ -4,10 +4,12 @@ use libc::STDIN_FILENO;
 use libc::STDOUT_FILENO;
 ghost use mathlib.Core.Path.{_≡_};
 ghost use Prim.Native.Nat.{ℕ, _+_, _*_, _<_, _≤_};
-ghost use lib.ListN.{length};
+ghost use lib.ListN.{length, take};
 ghost use Rattle.octets.specs.Octets.{wordIn};
-ghost use Rattle.sheet_check.specs.Line.{lineOf, sheetIn, verdictLine};
+ghost use Rattle.sheet_check.specs.Line.{lineOf, sheetIn, verdictLine, textOf};
 ghost use Rattle.sheet.specs.Rules.{verdict};
+
+const LINE_END: u8 = 10;
 
 // The line to print.
 pub enum Line {
@@ -49,27 +51,55 @@ fn line_for(bytes: &[u8]) -> Line
     judged(bytes, &mut words[..n])
 }
 
-fn print(line: Line) {
+// The bytes of a line: the first so many of the twenty.
+pub struct Text {
+    pub bytes: [u8; 20],
+    pub count: usize,
+}
+
+// The bytes of `refused` and a number.
+fn refused_text(number: u32) -> Text
+    ensures { λ r. ⌜ (take (r .count) (r .bytes) ≡ textOf (Line.Refused number)) × (r .count ≤ length (r .bytes)) ⌝ }
+{
+    let mut bytes = *b"refused \0\0\0\0\0\0\0\0\0\0\0\0";
+    let count = listing::put_field(&mut bytes, 8, number, LINE_END);
+    Text { bytes, count }
+}
+
+// The bytes of a line.
+fn text_of(line: Line) -> Text
+    ensures { λ r. ⌜ (take (r .count) (r .bytes) ≡ textOf line) × (r .count ≤ length (r .bytes)) ⌝ }
+{
     match line {
-        Line::Passes => {
-            io::write_all(STDOUT_FILENO, b"passes\n");
-        }
-        Line::Refused(n) => {
-            io::write_all(STDOUT_FILENO, b"refused ");
-            io::print_decimal(STDOUT_FILENO, n as u64);
-            io::write_all(STDOUT_FILENO, b"\n");
-        }
-        Line::TooLarge => {
-            io::write_all(STDOUT_FILENO, b"too large\n");
-        }
-        Line::InputEnds => {
-            io::write_all(STDOUT_FILENO, b"input ends\n");
-        }
+        Line::Passes => Text {
+            bytes: *b"passes\n\0\0\0\0\0\0\0\0\0\0\0\0\0",
+            count: 7,
+        },
+        Line::Refused(n) => refused_text(n),
+        Line::TooLarge => Text {
+            bytes: *b"too large\n\0\0\0\0\0\0\0\0\0\0",
+            count: 10,
+        },
+        Line::InputEnds => Text {
+            bytes: *b"input ends\n\0\0\0\0\0\0\0\0\0",
+            count: 11,
+        },
     }
 }
 
+// The bytes to print for an input.
+fn answer(bytes: &[u8]) -> Text
+    ensures { λ r. ⌜ (take (r .count) (r .bytes) ≡ textOf (lineOf (now (bytes .entry)))) × (r .count ≤ length (r .bytes)) ⌝ }
+{
+    text_of(line_for(bytes))
+}
+
+// Reads, and hands the bytes of the answer to the write call.
 fn main() {
     let mut bytes = [0u8; 34392];
     let n = io::read_full(STDIN_FILENO, &mut bytes);
-    print(line_for(&bytes[..n]));
+    let text = answer(&bytes[..n]);
+    let line = text.bytes;
+    let count = text.count;
+    io::write_all(STDOUT_FILENO, &line[..count]);
 }

@@ -1,7 +1,7 @@
 -- `landings::answer` meets its contract: a message is the whole output, and an input whose words are all there is run.
 -- Assumes nothing.
 use Rattle.landings.proofs.OutputLaws.{message-stops, line-has, line-done}
-use Rattle.landings.specs.Output.{tooLarge, inputEnds}
+use Rattle.listing.specs.Text.{tooLarge, inputEnds}
 use mathlib.Core.Path.{refl, sym, _∙_}
 use borrow.Author.Needs.{needs}
 use Rattle.landings.proofs.answer.Statement.{statement}

@@ -1,7 +1,7 @@
 -- `landings::print_refused` meets its contract: `refused ` and the number with a line end are the two parts of the output.
 -- Assumes nothing.
 use Rattle.landings.proofs.OutputLaws.{refused-has, number-fits, number-has, refused-done}
-use Rattle.landings.specs.Output.{refused}
+use Rattle.listing.specs.Text.{refused}
 use native.Mathlib.Omega.{arith}
 use mathlib.Core.Path.{sym}
 use lib.Seq.{length-take-le}
