@@ -17,15 +17,15 @@ use Rattle.network.specs.View.{Order, noOrder, pending}
 use Rattle.network.specs.Registers.{reg, clockRow, orderMarkPlace, orderSchedulePlace, orderPeriodPlace, leftRow}
 use Rattle.network.specs.Seen.{orderIn as orderRead}
 use Rattle.soundness.specs.Sound.{kindTravels, liesIn}
-use Rattle.session.specs.Calls.{Lent, Call, load, start, store, fetch, left, periodNumber, landed, order, cycle, isLoad, number, after, unless, _then_, memoryNumber, placeNumber, leftNumber, landedNumber, startNamed, startFits, isBusy, startNumber, isPending, ahead, orderNumber}
+use Rattle.session.specs.Calls.{Lent, Call, load, start, store, fetch, left, periodNumber, landed, order, cycle, isLoad, number, unless, _then_, memoryNumber, placeNumber, leftNumber, landedNumber, startNamed, startFits, isBusy, startNumber, isPending, ahead, orderNumber}
 use Rattle.session.proofs.NumberLaws.{zero-then, zero-unless}
-use Rattle.isolation.specs.Sessions.{Session, isCycle, run, opened, standing, Event, eventOf, events, eventsBefore}
+use Rattle.isolation.specs.Sessions.{Session, isCycle, opened, standing, Event, eventOf, eventsBefore}
 use Rattle.isolation.specs.Calendar.{Calendar, calendarAfter}
 use Rattle.isolation.specs.Reckoning.{owed, reckon}
 use Rattle.isolation.specs.Demand.{calendarAt}
 use Rattle.isolation.proofs.Stream.{Fine, is-cycle}
 use Rattle.isolation.proofs.Dates.{point-at, never-refused}
-use Rattle.isolation.proofs.Points.{append-assoc}
+use Rattle.isolation.proofs.Points.{events-more}
 use Rattle.isolation.proofs.Reckons.{state-zero, refused-at, at-point}
 
 -- whether a call is carried out, from the events before it
@@ -84,10 +84,6 @@ none-left (suc n) = ap not (yes≤ (omega arith)) ∙ sym (no= (λ e. absurd (le
 and-neither : (t a b c : Bool) → t ≡ false → ((t and a) and b) ≡ ((t and a) and c)
 unfolding _and_
 and-neither t a b c e = ap (λ (u : Bool). (u and a) and b) e ∙ sym (ap (λ (u : Bool). (u and a) and c) e)
-
-append-nil : (es : List Event) → es ++ [] ≡ es
-append-nil [] = refl
-append-nil (e ∷ es) = ap {B = List Event} (λ r. e ∷ r) (append-nil es)
 
 -- an order is pending
 abbrev isHeld : Order → Bool
@@ -202,16 +198,6 @@ decided z m [] es = es
 decided z m (x ∷ calls) es = decided z m calls (es ++ pick (goes z m es x) (eventOf x) [])
 
 -- one call more
-events-more : (calls : List Call) (w : Lent) (k : ℕ) → k < length calls
-    → events (take (suc k) calls) w
-    ≡ events (take k calls) w ++ pick (number (getD calls k cycle) (run (take k calls) w) =? 0) (eventOf (getD calls k cycle)) []
-events-more [] w k l = absurd (not-suc-le-zero l)
-events-more (x ∷ calls) w zero l = append-nil (pick (number x w =? 0) (eventOf x) [])
-events-more (x ∷ calls) w (suc k) l =
-    let own : List Event = pick (number x w =? 0) (eventOf x) [] in
-    ap (λ (r : List Event). own ++ r) (events-more calls (after x w) k (omega arith))
-    ∙ sym (append-assoc own (events (take k calls) (after x w)) _)
-
 decided-more : (z m : List ℕ) (calls : List Call) (es : List Event) (k : ℕ) → k < length calls
     → decided z m (take (suc k) calls) es
     ≡ decided z m (take k calls) es ++ pick (goes z m (decided z m (take k calls) es) (getD calls k cycle)) (eventOf (getD calls k cycle)) []

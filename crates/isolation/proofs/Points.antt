@@ -2,7 +2,7 @@
 -- Assumes nothing.
 use Prim.Native.Nat.{ℕ, zero, suc, _<_}
 use mathlib.Core.Bool.{Bool, true, false, false≢true}
-use mathlib.Core.List.{List, [], _∷_, _++_}
+use mathlib.Core.List.{List, [], _∷_, _++_, append-assoc, append-nil}
 use mathlib.Core.Path.{_≡_, refl, sym, _∙_, ap, subst}
 use native.Mathlib.Omega.{arith}
 use lib.ListN.{length, take, getD}
@@ -116,11 +116,6 @@ pub record Split (calls : List Call) (w : Lent) (t : ℕ) : Type 0 where
   pub inside : cycleCall calls t < length calls
   pub is-cycle : isCycle (getD calls (cycleCall calls t) cycle) ≡ true
 
--- lists of events joined
-pub append-assoc : (xs ys zs : List Event) → (xs ++ ys) ++ zs ≡ xs ++ (ys ++ zs)
-append-assoc [] ys zs = refl
-append-assoc (x ∷ xs) ys zs = ap {B = List Event} (λ r. x ∷ r) (append-assoc xs ys zs)
-
 split-skip : (x : Call) (calls : List Call) (w : Lent) (t : ℕ) → isCycle x ≡ false → Split calls (after x w) t → Split (x ∷ calls) w t
 split-skip x calls w t e s =
     let own : List Event = pick (number x w =? 0) (eventOf x) [] in
@@ -233,16 +228,23 @@ module _ (z : List ℕ) (circuit : ℕ) where
   reckon-next (wrote node address new ∷ es) t k r l = reckon-next es t k (reckonEvent z circuit (wrote node address new) k r) l
   reckon-next (ordered schedule at ∷ es) t k r l = reckon-next es t (orderCalendar schedule at k) r l
 
--- the events through a cycle that is carried out
+-- the events through one call more, and through a cycle that is carried out
+pub events-more : (calls : List Call) (w : Lent) (k : ℕ) → k < length calls
+    → events (take (suc k) calls) w
+    ≡ events (take k calls) w ++ pick (number (getD calls k cycle) (run (take k calls) w) =? 0) (eventOf (getD calls k cycle)) []
+events-more [] w k l = absurd (let z : ⊥ = omega arith in z)
+events-more (x ∷ calls) w zero l = append-nil (pick (number x w =? 0) (eventOf x) [])
+events-more (x ∷ calls) w (suc k) l =
+    let own : List Event = pick (number x w =? 0) (eventOf x) [] in
+    ap (λ (r : List Event). own ++ r) (events-more calls (after x w) k (omega arith))
+    ∙ sym (append-assoc own (events (take k calls) (after x w)) _)
+
 pub events-cycle : (calls : List Call) (w : Lent) (k : ℕ) → k < length calls → isCycle (getD calls k cycle) ≡ true
     → number cycle (run (take k calls) w) ≡ 0 → events (take (suc k) calls) w ≡ events (take k calls) w ++ (cycled ∷ [])
-events-cycle [] w k l c e = absurd (let z : ⊥ = omega arith in z)
-events-cycle (x ∷ calls) w zero l c e =
-    ap (λ (y : Call). pick (number y w =? 0) (eventOf y) [] ++ []) (is-cycle x c) ∙ ap (λ (r : List Event). r ++ []) (own-cycle w e)
-events-cycle (x ∷ calls) w (suc k) l c e =
-    let own : List Event = pick (number x w =? 0) (eventOf x) [] in
-    ap (λ (r : List Event). own ++ r) (events-cycle calls (after x w) k (omega arith) c e)
-    ∙ sym (append-assoc own (events (take k calls) (after x w)) (cycled ∷ []))
+events-cycle calls w k l c e =
+    events-more calls w k l
+    ∙ ap (λ (x : Call). events (take k calls) w ++ pick (number x (run (take k calls) w) =? 0) (eventOf x) []) (is-cycle (getD calls k cycle) c)
+    ∙ ap (λ (r : List Event). events (take k calls) w ++ r) (own-cycle (run (take k calls) w) e)
 
 -- a session's cycles are carried out
 pub carried-session : (l : Session) → Carried (l .calls) (opened l)
