@@ -20,7 +20,7 @@ use Rattle.network.specs.Machine.{at, firstMark, firstWord, askedMark, nextOutM
 use Rattle.network.proofs.FirstLaws.{word-empty}
 use Rattle.routers.specs.Crossing.{asking, unchosenAt, Crossed}
 use Rattle.routers.proofs.OrderLaws.{passed, passed-some, passed-own, passed-other, passed-start, passed-end, passed-over}
-use Rattle.routers.proofs.PlaceLaws.{any-by-node, or-swap, any-or, same-pick, zero-pick, two-more, or-no, and-yes}
+use Rattle.routers.proofs.PlaceLaws.{any-by-node, or-swap, any-or, same-pick, zero-pick, some-sum, two-more, or-no, and-yes}
 
 -- what the inputs of the node at a place ask of it, and the words that they have
 abbrev asked : List ℕ → ℕ → ℕ → ℕ
@@ -159,22 +159,24 @@ unfolding any
 any-next p k = rw add-one refl
 
 -- the first k inputs of n nodes are crossed
-pub record Crossing (s : List ℕ) (n k : ℕ) (marks cells : List ℕ) (fault : Bool) : Type 0 where
+pub record Crossing (s : List ℕ) (n k : ℕ) (marks cells : List ℕ) (faults : ℕ) : Type 0 where
   pub inside : k ≤ n * 5
+  pub few : faults ≤ k
   pub marks-length : length marks ≡ 80
   pub cells-length : length cells ≡ 80
   pub marks-at : (p : ℕ) → p < 80 → word marks p ≡ firstMark (passed p k) (askedMark s (p / 5) (p % 5))
   pub cells-at : (p : ℕ) → p < 80
       → word cells p ≡ firstWord (passed p k) (askedMark s (p / 5) (p % 5)) (λ input. reg s headWord (at (p / 5) input))
-  pub met : fault
+  pub met : (1 ≤? faults)
       ≡ any (n * 5) (λ p. 2 ≤? countOf (passed p k) (λ i. 1 ≤? askedMark s (p / 5) (p % 5) i)) or any k (unchosenAt s)
 
 -- no input yet
 pub crossing-start : (s : List ℕ) (n : ℕ) (marks cells : List ℕ) → marks ≡ tab 80 (λ k. 0) → cells ≡ tab 80 (λ k. 0)
-    → Crossing s n 0 marks cells false
+    → Crossing s n 0 marks cells 0
 unfolding firstMark firstWord countOf any
 crossing-start s n marks cells m w = record {
   inside = omega arith;
+  few = omega arith;
   marks-length = ap length m ∙ length-tab 80 _;
   cells-length = ap length w ∙ length-tab 80 _;
   marks-at = λ p l.
@@ -182,18 +184,23 @@ crossing-start s n marks cells m w = record {
   cells-at = λ p l.
       ap (λ t. word t p) w ∙ tab-at 80 (λ k. 0) p l ∙ sym (ap (λ i. firstWord i (asked s p) (words s p)) (passed-start p));
   met =
-      or-on (any-none (n * 5) _ (λ p l. ap (λ i. 2 ≤? countOf i (λ i. 1 ≤? asked s p i)) (passed-start p) ∙ no≤ less)) refl;
+      no≤ none
+      ∙ or-on (any-none (n * 5) _ (λ p l. ap (λ i. 2 ≤? countOf i (λ i. 1 ≤? asked s p i)) (passed-start p) ∙ no≤ less)) refl;
 }
   where
+    none : 0 < 1
+    none = omega arith
+
     less : 0 < 2
     less = omega arith
 
 -- one input more
-pub crossing-more : (s : List ℕ) (n k : ℕ) (marks cells marks′ cells′ : List ℕ) (before here fault : Bool) → n * 5 < 81 → k < n * 5
-    → Crossing s n k marks cells before → Crossed s k marks cells marks′ cells′ here → fault ≡ (before or here)
-    → Crossing s n (k + 1) marks′ cells′ fault
-crossing-more s n k marks cells marks′ cells′ before here fault small l g x e = record {
+pub crossing-more : (s : List ℕ) (n k : ℕ) (marks cells marks′ cells′ : List ℕ) (faults fault : ℕ) → n * 5 < 81 → k < n * 5
+    → Crossing s n k marks cells faults → Crossed s k marks cells marks′ cells′ fault
+    → Crossing s n (k + 1) marks′ cells′ (faults + fault)
+crossing-more s n k marks cells marks′ cells′ faults fault small l g x = record {
   inside = omega arith;
+  few = omega (arith, x .one, g .few);
   marks-length = x .marks-length;
   cells-length = x .cells-length;
   marks-at = λ p pl. x .marks-next p pl ∙ ap (λ m. pick (m =? 0) (asking s k p) m) (g .marks-at p pl) ∙ sym (first-step s p k);
@@ -202,7 +209,7 @@ crossing-more s n k marks cells marks′ cells′ before here fault small l g x 
       ∙ ap₂ (λ (m w : ℕ). pick (m =? 0) (pick (asking s k p =? 0) w (reg s headWord k)) w) (g .marks-at p pl) (g .cells-at p pl)
       ∙ sym (word-step s p k);
   met =
-      e ∙ ap₂ _or_ (g .met) (x .found n l small) ∙ or-swap _ (any k (unchosenAt s)) _ (unchosenAt s k)
+      some-sum faults fault ∙ ap₂ _or_ (g .met) (x .found n l small) ∙ or-swap _ (any k (unchosenAt s)) _ (unchosenAt s k)
       ∙ ap₂ _or_ (any-or (n * 5) _ _ ∙ any-same (n * 5) _ _ (λ p pl. at-place p (omega arith))) (any-next (unchosenAt s) k);
 }
   where
@@ -215,7 +222,7 @@ crossing-more s n k marks cells marks′ cells′ before here fault small l g x 
         ∙ ap (λ c. 2 ≤? c) (sym (count-step s p k))
 
 -- all inputs
-module _ (s : List ℕ) (n k : ℕ) (marks cells : List ℕ) (fault : Bool) (own : n ≡ nodes (sheetIn s)) (g : Crossing s n k marks cells fault)
+module _ (s : List ℕ) (n k : ℕ) (marks cells : List ℕ) (faults : ℕ) (own : n ≡ nodes (sheetIn s)) (g : Crossing s n k marks cells faults)
     (over : n * 5 ≤ k) where
   whole : k ≡ n * 5
   whole = omega arith
@@ -236,7 +243,7 @@ module _ (s : List ℕ) (n k : ℕ) (marks cells : List ℕ) (fault : Bool) (own
       let fold : ℕ → ℕ = λ i. firstWord i (asked s p) (words s p) in
       g .cells-at p l ∙ ap (λ i. fold (passed p i)) whole ∙ passed-over fold p n (nodes (sheetIn s)) own refl)
 
-  pub crossed-met : fault
+  pub crossed-met : (1 ≤? faults)
       ≡ any (nodes (sheetIn s)) (λ node. any 5 (collidesIn s node)) or any (nodes (sheetIn s)) (λ node. any 5 (unchosenIn s node))
   unfolding collidesIn unchosenIn unchosenAt
   crossed-met =

@@ -53,23 +53,23 @@ module _ (s : List ℕ) (k : ℕ) where
       ap (λ t. pick (p / 5 =? k / 5) (pick t (reg s headMark k) 0) 0) (no= ne) ∙ same-pick (p / 5 =? k / 5) 0
 
   -- a header, or nothing, needs no choice
-  pub no-payload : (mark : ℕ) → mark ≡ reg s headMark k → mark < 2 → false ≡ unchosenAt s k
+  pub no-payload : (mark : ℕ) → mark ≡ reg s headMark k → mark < 2 → unchosenAt s k ≡ false
   unfolding unchosenAt
   no-payload mark e l =
       let early : reg s headMark k < 2 = omega arith in
-      and-no (reg s choiceRow k =? 0) (no≤ early)
+      sym (and-no (reg s choiceRow k =? 0) (no≤ early))
 
   module _ (choice : ℕ) (e : choice ≡ reg s choiceRow k) where
     -- a payload word has a choice, or it has none
-    pub chosen : 1 ≤ choice → false ≡ unchosenAt s k
+    pub chosen : 1 ≤ choice → unchosenAt s k ≡ false
     unfolding unchosenAt
-    chosen l = sym (and-no-right (2 ≤? reg s headMark k) _ (no= (λ q. omega arith)))
+    chosen l = and-no-right (2 ≤? reg s headMark k) _ (no= (λ q. omega arith))
 
-    pub unchosen : choice ≡ 0 → (mark : ℕ) → mark ≡ reg s headMark k → 2 ≤ mark → true ≡ unchosenAt s k
+    pub unchosen : choice ≡ 0 → (mark : ℕ) → mark ≡ reg s headMark k → 2 ≤ mark → unchosenAt s k ≡ true
     unfolding unchosenAt
     unchosen z mark m l =
         let late : 2 ≤ reg s headMark k = omega arith in
-        sym (and-both (yes≤ late) (yes= (sym e ∙ z)))
+        and-both (yes≤ late) (yes= (sym e ∙ z))
 
     pub asks-none : choice ≡ 0 → (p : ℕ) → asking s k p ≡ 0
     asks-none z p = asks-no p (λ q. omega arith)
@@ -103,13 +103,14 @@ module _ (s : List ℕ) (k : ℕ) where
 
 module _ (s : List ℕ) (k : ℕ) (marks cells : List ℕ) (ml : length marks ≡ 80) (cl : length cells ≡ 80) where
   -- nothing is asked
-  pub crossed-idle : (fault : Bool) → fault ≡ unchosenAt s k → ((p : ℕ) → asking s k p ≡ 0)
+  crossed-idle : (fault : ℕ) → fault < 2 → (1 ≤? fault) ≡ unchosenAt s k → ((p : ℕ) → asking s k p ≡ 0)
       → Crossed s k marks cells marks cells fault
-  crossed-idle fault e idle = record {
+  crossed-idle fault one e idle = record {
     marks-length = ml;
     cells-length = cl;
     marks-next = λ p l. mark-stays (word marks p) (asking s k p) (idle p);
     cells-next = λ p l. word-stays (word marks p) (asking s k p) (word cells p) (reg s headWord k) (idle p);
+    one = one;
     found = λ n a b. or-on (untaken n) e;
   }
     where
@@ -117,6 +118,16 @@ module _ (s : List ℕ) (k : ℕ) (marks cells : List ℕ) (ml : length marks �
       untaken n =
           any-none (n * 5) _
           (λ p l. let z : asking s k p < 1 = omega (arith, idle p) in and-no-right (1 ≤? word marks p) _ (no≤ z))
+
+  pub crossed-none : unchosenAt s k ≡ false → ((p : ℕ) → asking s k p ≡ 0) → Crossed s k marks cells marks cells 0
+  crossed-none e idle =
+      let none : 0 < 1 = omega arith in
+      crossed-idle 0 (omega arith) (no≤ none ∙ sym e) idle
+
+  pub crossed-unchosen : unchosenAt s k ≡ true → ((p : ℕ) → asking s k p ≡ 0) → Crossed s k marks cells marks cells 1
+  crossed-unchosen e idle =
+      let one : 1 ≤ 1 = omega arith in
+      crossed-idle 1 (omega arith) (yes≤ one ∙ sym e) idle
 
   -- an output is asked for, whose place is p
   module _ (mark : ℕ) (me : mark ≡ reg s headMark k) (some : mark ≡ 0 → ⊥) (choice : ℕ) (ce : choice ≡ reg s choiceRow k)
@@ -128,12 +139,13 @@ module _ (s : List ℕ) (k : ℕ) (marks cells : List ℕ) (ml : length marks �
     other p ne = asks-other s k choice ce low high p (λ q. ne (q ∙ sym pe))
 
     -- it has a mark already
-    pub crossed-hit : (old : ℕ) → old ≡ word marks place → (old ≡ 0 → ⊥) → Crossed s k marks cells marks cells true
+    pub crossed-hit : (old : ℕ) → old ≡ word marks place → (old ≡ 0 → ⊥) → Crossed s k marks cells marks cells 1
     crossed-hit old oe ne = record {
       marks-length = ml;
       cells-length = cl;
       marks-next = λ p l. mark-at p (ℕ-discrete p place);
       cells-next = λ p l. word-at p (ℕ-discrete p place);
+      one = omega arith;
       found = λ n a b. hit n a;
     }
       where
@@ -149,21 +161,23 @@ module _ (s : List ℕ) (k : ℕ) (marks cells : List ℕ) (ml : length marks �
         word-at p (yes q) = word-taken (word marks p) (asking s k p) (word cells p) (reg s headWord k) (full p q)
         word-at p (no g) = word-stays (word marks p) (asking s k p) (word cells p) (reg s headWord k) (other p g)
 
-        hit : (n : ℕ) → k < n * 5 → true ≡ any (n * 5) (λ p. 1 ≤? word marks p and 1 ≤? asking s k p) or unchosenAt s k
+        hit : (n : ℕ) → k < n * 5 → (1 ≤? 1) ≡ any (n * 5) (λ p. 1 ≤? word marks p and 1 ≤? asking s k p) or unchosenAt s k
         hit n l =
             let there : 1 ≤ word marks place = omega (arith, ne) in
             let asked : 1 ≤ asking s k place = omega (arith, own, some) in
+            let one : 1 ≤ 1 = omega arith in
             let inside : place < n * 5 = omega arith in
-            or-yes (unchosenAt s k) (any-at (n * 5) _ place inside (and-both (yes≤ there) (yes≤ asked)))
+            yes≤ one ∙ or-yes (unchosenAt s k) (any-at (n * 5) _ place inside (and-both (yes≤ there) (yes≤ asked)))
 
     -- it is free
     stored : (old : ℕ) → old ≡ word marks place → old ≡ 0 → (h : ℕ) → h ≡ reg s headWord k
-        → Crossed s k marks cells (set marks place mark) (set cells place h) false
+        → Crossed s k marks cells (set marks place mark) (set cells place h) 0
     stored old oe free h he = record {
       marks-length = length-set marks place mark ∙ ml;
       cells-length = length-set cells place h ∙ cl;
       marks-next = λ p l. mark-at p (ℕ-discrete p place);
       cells-next = λ p l. word-at p (ℕ-discrete p place);
+      one = omega arith;
       found = λ n a b. untaken n;
     }
       where
@@ -199,13 +213,15 @@ module _ (s : List ℕ) (k : ℕ) (marks cells : List ℕ) (ml : length marks �
             let z : asking s k p < 1 = omega (arith, other p g) in
             and-no-right (1 ≤? word marks p) _ (no≤ z)
 
-        untaken : (n : ℕ) → false ≡ any (n * 5) (λ p. 1 ≤? word marks p and 1 ≤? asking s k p) or unchosenAt s k
+        untaken : (n : ℕ) → (1 ≤? 0) ≡ any (n * 5) (λ p. 1 ≤? word marks p and 1 ≤? asking s k p) or unchosenAt s k
         untaken n =
-            or-on (any-none (n * 5) _ (λ p l. no-test p (ℕ-discrete p place))) (chosen s k choice ce low)
+            let none : 0 < 1 = omega arith in
+            no≤ none
+            ∙ or-on (any-none (n * 5) _ (λ p l. no-test p (ℕ-discrete p place))) (sym (chosen s k choice ce low))
 
     pub crossed-first : (old : ℕ) → old ≡ word marks place → old ≡ 0 → (h : ℕ) → h ≡ reg s headWord k
         → (marks′ cells′ : List ℕ) → marks′ ≡ set marks place mark → cells′ ≡ set cells place h
-        → Crossed s k marks cells marks′ cells′ false
+        → Crossed s k marks cells marks′ cells′ 0
     crossed-first old oe free h he marks′ cells′ a b =
-        subst (λ m. Crossed s k marks cells m cells′ false) (sym a)
-        (subst (λ w. Crossed s k marks cells (set marks place mark) w false) (sym b) (stored old oe free h he))
+        subst (λ m. Crossed s k marks cells m cells′ 0) (sym a)
+        (subst (λ w. Crossed s k marks cells (set marks place mark) w 0) (sym b) (stored old oe free h he))

@@ -20,10 +20,6 @@ unfolding _or_
 or-no true = refl
 or-no false = refl
 
--- the second test does not hold, and the first decides
-pub or-first : (a : Bool) {b : Bool} → b ≡ false → a ≡ a or b
-or-first a e = or-no a ∙ ap (λ t. a or t) (sym e)
-
 pub and-yes : (a : Bool) → a and true ≡ a
 unfolding _and_
 and-yes true = refl
@@ -68,6 +64,19 @@ zero-pick a = go (a =? 0) refl
     go : (b : Bool) → (a =? 0) ≡ b → pick b 0 a ≡ a
     go true e = sym (is= a 0 e)
     go false e = refl
+
+-- one of two numbers is not 0
+pub some-sum : (a b : ℕ) → (1 ≤? a + b) ≡ (1 ≤? a) or (1 ≤? b)
+some-sum a b = go (decLe 1 a)
+  where
+    go : Dec (1 ≤ a) → (1 ≤? a + b) ≡ (1 ≤? a) or (1 ≤? b)
+    go (yes l) =
+        let more : 1 ≤ a + b = omega arith in
+        yes≤ more ∙ or-yes (1 ≤? b) (yes≤ l)
+    go (no g) =
+        let none : a < 1 = omega (arith, g) in
+        let same : a + b ≡ b = omega arith in
+        or-on (no≤ none) (ap (λ n. 1 ≤? n) same)
 
 -- one more than a number is 2 or more
 pub two-more : (c : ℕ) → (2 ≤? c + 1) ≡ (2 ≤? c) or (1 ≤? c)

@@ -17,12 +17,13 @@ asking s k place = pick (place / 5 =? k / 5) (pick (reg s choiceRow k =? place %
 unfoldable pub unchosenAt : List ℕ → ℕ → Bool
 unchosenAt s k = 2 ≤? reg s headMark k and reg s choiceRow k =? 0
 
--- the tables before and after input k; it is a fault where the output that it asks for was taken, or a payload word has no choice
-pub record Crossed (s : List ℕ) (k : ℕ) (marks cells marks′ cells′ : List ℕ) (fault : Bool) : Type 0 where
+-- the tables before and after input k; fault is 1 where the output that it asks for was taken or a payload word has no choice, else 0
+pub record Crossed (s : List ℕ) (k : ℕ) (marks cells marks′ cells′ : List ℕ) (fault : ℕ) : Type 0 where
   pub marks-length : length marks′ ≡ 80
   pub cells-length : length cells′ ≡ 80
   pub marks-next : (p : ℕ) → p < 80 → word marks′ p ≡ pick (word marks p =? 0) (asking s k p) (word marks p)
   pub cells-next : (p : ℕ) → p < 80
       → word cells′ p ≡ pick (word marks p =? 0) (pick (asking s k p =? 0) (word cells p) (reg s headWord k)) (word cells p)
+  pub one : fault < 2
   pub found : (n : ℕ) → k < n * 5 → n * 5 < 81
-      → fault ≡ any (n * 5) (λ p. 1 ≤? word marks p and 1 ≤? asking s k p) or unchosenAt s k
+      → (1 ≤? fault) ≡ any (n * 5) (λ p. 1 ≤? word marks p and 1 ≤? asking s k p) or unchosenAt s k

@@ -49,43 +49,33 @@ pub fn has_unheld(s: &[u32], count: u32) -> bool
     false
 }
 
-// The word of input k goes to the output that was chosen for it. It is a fault where another word is there already, or where a payload word
-// has no choice.
-fn cross_input(s: &[u32], k: u32, marks: &mut [u32], cells: &mut [u32]) -> bool
+// The word of input k goes to the output that was chosen for it, where no other word is yet; 1 where one is, or where a payload word has
+// no choice, else 0.
+fn cross_input(s: &[u32], k: u32, marks: &mut [u32], cells: &mut [u32]) -> u32
     requires { ⌜ (k < 80) × (length (now marks) ≡ 80) × (length (now cells) ≡ 80) ⌝ }
     ensures { λ r. ⌜ Crossed (now (s .entry)) k (now (marks .entry)) (now (cells .entry)) (now (marks .exit)) (now (cells .exit)) r ⌝ }
 {
     let mark = reg(s, network::HEAD_MARK, k);
     if mark == 0 {
-        return false;
+        return 0;
     }
     let choice = reg(s, network::CHOICE_ROW, k);
     if choice == 0 {
         if mark < 2 {
-            return false;
+            return 0;
         }
-        return true;
+        return 1;
     }
     if network::OUTPUTS < choice {
-        return false;
+        return 0;
     }
     let place = ((k / 5) * 5 + choice - 1) as usize;
     if words::get(marks, place) != 0 {
-        return true;
+        return 1;
     }
     words::put(marks, place, mark);
     words::put(cells, place, reg(s, network::HEAD_WORD, k));
-    false
-}
-
-// A fault of this input, or of one before it.
-fn either(here: bool, before: bool) -> bool
-    ensures { λ r. ⌜ r ≡ (before or here) ⌝ }
-{
-    if here {
-        return true;
-    }
-    before
+    0
 }
 
 // The crossbar of all nodes: what goes on each output, into two lent tables of zeros. Number 20: two words want one output, of which the
@@ -100,13 +90,13 @@ pub fn cross(s: &[u32], nodes: u32, marks: &mut [u32], cells: &mut [u32]) -> boo
     if network::ROW_WORDS < count as usize {
         return false;
     }
-    let mut fault = false;
+    let mut faults: u32 = 0;
     let mut k: u32 = 0;
     while k < count {
-        fault = either(cross_input(s, k, marks, cells), fault);
+        faults += cross_input(s, k, marks, cells);
         k += 1;
     }
-    fault
+    1 <= faults
 }
 
 // The output chosen for the word in link register k: a header's own, a payload word's by the latch; one more than it, 0 for none.

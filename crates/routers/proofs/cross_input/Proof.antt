@@ -3,7 +3,7 @@
 -- Assumes nothing.
 use mathlib.Core.Path.{refl}
 use native.Mathlib.Omega.{arith}
-use Rattle.routers.proofs.InputLaws.{no-payload, chosen, unchosen, asks-empty, asks-none, asks-past, crossed-idle, crossed-hit, crossed-first}
+use Rattle.routers.proofs.InputLaws.{no-payload, chosen, unchosen, asks-empty, asks-none, asks-past, crossed-none, crossed-unchosen, crossed-hit, crossed-first}
 use borrow.Author.Needs.{needs}
 use Rattle.routers.proofs.cross_input.Statement.{statement}
 use Rattle.routers.proofs.cross_input.Tie as tie
@@ -12,19 +12,19 @@ reg-requires : tie.Need-reg-requires
 reg-requires c κs = search needs
 
 returns : tie.Need-returns
-returns c = crossed-idle _ _ _ _ (c .before .before .before .before .before .pre .1) (c .before .before .before .before .before .pre .2) _ (no-payload _ _ _ (c .before .reg .ensures) (omega arith)) (asks-empty _ _ _ (c .before .reg .ensures) (omega arith))
+returns c = crossed-none _ _ _ _ (c .before .before .before .before .before .pre .1) (c .before .before .before .before .before .pre .2) (no-payload _ _ _ (c .before .reg .ensures) (omega arith)) (asks-empty _ _ _ (c .before .reg .ensures) (omega arith))
 
 reg-requires-2 : tie.Need-reg-requires-2
 reg-requires-2 c κs = search needs
 
 returns-2 : tie.Need-returns-2
-returns-2 c = crossed-idle _ _ _ _ (c .before .before .before .before .before .before .before .before .pre .1) (c .before .before .before .before .before .before .before .before .pre .2) _ (no-payload _ _ _ (c .before .before .before .before .reg .ensures) (omega arith)) (asks-none _ _ _ (c .before .before .reg2 .ensures) (omega arith))
+returns-2 c = crossed-none _ _ _ _ (c .before .before .before .before .before .before .before .before .pre .1) (c .before .before .before .before .before .before .before .before .pre .2) (no-payload _ _ _ (c .before .before .before .before .reg .ensures) (omega arith)) (asks-none _ _ _ (c .before .before .reg2 .ensures) (omega arith))
 
 returns-3 : tie.Need-returns-3
-returns-3 c = crossed-idle _ _ _ _ (c .before .before .before .before .before .before .before .before .pre .1) (c .before .before .before .before .before .before .before .before .pre .2) _ (unchosen _ _ _ (c .before .before .reg2 .ensures) (omega arith) _ (c .before .before .before .before .reg .ensures) (omega arith)) (asks-none _ _ _ (c .before .before .reg2 .ensures) (omega arith))
+returns-3 c = crossed-unchosen _ _ _ _ (c .before .before .before .before .before .before .before .before .pre .1) (c .before .before .before .before .before .before .before .before .pre .2) (unchosen _ _ _ (c .before .before .reg2 .ensures) (omega arith) _ (c .before .before .before .before .reg .ensures) (omega arith)) (asks-none _ _ _ (c .before .before .reg2 .ensures) (omega arith))
 
 returns-4 : tie.Need-returns-4
-returns-4 c = crossed-idle _ _ _ _ (c .before .before .before .before .before .before .before .before .pre .1) (c .before .before .before .before .before .before .before .before .pre .2) _ (chosen _ _ _ (c .before .before .reg2 .ensures) (omega arith)) (asks-past _ _ _ (c .before .before .reg2 .ensures) (omega arith))
+returns-4 c = crossed-none _ _ _ _ (c .before .before .before .before .before .before .before .before .pre .1) (c .before .before .before .before .before .before .before .before .pre .2) (chosen _ _ _ (c .before .before .reg2 .ensures) (omega arith)) (asks-past _ _ _ (c .before .before .reg2 .ensures) (omega arith))
 
 mul-place : tie.Need-mul-place
 mul-place c = search needs
