@@ -33,8 +33,23 @@ fn main() -> ExitCode {
         }
     }
 
-    // The entries of sheet A, and the sheets that are timed, which have to be of the stated sizes.
+    // The entries of sheet A, of a sheet with three circuits and four schedules, whose first
+    // and third are without entries, and of one that ends where its entries would begin; and
+    // the sheets that are timed, which have to be of the stated sizes.
     let sheet_a = sheets::sheet_a().words();
+    let several = [
+        2, 2, 8, 3, 4, // places 0 to 4
+        0, 1, 0, 4, 0, 4, // 5 to 10
+        0, 3, 4, 2, 0, 2, // 11 to 16
+        1, 3, 4, 2, 2, 2, // 17 to 22
+        12, 0, // 23 and 24
+        9, 2, // 25 and 26
+        0, 2, 1, 9, 0, 2, 2, 2, // 27 to 34
+        1_024, 0, // 35 and 36
+        9, 1, // 37 and 38
+        6, 3, 0, 13, // 39 to 42
+    ];
+    let without_entries = [2, 2, 1, 0, 1, 9, 0];
     let largest = sheets::largest(1).words();
     let middle = sheets::middle(1);
     let middle_is_right = middle.nodes() == 16
@@ -45,6 +60,16 @@ fn main() -> ExitCode {
         checker::entries(&sheet_a, 0, 0) == Ok((13, vec![0, 3, 0, 13])),
         checker::entries(&sheet_a, 0, 1) == Err(15),
         checker::entries(&sheet_a, 9, 1) == Err(9),
+        checker::verdict(&several) == 0,
+        checker::entries(&several, 0, 0) == Ok((25, vec![])),
+        checker::entries(&several, 0, 1) == Ok((27, vec![0, 2, 1, 9, 0, 2, 2, 2])),
+        checker::entries(&several, 0, 2) == Ok((37, vec![])),
+        checker::entries(&several, 0, 3) == Ok((39, vec![6, 3, 0, 13])),
+        checker::entries(&several, 0, 4) == Err(15),
+        checker::entries(&several, 0, 4_294_967_295) == Err(15),
+        checker::verdict(&without_entries) == 0,
+        checker::entries(&without_entries, 0, 0) == Ok((7, vec![])),
+        checker::entries(&[], 1, 4_294_967_295) == Err(1),
         largest.len() == 8_597,
         checker::verdict(&largest) == 0,
         middle_is_right,

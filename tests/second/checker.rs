@@ -89,18 +89,20 @@ pub fn entries(words: &[u32], number: u32, schedule: u32) -> Result<(usize, Vec<
     if number != 0 {
         return Err(number);
     }
-    let sheet = read(words).expect("the sheet passes");
-    let Some(wanted) = sheet.schedules.get(schedule as usize) else {
+    let [circuits, schedules] = [words[3], words[4]];
+    if schedule >= schedules {
         return Err(15);
-    };
-    // Before it: the head, six words a circuit, for each earlier schedule two words and
-    // four an entry, and its own two words.
-    let mut place = 5 + 6 * sheet.circuits.len() + 2;
-    for earlier in &sheet.schedules[..schedule as usize] {
-        place += 2 + 4 * earlier.entries.len();
     }
-    let words_of = |entry: &Entry| [entry.offset, entry.length, entry.circuit, entry.route];
-    Ok((place, wanted.entries.iter().flat_map(words_of).collect()))
+    // Five words of head and six a circuit are passed by, then each earlier schedule:
+    // period, number of entries, and four words an entry.
+    let mut place = 5 + 6 * circuits as usize;
+    for _ in 0..schedule {
+        place += 2 + 4 * words[place + 1] as usize;
+    }
+    let length = 4 * words[place + 1] as usize;
+    place += 2;
+    let part = &words[place..place + length];
+    Ok((place, part.iter().map(|&word| u64::from(word)).collect()))
 }
 
 // Each rule answers whether its number applies.
