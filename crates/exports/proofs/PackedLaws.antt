@@ -61,9 +61,9 @@ refused-is (suc n) m v e = let q : m ≡ suc n = cc in rw q (refused n v)
 
 -- the fields of a schedule's entries
 module _ (s : List ℕ) (j field : ℕ) where
-  pub entries-at : (p : ℕ) → field ≡ 0 → p ≡ schedulePlace s j → p + 2 ≡ entriesField s j field
+  pub entries-at : (p r : ℕ) → field ≡ 0 → p ≡ schedulePlace s j → r ≡ p + 2 → r ≡ entriesField s j field
   unfolding entriesField
-  entries-at p z e = rw (yes= z) (ap (λ (n : ℕ). n + 2) e)
+  entries-at p r z e f = rw (yes= z) (f ∙ ap (λ (n : ℕ). n + 2) e)
 
   pub entries-many : (l : List ℕ) → field ≡ 1 → l ≡ entriesPart s j → length l ≡ entriesField s j field
   unfolding entriesField

@@ -35,13 +35,13 @@ module _ (cols count node side : ℕ) (g : InGrid cols count node) where
       omega (arith, neighbour-inside g side)
 
   -- from the neighbour that was computed
-  pub side-is : (s s′ : List ℕ) (next mark w : ℕ) → next ≡ neighbourOf cols count node side
-      → mark ≡ reg s outMark (next * 5 + (side + 2) % 4) → w ≡ reg s outWord (next * 5 + (side + 2) % 4)
+  pub side-is : (s s′ : List ℕ) (next mark w from : ℕ) → next ≡ neighbourOf cols count node side
+      → mark ≡ reg s outMark from → w ≡ reg s outWord from → from ≡ next * 5 + (side + 2) % 4
       → s′ ≡ linked s (node * 5 + side) mark w
       → s′ ≡ linkedBy s cols count node side
-  side-is s s′ next mark w e a b q =
-      let from : next * 5 + (side + 2) % 4 ≡ placeBy cols count node side = ap (λ n. n * 5 + (side + 2) % 4) e in
-      q ∙ ap₂ (linked s (at node side)) (a ∙ ap (reg s outMark) from) (b ∙ ap (reg s outWord) from)
+  side-is s s′ next mark w from e a b f q =
+      let there : from ≡ placeBy cols count node side = f ∙ ap (λ n. n * 5 + (side + 2) % 4) e in
+      q ∙ ap₂ (linked s (at node side)) (a ∙ ap (reg s outMark) there) (b ∙ ap (reg s outWord) there)
 
 -- what the definition has at a side's place and at a source's
 module _ (marks cells s : List ℕ) (n node : ℕ) where

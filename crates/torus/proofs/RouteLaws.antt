@@ -174,11 +174,11 @@ module _ {answer : Path} {cols rows : ℕ} {wires delays : List ℕ} {node entry
       ∙ g .rest-leads
 
   -- on to the next router, one more wire is written
-  pub going-on : hops < 8 → {output : ℕ} → output ≡ outputOf entry (firstCode rest) → (output ≡ memoryOutput → ⊥)
+  going-opposite : hops < 8 → {output : ℕ} → output ≡ outputOf entry (firstCode rest) → (output ≡ memoryOutput → ⊥)
       → {next : ℕ} → next ≡ neighbourOf cols rows node output
       → Going answer cols rows (set wires (hops + 1) (node * 6 + output)) (set delays (hops + 1) delay) next
       (oppositeOf output) (delay + 3) (laterCodes rest) (hops + 1)
-  going-on h {output} w ne {next} e = record {
+  going-opposite h {output} w ne {next} e = record {
     here = subst (InGrid cols rows) (sym e) (next-inside (g .here) output);
     few = omega arith;
     late = omega (arith, g .late);
@@ -192,6 +192,16 @@ module _ {answer : Path} {cols rows : ℕ} {wires delays : List ℕ} {node entry
         ∙ sym (ap (written wires delays (hops + 1) hops) (follow-on cols rows node entry delay rest (8 - hops) (omega arith) (λ q. ne (w ∙ q))))
         ∙ g .rest-leads);
   }
+
+  -- by which side it comes in there, however that is reckoned
+  pub going-on : hops < 8 → {output : ℕ} → output ≡ outputOf entry (firstCode rest) → (output ≡ memoryOutput → ⊥)
+      → {next : ℕ} → next ≡ neighbourOf cols rows node output
+      → {turned : ℕ} → turned ≡ oppositeOf output
+      → Going answer cols rows (set wires (hops + 1) (node * 6 + output)) (set delays (hops + 1) delay) next
+      turned (delay + 3) (laterCodes rest) (hops + 1)
+  going-on h {output} w ne {next} e {turned} t =
+      subst (λ (x : ℕ). Going answer cols rows (set wires (hops + 1) (node * 6 + output)) (set delays (hops + 1) delay) next
+      x (delay + 3) (laterCodes rest) (hops + 1)) (sym t) (going-opposite h w ne e)
 
   -- after eight routers, the route leads nowhere
   pub going-end : 8 ≤ hops → pathOf nowhere ≡ answer

@@ -3,6 +3,7 @@
 use Rattle.sheet.proofs.VerdictLaws.{passed-framed}
 use Rattle.checker.proofs.AnswerLaws.{handed}
 use Rattle.exports.proofs.PackedLaws.{entries-at, entries-many, entries-other}
+use native.Mathlib.Omega.{arith}
 use borrow.Author.Needs.{needs}
 use Rattle.exports.proofs.entries_field.Statement.{statement}
 use Rattle.exports.proofs.entries_field.Tie as tie
@@ -17,7 +18,7 @@ entries-requires : tie.Need-entries-requires
 entries-requires c κs = search needs
 
 returns : tie.Need-returns
-returns c = entries-at _ _ _ _ (c .before .match .keys1) (c .schedule-place .ensures .0)
+returns c = entries-at _ _ _ _ _ (c .before .match .keys1) (c .schedule-place .ensures .0) (omega arith)
 
 returns-2 : tie.Need-returns-2
 returns-2 c = entries-many _ _ _ _ (c .before .match .keys2) (c .entries .ensures)

@@ -38,7 +38,7 @@ same-length : tie.Need-same-length
 same-length c = search needs
 
 returns : tie.Need-returns
-returns c = side-is _ _ _ _ (c .before .before .before .before .before .before .before .before .before .before .pre .0) _ _ _ _ _ (c .before .before .before .before .before .before .before .before .neighbour .ensures) (c .before .before .before .before .before .before .reg .ensures) (c .before .before .before .before .reg2 .ensures) (c .before .before .put-link .ensures)
+returns c = side-is _ _ _ _ (c .before .before .before .before .before .before .before .before .before .before .pre .0) _ _ _ _ _ _ (c .before .before .before .before .before .before .before .before .neighbour .ensures) (c .before .before .before .before .before .before .reg .ensures) (c .before .before .before .before .reg2 .ensures) (omega arith) (c .before .before .put-link .ensures)
 
 pub step-side-spec : {M : Type 1} → statement M
 step-side-spec =

@@ -107,7 +107,7 @@ loop-again : tie.Need-loop-again Inv-loop μ-loop
 loop-again c =
     let on = c .before in
     going-on (on .before .before .before .loop .inv) (on .before .before .loop-test .taken) (on .before .output-of .ensures)
-    (on .if1 .left) (c .neighbour .ensures)
+    (on .if1 .left) (c .neighbour .ensures) (omega arith)
 
 nowhere-path-requires-2 : tie.Need-nowhere-path-requires-2 Inv-loop μ-loop
 nowhere-path-requires-2 c κs = search needs
