@@ -1,0 +1,92 @@
+// The proved calls (docs/INTERFACE.md, 'The exported calls') as WebAssembly. A slice is a place in the module's memory and a length in
+// words. The numbers, the answers and the lent words are theirs; this file only lends words and unpacks answers.
+
+// Rows of the lent state that are read for pictures (docs/STATE.md).
+export const ROWS = { clock: 0, linkMark: 1, linkWord: 2, outMark: 7, outWord: 8, landingMark: 12, left: 16 };
+const ROW_WORDS = 80;
+const MOST_MEMORY_WORDS = 16 * 16384;
+const PAGE_BYTES = 65536;
+
+// Opens the calls of a module; each opening has a state and a memory of its own.
+export async function openCalls(bytes) {
+  const { instance } = await WebAssembly.instantiate(bytes, {});
+  return callsOf(instance.exports);
+}
+
+// An answer of 64 bits is number × 2^32 + value.
+function unpacked(answer) {
+  const bits = BigInt.asUintN(64, answer);
+  return { number: Number(bits >> 32n), value: Number(bits & 0xffffffffn) };
+}
+
+function callsOf(exported) {
+  const stateWords = exported.argo_state_words();
+  const statePlace = (exported.__heap_base.value + 3) >> 2;
+  const memoryPlace = statePlace + stateWords;
+  const sheetPlace = memoryPlace + MOST_MEMORY_WORDS;
+  let words = new Uint32Array(0);
+  let memoryWords = 0;
+
+  // Makes the module's memory reach to a place, in words; growing it makes earlier views void.
+  function reach(place) {
+    const missing = place * 4 - exported.memory.buffer.byteLength;
+    if (missing > 0) exported.memory.grow(Math.ceil(missing / PAGE_BYTES));
+    if (words.buffer !== exported.memory.buffer) words = new Uint32Array(exported.memory.buffer);
+  }
+
+  function lendSheet(sheet) {
+    reach(sheetPlace + sheet.length);
+    words.set(sheet, sheetPlace);
+    return [sheetPlace * 4, BigInt(sheet.length)];
+  }
+
+  const state = [statePlace * 4, BigInt(stateWords)];
+  const memory = () => [memoryPlace * 4, BigInt(memoryWords)];
+
+  return {
+    stateWords,
+
+    // 0 where the sheet passes, else the first of the numbers 1 to 11 that applies.
+    verdict: (sheet) => exported.argo_verdict(...lendSheet(sheet)),
+
+    // Where a schedule's entries begin in a sheet, and how many words they are.
+    entries(sheet, schedule) {
+      const lent = lendSheet(sheet);
+      const place = unpacked(exported.argo_entries(...lent, schedule, 0));
+      return { number: place.number, place: place.value, count: unpacked(exported.argo_entries(...lent, schedule, 1)).value };
+    },
+
+    // Loads a sheet for a memory, which is copied: store and fetch reach it afterwards.
+    load(sheet, contents) {
+      if (contents.length > MOST_MEMORY_WORDS) throw new RangeError('no network has so large a memory');
+      const lent = lendSheet(sheet);
+      words.set(contents, memoryPlace);
+      memoryWords = contents.length;
+      return exported.argo_load(...lent, ...state, ...memory());
+    },
+
+    start: (circuit, read, write, count, kind) => exported.argo_start(...state, circuit, read, write, count, kind),
+    store: (node, address, word) => exported.argo_store(...state, ...memory(), node, address, word),
+    fetch: (node, address) => unpacked(exported.argo_fetch(...state, ...memory(), node, address)),
+    wordsLeft: (circuit) => unpacked(exported.argo_words_left(...state, circuit)),
+    periodNumber: () => unpacked(exported.argo_period_number(...state)),
+    landedField: (node, field) => unpacked(exported.argo_landed(...state, node, field)),
+    order: (schedule, period) => exported.argo_order(...state, schedule, period),
+    cycle: () => exported.argo_cycle(...state, ...memory()),
+
+    // What landed at a node in the last cycle, or null.
+    landing(node) {
+      const field = (number) => unpacked(exported.argo_landed(...state, node, number)).value;
+      return field(0) === 1 ? { kind: field(1), address: field(2), word: field(3) } : null;
+    },
+
+    // A register of the state (docs/STATE.md), read for pictures; and all lent words, for tests.
+    register: (row, place) => words[statePlace + row * ROW_WORDS + place],
+    lentState: () => words.subarray(statePlace, statePlace + stateWords),
+    lentMemory: () => words.subarray(memoryPlace, memoryPlace + memoryWords),
+    lendMemory(length) {
+      reach(sheetPlace);
+      memoryWords = length;
+    },
+  };
+}

@@ -1,0 +1,73 @@
+// What is open: a file's text as a plan or as words, with its sheet, the name of every cell, and what cannot be read.
+import { cellName, decodeText, readTable } from './cells.js';
+import { readPlan } from './plan.js';
+import { sheetOfPlan, partsOf } from './sheet.js';
+import { placeName, readWords } from './words.js';
+
+const WORDS_FILE = /\.(sheet|words)$/i;
+
+// Reads a file. With exam, circuits and slots stay in the order of their rows.
+export function readFile(name, bytes, exam = false) {
+  const { text, wrong } = decodeText(bytes);
+  if (wrong) return { ...unread(name), problems: [{ row: null, column: null, place: null, found: null, wanted: wrong }] };
+  return WORDS_FILE.test(name) ? documentOfWords(name, text) : documentOfText(name, text, exam);
+}
+
+export function documentOfText(name, text, exam = false) {
+  const { rows, separator, problems } = readTable(text);
+  return documentOfRows(name, rows, exam, separator, problems);
+}
+
+// A document of a table's rows; problems that the table had come first.
+export function documentOfRows(name, rows, exam = false, separator = ';', before = []) {
+  const known = { ...unread(name), kind: 'plan', rows, separator, exam };
+  if (before.length > 0) return { ...known, problems: before.map((problem) => placed(problem, cellName)) };
+  const plan = readPlan(rows);
+  if (plan.problems.length > 0) return { ...known, plan, problems: plan.problems.map((problem) => placed(problem, cellName)) };
+  return { ...known, plan, ...sheetOfPlan(plan, exam) };
+}
+
+export function documentOfWords(name, text) {
+  const { words, places, problems } = readWords(text);
+  const named = (row, column) => placeName({ row, column });
+  if (problems.length > 0) return { ...unread(name), kind: 'words', text, problems: problems.map((problem) => placed(problem, named)) };
+  const parts = partsOf(words);
+  return {
+    ...unread(name),
+    kind: 'words',
+    text,
+    words,
+    places,
+    circuitNames: (parts?.circuits ?? []).map((circuit) => `circuit ${circuit.number}`),
+    modeNames: (parts?.schedules ?? []).map((schedule) => `schedule ${schedule.number}`),
+    numberOf: (index) => index,
+  };
+}
+
+function unread(name) {
+  return { name, kind: null, plan: null, problems: [], words: null, places: null, circuitNames: [], modeNames: [] };
+}
+
+function placed(problem, named) {
+  return { ...problem, place: named(problem.row, problem.column) };
+}
+
+// The name of the cell that a word of the sheet stands for.
+export function placeOfWord(document, at) {
+  const place = document.places[Math.min(at, document.places.length - 1)];
+  if (!place) return 'the file';
+  return document.kind === 'plan' ? cellName(place.row, place.column) : placeName(place);
+}
+
+// A problem as one line: where, what stands there, what is wanted.
+export function problemLine(name, problem) {
+  if (problem.place === null) return cut(`${name}: ${problem.wanted}`, Infinity);
+  const found = problem.found.trim() === '' ? 'nothing stands here' : `${JSON.stringify(cut(problem.found))} stands here`;
+  return cut(`${name}, ${problem.place}: ${found}; wanted: ${problem.wanted}`, Infinity);
+}
+
+// A text as a message may show it: cut, and without characters that move a terminal's cursor.
+export function cut(text, most = 40) {
+  const safe = text.replace(/[\u0000-\u001f\u007f-\u009f\u2028\u2029\u202a-\u202e\u2066-\u2069]/g, ' ');
+  return safe.length <= most ? safe : safe.slice(0, most) + '..';
+}

@@ -1,0 +1,137 @@
+// A run of a sheet by the proved calls: the load, the memory rows as stores, then cycle after cycle, each behind the acts of its rows.
+// What is on a wire and what landed is read from the session; nothing is stepped here.
+import { ROWS } from './calls.js';
+import { partsOf, wordsOf } from './sheet.js';
+
+export const MARKS = ['empty', 'header', 'payload', 'last payload'];
+export const SOURCE_WIRE = 5;
+export const MEMORY_WIRE = 4;
+const PORTS = 5;
+const MOST_SENT = 100;
+
+// A document's memory rows and acts as calls, each with its row and the column of the cell that it is about.
+export function callsOfPlan(document) {
+  const plan = document.plan;
+  if (!plan) return { stores: [], acts: [] };
+  const stores = plan.memory.flatMap(({ row, node, address, words }) =>
+    words.map((word, at) => ({ row, column: at + 3, cycle: 0, what: 'store', arguments: [node, address + at, word] })),
+  );
+  const acts = plan.acts.map((act) => {
+    const { row, cycle, what } = act;
+    return { row, column: 2, cycle, what, arguments: argumentsOf(act, document) };
+  });
+  // Rows of one cycle stay in the order of the file.
+  return { stores, acts: acts.sort((a, b) => a.cycle - b.cycle) };
+}
+
+function argumentsOf(act, document) {
+  if (act.what === 'start') return [document.numberOf(act.circuit), act.read, act.write, act.count, act.kind];
+  return act.what === 'store' ? [act.node, act.address, act.word] : [act.mode, act.period];
+}
+
+// The words of a sheet in which one schedule of another stands alone.
+export function sheetOfMode(words, mode) {
+  const parts = partsOf(words);
+  return wordsOf({ ...parts, schedules: [parts.schedules[mode]] });
+}
+
+// For pictures: what the nodes hold when every circuit sends all the time, words that tell circuit and place apart.
+function fillForTraffic(contents, parts) {
+  for (const { number, words } of parts.circuits) {
+    const [source, , readOffset, readLength] = words;
+    const begin = source * parts.memory + readOffset;
+    for (let at = 0; at < Math.min(readLength, MOST_SENT); at++) contents[begin + at] = (number + 1) * 100 + at;
+  }
+}
+
+// Starts every circuit that has no words left. The register is looked at first, since each call tests the whole state.
+function startIdle(calls, parts) {
+  for (const { number, words } of parts.circuits) {
+    const [, , readOffset, readLength, receiveOffset, receiveLength] = words;
+    const count = Math.min(readLength, receiveLength, MOST_SENT);
+    if (calls.register(ROWS.left, number) === 0) calls.start(number, readOffset, receiveOffset, count, 0);
+  }
+}
+
+// Opens a run. `refused` is the first call that was refused, or null; behind one, nothing more is carried out. With `sending`, every
+// circuit is kept sending instead of what the acts say.
+export function openRun(calls, words, { stores = [], acts = [], sending = false } = {}) {
+  const run = { cycle: 0, refused: null, nodes: 0, step: () => null };
+  const refuse = (number, call) => {
+    run.refused = { number, ...call };
+    return run;
+  };
+  const verdict = calls.verdict(words);
+  if (verdict !== 0) return refuse(verdict, { what: 'sheet', row: null, column: null });
+  const parts = partsOf(words);
+  run.nodes = parts.columns * parts.rows;
+  const contents = new Uint32Array(run.nodes * parts.memory);
+  if (sending) fillForTraffic(contents, parts);
+  const loaded = calls.load(words, contents);
+  if (loaded !== 0) return refuse(loaded, { what: 'load', row: null, column: null });
+  const carriedOut = (call) => {
+    const number = calls[call.what](...call.arguments);
+    if (number !== 0) refuse(number, call);
+    return number === 0;
+  };
+  if (!stores.every(carriedOut)) return run;
+  let next = 0;
+
+  // Carries out the acts of the present cycle and the cycle; null where one is refused.
+  run.step = () => {
+    if (run.refused) return null;
+    if (sending) startIdle(calls, parts);
+    else for (; next < acts.length && acts[next].cycle <= run.cycle; next++) if (!carriedOut(acts[next])) return null;
+    const clock = [0, 1, 2].map((place) => calls.register(ROWS.clock, place));
+    const wires = outputs(calls, run.nodes);
+    const number = calls.cycle();
+    if (number !== 0) {
+      refuse(number, { what: 'cycle', row: null, column: null });
+      return null;
+    }
+    const frame = {
+      cycle: run.cycle,
+      cycleInPeriod: clock[0],
+      period: clock[1],
+      mode: clock[2],
+      wires: [...sources(calls, run.nodes), ...wires],
+      landings: landings(calls, run.nodes),
+    };
+    run.cycle++;
+    return frame;
+  };
+  return run;
+}
+
+// The words on the outputs' wires in the coming cycle (docs/STATE.md, row out).
+function outputs(calls, nodes) {
+  const found = [];
+  for (let node = 0; node < nodes; node++) {
+    for (let wire = 0; wire < PORTS; wire++) {
+      const mark = calls.register(ROWS.outMark, PORTS * node + wire);
+      if (mark !== 0) found.push({ node, wire, mark, word: calls.register(ROWS.outWord, PORTS * node + wire) });
+    }
+  }
+  return found;
+}
+
+// The words on the source wires in the cycle that was carried out last (row link, the source's input).
+function sources(calls, nodes) {
+  const found = [];
+  for (let node = 0; node < nodes; node++) {
+    const mark = calls.register(ROWS.linkMark, PORTS * node + 4);
+    if (mark !== 0) found.push({ node, wire: SOURCE_WIRE, mark, word: calls.register(ROWS.linkWord, PORTS * node + 4) });
+  }
+  return found;
+}
+
+// What landed in the last cycle, by node. The register is looked at first, since each call tests the whole state.
+function landings(calls, nodes) {
+  const found = [];
+  for (let node = 0; node < nodes; node++) {
+    if (calls.register(ROWS.landingMark, node) === 0) continue;
+    const landing = calls.landing(node);
+    if (landing) found.push({ node, ...landing });
+  }
+  return found;
+}

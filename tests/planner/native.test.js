@@ -1,0 +1,113 @@
+// The proved calls as WebAssembly against the native archive that is built of the same proved source: answers and all lent words.
+import test from 'node:test';
+import assert from 'node:assert/strict';
+import { provedBytes, openProved } from '../../planner/command/proved.js';
+import { wordsOf } from '../../planner/lib/sheet.js';
+import { recordOf } from './native.js';
+import { random as seeded } from './random.js';
+import { largestSheet, nearMiss, randomWords, sheetParts } from './sheets.js';
+import { playSession } from './sessions.js';
+
+const VERDICTS = 20000;
+const SESSION_CALLS = 100000;
+const calls = await openProved();
+const passes = (words) => calls.verdict(words) === 0;
+
+// How often each number was given.
+function counter() {
+  const counts = new Array(21).fill(0);
+  return { counts, add: (number) => counts[number]++, sum: () => counts.reduce((sum, count) => sum + count) };
+}
+
+// The most of each thing in a sheet. In a dense one most wires are taken, so that each step of a route decides number 11.
+const USUAL = { circuits: 6 };
+const DENSE = { circuits: 40, modes: 1, slots: 90, period: 24, memory: 200, length: 4 };
+
+// Sheets without end: some pass, most nearly do, and some are words at random.
+function* sheets(random) {
+  const large = largestSheet(random, passes);
+  for (let turn = 0; ; turn++) {
+    const words = turn % 100 === 99 ? large : wordsOf(sheetParts(random, passes, random.choose([USUAL, DENSE])));
+    yield words;
+    for (let edit = 0; edit < 12; edit++) yield nearMiss(random, words);
+    yield randomWords(random);
+  }
+}
+
+test('20,000 verdicts, and where entries lie', () => {
+  const random = seeded(1);
+  const record = recordOf(calls);
+  const [numbers, found] = [counter(), counter()];
+  for (const words of sheets(random)) {
+    numbers.add(record.verdict(words));
+    if (random.chance(0.2)) found.add(record.entries(words, random.choose([0, 0, 1, 2, 7, 8, 0xffffffff])));
+    if (numbers.sum() === VERDICTS) break;
+  }
+  assert.equal(record.difference(), null);
+  numbers.counts.slice(0, 12).forEach((count, number) => assert.ok(count >= 100, `number ${number}: ${count} sheets`));
+  for (const number of [0, 2, 7, 11, 15]) assert.ok(found.counts[number] > 0, `entries: number ${number}`);
+});
+
+test('100,000 calls on sessions, with words of the state poked', () => {
+  const random = seeded(2);
+  const record = recordOf(calls);
+  const [numbers, seen] = [counter(), { landed: 0, switched: 0, crowded: 0 }];
+  while (numbers.sum() < SESSION_CALLS) playSession(random, record, passes, numbers, seen);
+  assert.equal(record.difference(), null);
+  const { counts } = numbers;
+  assert.ok(counts[0] >= numbers.sum() / 3, `${counts[0]} of ${numbers.sum()} calls were carried out`);
+  for (let number = 13; number <= 20; number++) assert.ok(counts[number] >= 100, `number ${number}: ${counts[number]} calls`);
+  assert.ok(seen.landed >= 1000, `${seen.landed} landings were seen`);
+  assert.ok(seen.switched >= 100, `${seen.switched} switches were seen`);
+  assert.ok(seen.crowded >= 20, `${seen.crowded} sessions had 16 circuits or more`);
+});
+
+// The calls with as many words of the state lent as are told; the planner always lends the published length.
+async function callsOfLength() {
+  const { exports: exported } = (await WebAssembly.instantiate(provedBytes(), {})).instance;
+  exported.memory.grow(8);
+  const place = (exported.__heap_base.value + 3) >> 2;
+  const words = () => new Uint32Array(exported.memory.buffer);
+  const [memoryPlace, sheetPlace] = [place + 16384, place + 17000];
+  let [stateLength, memoryLength] = [exported.argo_state_words(), 0];
+  const state = () => [place * 4, BigInt(stateLength)];
+  const memory = () => [memoryPlace * 4, BigInt(memoryLength)];
+  const value = (answer) => ({ number: Number(BigInt.asUintN(64, answer) >> 32n), value: Number(answer & 0xffffffffn) });
+  return {
+    lendState: (length) => (stateLength = length),
+    lentState: () => words().subarray(place, place + stateLength),
+    lentMemory: () => words().subarray(memoryPlace, memoryPlace + memoryLength),
+    load(sheet, contents) {
+      words().set(sheet, sheetPlace);
+      words().set(contents, memoryPlace);
+      memoryLength = contents.length;
+      return exported.argo_load(sheetPlace * 4, BigInt(sheet.length), ...state(), ...memory());
+    },
+    start: (...list) => exported.argo_start(...state(), ...list),
+    store: (...list) => exported.argo_store(...state(), ...memory(), ...list),
+    fetch: (...list) => value(exported.argo_fetch(...state(), ...memory(), ...list)),
+    wordsLeft: (...list) => value(exported.argo_words_left(...state(), ...list)),
+    periodNumber: () => value(exported.argo_period_number(...state())),
+    landedField: (...list) => value(exported.argo_landed(...state(), ...list)),
+    order: (...list) => exported.argo_order(...state(), ...list),
+    cycle: () => exported.argo_cycle(...state(), ...memory()),
+  };
+}
+
+test('states that are too short, and longer ones', async () => {
+  const sheetA = [2, 2, 8, 1, 1, 0, 1, 0, 4, 0, 4, 9, 1, 0, 3, 0, 13];
+  const list = [
+    ['start', 0, 0, 0, 3, 0], ['store', 0, 0, 11], ['fetch', 0, 0], ['wordsLeft', 0],
+    ['periodNumber'], ['landedField', 1, 0], ['order', 0, 3], ['cycle'],
+  ];
+  const record = recordOf(await callsOfLength());
+  const published = calls.stateWords;
+  for (const length of [published, 0, 1, 1679, 1680, 1681, published - 1, published, published + 1, 16000]) {
+    record.lendState(length);
+    for (const [name, ...words] of [['load', sheetA, new Array(32).fill(7)], ...list]) {
+      const { number } = record.call(name, ...words);
+      assert.equal(number === 12, length < published, `${name} with ${length} words: ${number}`);
+    }
+  }
+  assert.equal(record.difference(), null);
+});
