@@ -1,0 +1,195 @@
+// The numbers of a refusal, 1 to 20, in a planner's words; and why a call of a run was refused.
+import { cellName } from './cells.js';
+import { ROWS } from './calls.js';
+import { capital, circuitName, counted, modeName } from './naming.js';
+import { KINDS } from './plan.js';
+import { partsOf } from './sheet.js';
+
+const rule = (title, text) => ({ title, text });
+
+// RULES[number] is the rule of that number.
+export const RULES = [
+  null,
+  rule(
+    'The head of the sheet is not whole',
+    'A sheet begins with five words: columns, rows, memory words of a node, number of circuits, number of schedules.',
+  ),
+  rule(
+    'A number of the head is out of range',
+    'Columns and rows are 2 to 4 each, the memory of a node 1 to 16,384 words; there are 0 to 64 circuits and 1 to 8 modes.',
+  ),
+  rule(
+    'The words do not divide into circuits and modes',
+    'The sheet ends too early, has words left over, or states more than 256 slots for a mode.',
+  ),
+  rule(
+    'A circuit does not fit the network',
+    'Source and destination are two nodes of the grid; the read and the receive region have at least one word and end within the memory.',
+  ),
+  rule(
+    'Two circuits are out of order or the same',
+    'Circuits stand in the order of their destinations and, at one destination, of their receive offsets; no two have both the same.',
+  ),
+  rule(
+    'Two regions share words of a memory',
+    'What a circuit receives must not lie where another circuit receives or reads: each receive region has its addresses to itself.',
+  ),
+  rule(
+    'A period or a slot has a number out of range',
+    'A period is 9 to 1,024 cycles, an offset lies within it, a length is 2 to 16 words with the header, and a route is at most 65,535.',
+  ),
+  rule(
+    'Two slots are out of order or the same',
+    'The slots of a mode stand in the order of their offsets and, at one offset, of their circuits; no two have both the same.',
+  ),
+  rule(
+    'A route does not lead to the destination by a shortest way',
+    "A slot's route leads from its circuit's source to its destination in the fewest hops, and has no bits left behind its end.",
+  ),
+  rule(
+    'A slot ends too late for the next period',
+    'Offset + length - 1 + 3 x hops is at most the period + 2, so that no packet meets those of the next period, whatever its mode.',
+  ),
+  rule(
+    'Two slots use one wire in one cycle',
+    'Each wire carries one word in a cycle: slots of one mode must not be on the same wire at the same time.',
+  ),
+  rule('The state of the run is too short', 'The words lent for the state of the network are fewer than the calls need.'),
+  rule('The state of the run is not sound', 'The words lent for the state of the network are not those that a run leaves.'),
+  rule('The memory has the wrong size', 'The memory has to have columns x rows x memory words of a node.'),
+  rule(
+    'Something that is named does not exist',
+    'There is no such circuit, node, address, mode or kind; a transfer sends data or an interrupt.',
+  ),
+  rule(
+    'A transfer does not fit its circuit',
+    'A transfer has at least one word, an interrupt exactly one; all are read in the read region and written in the receive region.',
+  ),
+  rule('The circuit is still sending', 'A transfer can start when no words of the one before are left.'),
+  rule('A switch is ordered already', 'One order can be pending; the next can be given when its period has begun.'),
+  rule(
+    'A switch is ordered for a period that is too near or past',
+    'A switch is ordered for a period at least three after the present one, and less than 2,147,483,648 after it.',
+  ),
+  rule(
+    'Words meet on a wire, or a word is lost',
+    'Two words want one wire, a word has no header, or a word would land beyond the memory; a run of a sheet that passes never gets there.',
+  ),
+];
+
+// The columns of the cells of a row, as plan.js reads them.
+const START = { circuit: 3, read: 4, write: 5, count: 6, kind: 7 };
+const STORE = { node: 3, address: 4 };
+const MEMORY = { node: 1, address: 2 };
+const ORDER = { mode: 3, period: 4 };
+const PERIODS = 4294967296;
+
+// Why a call of a run was refused, as one sentence. `refused` is as run.js gives it; with that run's calls it says what is left or pending.
+export function callLine(document, refused, calls = null) {
+  const { what, number, row } = refused;
+  const reasons = Object.hasOwn(REASONS, what) ? REASONS[what](document, refused, calls) : [];
+  const why = reasons.length > 0 ? reasons.join('; and ') : lowered(RULES[number].title);
+  const begin = row === null || row === undefined ? '' : `Row ${row + 1}: `;
+  const asked = `${askedText(document, refused)} is refused by number ${number}: ${why}.`;
+  return begin === '' ? capital(asked) : begin + asked;
+}
+
+const lowered = (text) => text[0].toLowerCase() + text.slice(1);
+const cellText = (row, column) => (row === null || row === undefined ? '' : ` (${cellName(row, column)})`);
+const isMemoryRow = (refused) => refused.column >= 3;
+
+// What was asked.
+function askedText(document, { what, arguments: values, cycle, column }) {
+  if (what === 'start') {
+    const [circuit, , , count, kind] = values;
+    const words = kind === KINDS.interrupt ? 'an interrupt' : counted(count, 'word');
+    return `the start of ${words} by ${knownCircuit(document, circuit)} in cycle ${cycle}`;
+  }
+  if (what === 'store') {
+    const [node, address, word] = values;
+    return `the word ${word} for address ${address} of node ${node}${isMemoryRow({ column }) ? '' : ` in cycle ${cycle}`}`;
+  }
+  if (what === 'order') return `the order of ${knownMode(document, values[0])} for period ${values[1]} in cycle ${cycle}`;
+  return what === 'cycle' ? 'a cycle' : 'the sheet';
+}
+
+const knownCircuit = (document, number) => (number < document.circuitNames.length ? circuitName(document, number) : `circuit ${number}`);
+const knownMode = (document, number) => (number < document.modeNames.length ? modeName(document, number) : `schedule ${number}`);
+
+const REASONS = {
+  start(document, refused, calls) {
+    if (refused.number === 15) return unknownInStart(document, refused);
+    if (refused.number === 16) return unfitStart(document, refused);
+    if (refused.number !== 17) return [];
+    const circuit = refused.arguments[0];
+    const left = calls ? counted(calls.wordsLeft(circuit).value, 'word') : 'words';
+    return [`${knownCircuit(document, circuit)}${cellText(refused.row, START.circuit)} has ${left} of its last transfer left to send`];
+  },
+  store(document, refused) {
+    if (refused.number !== 15) return [];
+    const [node, address] = refused.arguments;
+    const columns = isMemoryRow(refused) ? MEMORY : STORE;
+    // The words of a memory row lie at one address after the other; the last that does not fit is told by its own cell.
+    const addressColumn = isMemoryRow(refused) && refused.column > 3 ? refused.column : columns.address;
+    const unknown = unknownAddress(document, 'address', address, refused.row, addressColumn);
+    return [...unknownNode(document, node, refused.row, columns.node), ...unknown];
+  },
+  order(document, refused, calls) {
+    const [mode, period] = refused.arguments;
+    if (refused.number === 15) return [`there is no ${knownMode(document, mode)}${cellText(refused.row, ORDER.mode)}`];
+    if (refused.number === 18) return [pendingText(document, calls)];
+    return refused.number === 19 ? [periodText(period, refused, calls)] : [];
+  },
+};
+
+function unknownNode(document, node, row, column) {
+  const [columns, rows] = document.words;
+  return node < columns * rows ? [] : [`there is no node ${node}${cellText(row, column)}, nodes are 0 to ${columns * rows - 1}`];
+}
+
+function unknownAddress(document, what, address, row, column) {
+  const memory = document.words[2];
+  return address < memory ? [] : [`${what} ${address}${cellText(row, column)} does not exist, addresses are 0 to ${memory - 1}`];
+}
+
+function unknownInStart(document, { arguments: [circuit, read, write, , kind], row }) {
+  const count = document.words[3];
+  const reasons = circuit < count ? [] : [`there is no circuit ${circuit}${cellText(row, START.circuit)}`];
+  reasons.push(...unknownAddress(document, 'read address', read, row, START.read));
+  reasons.push(...unknownAddress(document, 'write address', write, row, START.write));
+  const isKind = Object.values(KINDS).includes(kind);
+  if (!isKind) reasons.push(`kind ${kind}${cellText(row, START.kind)} cannot be sent, it is data (0) or interrupt (2)`);
+  return reasons;
+}
+
+function unfitStart(document, { arguments: [circuit, read, write, count, kind], row }) {
+  const cell = cellText(row, START.count);
+  if (count === 0) return [`the count is 0${cell}, and a transfer has at least one word`];
+  if (kind === KINDS.interrupt && count !== 1) return [`the count is ${count}${cell}, and an interrupt has exactly one word`];
+  const [, , readOffset, readLength, receiveOffset, receiveLength] = partsOf(document.words).circuits[circuit].words;
+  return [
+    ...outside('read', read, count, readOffset, readLength, cellText(row, START.read), 'read region'),
+    ...outside('write', write, count, receiveOffset, receiveLength, cellText(row, START.write), 'receive region'),
+  ];
+}
+
+function outside(what, address, count, offset, length, cell, region) {
+  if (address >= offset && address + count <= offset + length) return [];
+  const words = `${counted(count, 'word')} from ${what} address ${address}${cell} on end at address ${address + count - 1}`;
+  return [`${words}, and the ${region} of the circuit is ${offset} to ${offset + length - 1}`];
+}
+
+function pendingText(document, calls) {
+  if (!calls) return 'an earlier order is pending; the next can be given when its period has begun';
+  const [mode, period] = [4, 5].map((place) => calls.register(ROWS.clock, place));
+  return `${knownMode(document, mode)} is ordered for period ${period} already; the next order can be given when that period has begun`;
+}
+
+function periodText(period, { row }, calls) {
+  const ordered = `period ${period}${cellText(row, ORDER.period)}`;
+  if (!calls) return `${ordered} is not at least three periods ahead`;
+  const present = calls.periodNumber().value;
+  const isBehind = (period - present + PERIODS) % PERIODS >= PERIODS / 2;
+  const known = `the present period is ${present}, and the earliest that can be ordered is ${(present + 3) % PERIODS}`;
+  return `${ordered} ${isBehind ? 'is past' : 'is too near'}: ${known}`;
+}
