@@ -1,0 +1,197 @@
+// The page in a real Chromium: files, editing, explanation, both pictures, landings, comparing and saving.
+import test from 'node:test';
+import assert from 'node:assert/strict';
+import { readFileSync, readdirSync } from 'node:fs';
+import { join } from 'node:path';
+import { browser, cell, example, isMarked, page, rowsOf, says, textOf, type, upload, verdict, written } from './open_page.js';
+
+test('it opens with an example that passes, and answers the question at once', async () => {
+  assert.match(await verdict(), /passes/);
+  const rows = await rowsOf('#pairs');
+  assert.equal(rows.length, 9);
+  const speed = rows.find((row) => row[0] === 'speed' && row[1] === 'normal' && row[2] === 'high wind');
+  assert.match(speed[3], /undisturbed/);
+  const cabin = rows.find((row) => row[0] === 'cabin' && row[1] === 'normal' && row[2] === 'high wind');
+  assert.match(cabin[3], /differs/);
+  assert.match(await textOf('#isolation'), /same starts/);
+});
+
+test('a chosen file that is refused is explained down to the cell', async () => {
+  await upload(example('cable-car-late.csv'));
+  await says('refused 10');
+  assert.match(await textOf('#explanation'), /D15/);
+  assert.ok(await isMarked('D15'));
+  await upload(example('cable-car-clash.csv'));
+  await says('refused 11');
+  for (const name of ['D13', 'D14']) assert.ok(await isMarked(name));
+});
+
+test('a button of the explanation goes to its cell', async () => {
+  await upload(example('cable-car-late.csv'));
+  await says('refused 10');
+  await browser.click(await browser.find('#explanation button.jump'));
+  const name = await browser.script("return document.querySelector('#explanation button.jump').textContent");
+  assert.equal(await browser.property(await browser.focused(), 'id'), `cell-${name}`);
+});
+
+test('a dropped file is opened', async () => {
+  const text = readFileSync(example('key.csv'), 'utf8');
+  await browser.script(
+    `const data = new DataTransfer();
+    data.items.add(new File([arguments[0]], 'dropped.csv'));
+    document.body.dispatchEvent(new DragEvent('drop', { dataTransfer: data, bubbles: true, cancelable: true }));`,
+    text,
+  );
+  await browser.until("return document.getElementById('file-name').textContent === 'dropped.csv'");
+  assert.match(await verdict(), /passes/);
+});
+
+test('an edit to refused and back, live, with undo and redo', async () => {
+  await upload(example('cable-car.csv'));
+  await says('passes');
+  const input = await type('D15', '9');
+  // The verdict follows the typing, before the cell is left.
+  await says('refused 10');
+  await browser.keys(input, '\ue007');
+  assert.equal(await cell('D15'), '9');
+  await browser.press('Control', 'z');
+  await says('passes');
+  assert.equal(await cell('D15'), '4');
+  await browser.press('Control', 'y');
+  await says('refused 10');
+  await type('D15', '4');
+  await browser.press('Enter');
+  await says('passes');
+  await type('D15', 'four');
+  await browser.press('Enter');
+  await says('cannot be read');
+  assert.match(await textOf('#explanation'), /D15.*four.*whole number/);
+  await browser.click(await browser.find('#undo'));
+  await says('passes');
+  await type('D15', '9');
+  await browser.press('Escape');
+  await says('passes');
+  assert.equal(await cell('D15'), '4');
+});
+
+test('a click elsewhere takes what was typed and goes there; a block of cells is pasted', async () => {
+  await upload(example('cable-car.csv'));
+  await type('D15', '9');
+  await browser.click(await browser.find('#cell-E15'));
+  assert.equal(await cell('D15'), '9');
+  assert.equal(await browser.property(await browser.focused(), 'id'), 'cell-E15');
+  await says('refused 10');
+  await browser.script(
+    `const data = new DataTransfer();
+    data.setData('text/plain', arguments[0]);
+    const cell = document.getElementById('cell-D15');
+    cell.focus();
+    cell.dispatchEvent(new ClipboardEvent('paste', { clipboardData: data, bubbles: true, cancelable: true }));`,
+    '4\t2\tES\r\n',
+  );
+  await says('passes');
+  assert.deepEqual([await cell('D15'), await cell('E15'), await cell('F15')], ['4', '2', 'ES']);
+});
+
+test('rows are inserted and deleted', async () => {
+  await upload(example('key.csv'));
+  await says('passes');
+  await browser.click(await browser.find('#cell-A5'));
+  await browser.click(await browser.find('#insert'));
+  assert.equal(await cell('A6'), '');
+  assert.equal(await cell('A7'), 'memory');
+  for (const [name, text] of [['A6', 'slot'], ['B6', 'only'], ['C6', 'first'], ['D6', '4'], ['E6', '2'], ['F6', 'W']]) {
+    await type(name, text);
+    await browser.press('Enter');
+  }
+  await says('passes');
+  await browser.click(await browser.find('#cell-A6'));
+  await browser.click(await browser.find('#delete'));
+  assert.equal(await cell('A6'), 'memory');
+  await says('passes');
+});
+
+test('slots on wires: a box for each slot and wire, told when it has the focus', async () => {
+  await upload(example('cable-car.csv'));
+  await browser.until("return document.querySelectorAll('#slots g[role=img]').length > 0");
+  const labels = "return [...document.querySelectorAll('#slots g[role=img]')].map((box) => box.getAttribute('aria-label'))";
+  const names = await browser.script(labels);
+  assert.ok(names.some((name) => name.includes('speed')) && names.some((name) => name.includes('cabin')));
+  assert.ok(!names.some((name) => name.includes('brake')));
+  await browser.script("document.querySelector('#slots g[role=img]').focus()");
+  assert.equal(await textOf('#slot-help'), names[0]);
+  await browser.script("const mode = document.getElementById('mode'); mode.value = '2'; mode.dispatchEvent(new Event('change'))");
+  const later = await browser.script(labels);
+  assert.ok(later.some((name) => name.includes('brake')) && !later.some((name) => name.includes('cabin')));
+});
+
+test('the network steps forward and back, plays and pauses', async () => {
+  await upload(example('key.csv'));
+  await browser.until("return document.getElementById('grid-caption').textContent.startsWith('Cycle 0:')");
+  const step = await browser.find('#grid-step');
+  for (let cycle = 0; cycle < 7; cycle++) await browser.click(step);
+  assert.match(await textOf('#grid-caption'), /^Cycle 7: .*word 11 at node 1, address 0/);
+  assert.match(await textOf('#grid'), /11/);
+  await browser.click(await browser.find('#grid-back'));
+  assert.match(await textOf('#grid-caption'), /^Cycle 6: .*Nothing landed/);
+  await browser.click(await browser.find('#grid-play'));
+  await browser.until("return Number(/^Cycle (\\d+)/.exec(document.getElementById('grid-caption').textContent)[1]) > 7");
+  await browser.click(await browser.find('#grid-play'));
+  const paused = await textOf('#grid-caption');
+  await new Promise((go) => setTimeout(go, 400));
+  assert.equal(await textOf('#grid-caption'), paused);
+  await browser.click(await browser.find('#grid-first'));
+  assert.match(await textOf('#grid-caption'), /^Cycle 0:/);
+});
+
+test('the landing list is the key of document 01', async () => {
+  await upload(example('key.csv'));
+  await browser.script("document.getElementById('cycles').value = '20'; document.getElementById('list').click()");
+  await browser.until("return document.getElementById('landings-note').textContent.includes('20 cycles')");
+  const rows = (await rowsOf('#landings')).map((texts) => texts.join(' '));
+  assert.deepEqual(rows, ['7 1 0 11 data first', '8 1 1 22 data first', '16 1 2 33 data first']);
+});
+
+test('a refused call of the rows is marked in its cell', async () => {
+  await upload(written('start.csv', readFileSync(example('key.csv'), 'utf8').replace(';0;0;3;data', ';0;2;3;data')));
+  await browser.until("return document.getElementById('landings-note').textContent.includes('16')");
+  assert.ok(await isMarked('C7'));
+});
+
+test('two sheets are compared', async () => {
+  await upload(example('cable-car.csv'));
+  await says('passes');
+  const changed = readFileSync(example('cable-car.csv'), 'utf8').replace('slot;high wind;cabin;2;2;N', 'slot;high wind;cabin;2;3;S');
+  await browser.upload(await browser.find('#compare-file'), written('newer.csv', changed));
+  const rows = await rowsOf('#comparison');
+  assert.match(rows.find((row) => row[0] === 'speed' && row[1] === 'high wind')[2], /undisturbed/);
+  assert.match(rows.find((row) => row[0] === 'cabin' && row[1] === 'high wind')[2], /differs/);
+  assert.match(rows.find((row) => row[0] === 'cabin' && row[1] === 'normal')[2], /undisturbed/);
+});
+
+test('the plan is saved as CSV, with what a spreadsheet would reckon with quoted', async () => {
+  const script = '<script>alert(1)</script>';
+  await upload(written('odd.csv', `network;2;2;8\ncircuit;${script};0;1;0;4;0;4\nmode;"=1+1";9\nslot;=1+1;${script};0;3;E\n`));
+  await says('passes');
+  await browser.click(await browser.find('#save'));
+  let saved = [];
+  for (let wait = 0; wait < 100 && !saved.includes('odd.csv'); wait++) {
+    await new Promise((go) => setTimeout(go, 50));
+    saved = readdirSync(browser.downloads);
+  }
+  assert.equal(
+    readFileSync(join(browser.downloads, 'odd.csv'), 'utf8'),
+    `network;2;2;8\r\ncircuit;${script};0;1;0;4;0;4\r\nmode;"'=1+1";9\r\nslot;"'=1+1";${script};0;3;E\r\n`,
+  );
+  // The name is a text in the tables and in the pictures.
+  assert.equal(await browser.script("return document.querySelectorAll('main script').length"), 0);
+  assert.match(await textOf('#isolation'), /<script>alert\(1\)<\/script>/);
+});
+
+test('no request was made but for the page itself', async () => {
+  const asked = (await browser.requests()).filter((url) => url !== page && !url.startsWith('blob:') && !url.startsWith('data:'));
+  assert.deepEqual(asked, []);
+  assert.deepEqual(await browser.complaints(), []);
+  const refused = await browser.script("return fetch('https://example.org/').then(() => 'sent', () => 'refused')");
+  assert.equal(refused, 'refused');
+});
