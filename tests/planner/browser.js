@@ -5,8 +5,8 @@ import { tmpdir } from 'node:os';
 import { delimiter, join, resolve } from 'node:path';
 
 const ELEMENT = 'element-6066-11e4-a52e-4f735466cecf';
-const START_MILLISECONDS = 20000;
-const WAIT_MILLISECONDS = 5000;
+const START_MILLISECONDS = 60000;
+const WAIT_MILLISECONDS = 30000;
 const CODES = {
   Enter: '\ue007', Tab: '\ue004', Escape: '\ue00c', Backspace: '\ue003', Delete: '\ue017', Space: ' ',
   Shift: '\ue008', Control: '\ue009', Alt: '\ue00a', Meta: '\ue03d',

@@ -10,6 +10,7 @@ import { nearMisses } from './near_misses.js';
 import { passingSheet } from './passing_sheets.js';
 import { random } from './random.js';
 import { carriedOut, fewerByOne } from './sheet_tools.js';
+import { leastMilliseconds } from './time.js';
 
 const ELSEWHERE = 'This is not the only place: other cells break this rule as well.';
 const NEAR_MISSES = 200;
@@ -148,11 +149,10 @@ for (const [number, what, plant] of LARGE_FAULTS) {
     plant(rows);
     const plan = documentOfRows('large.csv', rows);
     for (const document of [plan, documentOfWords('large.sheet', plan.words.join('\n'))]) {
-      const begin = process.hrtime.bigint();
       const found = explain(document, verdict);
-      const seconds = Number(process.hrtime.bigint() - begin) / 1e9;
       assert.equal(found.number, number);
-      assert.ok(seconds < 1, `it took ${seconds} s`);
+      const time = leastMilliseconds(() => explain(document, verdict), 1000);
+      assert.ok(time < 1000, `it took ${time} ms`);
       holdPart(document, found);
       holdHelp(document, found);
       assert.equal(found.lines.includes(ELSEWHERE), what.startsWith('every'));

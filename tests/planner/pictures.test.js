@@ -12,6 +12,7 @@ import { slotsPicture } from '../../planner/lib/slots_picture.js';
 import { checkedPicture, everyItem, textIn, toldParts } from './picture_checks.js';
 import { random } from './random.js';
 import { anySchedule, circuitsOn, documentOf, gridOf, passingSchedule, sendingFrames } from './slot_sheets.js';
+import { leastMilliseconds } from './time.js';
 
 const calls = await openProved();
 
@@ -188,9 +189,8 @@ test('the largest mode is drawn in less than a second and 6 million characters',
   parts.schedules = [{ ...schedule, entries: schedule.entries.slice(0, 256) }];
   assert.equal(parts.schedules[0].entries.length, 256);
   const document = documentOf(wordsOf(parts), (number) => `${number} ${'<'.repeat(57)}`, () => 'largest');
-  const begin = performance.now();
   const text = svgFile(slotsPicture(document, 0, { background: true }));
-  const time = performance.now() - begin;
+  const time = leastMilliseconds(() => svgFile(slotsPicture(document, 0, { background: true })), 1000);
   assert.ok(time < 1000, `${time} ms`);
   assert.ok(text.length < 6e6, `${text.length} characters`);
   const frames = sendingFrames(calls, wordsOf({ ...parts, schedules: [passingSchedule(draw, calls, parts, 40, 60)] }), MOST_FRAMES);

@@ -8,7 +8,8 @@ import { dirname, join } from 'node:path';
 import { fileURLToPath } from 'node:url';
 
 const setup = join(dirname(fileURLToPath(import.meta.url)), '..', '..', 'planner', 'setup');
-const TOOLS = ['bash', 'mktemp', 'tail', 'rm', 'sleep', 'cat', 'chmod'];
+const command = join(dirname(dirname(setup)), 'calqetum');
+const TOOLS = ['bash', 'sh', 'env', 'readlink', 'dirname', 'mktemp', 'tail', 'rm', 'sleep', 'cat', 'chmod'];
 const PACKAGES = { nodejs: 'node', chromium: 'chromium', 'chromium-driver': 'chromedriver' };
 
 // A folder of commands that is all of PATH: bash and its tools, and what the test puts there.
@@ -40,9 +41,11 @@ function machine({ node = null, browser = false, apt = true, root = true, fails 
 }
 
 // Runs planner/setup there, and gives its status, what it said and what apt-get was asked.
-function run(options, ...words) {
+const run = (options, ...words) => runProgram(setup, options, words);
+
+function runProgram(program, options, words) {
   const folder = machine(options);
-  const { status, stdout, stderr } = spawnSync(setup, words, { encoding: 'utf8', env: { PATH: folder, CALQETUM_SETUP_PAUSE: '0' } });
+  const { status, stdout, stderr } = spawnSync(program, words, { encoding: 'utf8', env: { PATH: folder, CALQETUM_SETUP_PAUSE: '0' } });
   const asked = existsSync(join(folder, 'asked')) ? readFileSync(join(folder, 'asked'), 'utf8').trim().split('\n') : [];
   rmSync(folder, { recursive: true });
   return { status, said: stdout + stderr, stdout, asked };
@@ -86,6 +89,18 @@ test('where nothing can be installed, it says what to do', () => {
   const old = run({ installs: '12.22.0' });
   assert.equal(old.status, 2);
   assert.match(old.said, /still missing: node \(node here: v12\.22\.0\)/);
+});
+
+test('the command installs Node where it can, and runs', () => {
+  // What apt-get puts there says its version whatever it is told, so that this is what the command then prints.
+  const fresh = runProgram(command, {}, ['check', 'x.csv']);
+  assert.deepEqual([fresh.status, fresh.stdout, installed(fresh.asked)], [0, 'v18.0.0\n', ['nodejs']]);
+  const old = runProgram(command, { node: '16.0.0' }, ['check']);
+  assert.deepEqual([old.status, installed(old.asked)], [0, ['nodejs']]);
+  const user = runProgram(command, { root: false }, ['check']);
+  assert.deepEqual([user.status, user.stdout, user.asked], [2, '', []]);
+  assert.match(user.said, /planner\/setup command installs it/);
+  assert.equal(runProgram(command, { fails: 9 }, ['check']).status, 2);
 });
 
 test('usage', () => {
