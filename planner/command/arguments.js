@@ -21,18 +21,18 @@ export function readArguments(words, known) {
       options[name] = true;
     } else {
       const missing = at + 1 >= words.length || Object.hasOwn(known, words[at + 1]);
-      if (value === null && missing) throw wrongUse(`${name} needs a value behind it`);
-      options[name] = value ?? words[++at];
+      options[name] = value ?? (missing ? '' : words[++at]);
+      if (options[name] === '') throw wrongUse(`${name} needs a value behind it`);
     }
   }
   return { options, rest };
 }
 
-// An option and its value where both are one word: --cycles=20, -oF.svg.
+// An option and its value where both are one word: --cycles=20, -oF.svg, -o=F.svg.
 function divided(word) {
   const sign = word.indexOf('=');
   if (word.startsWith('--')) return sign < 0 ? { name: word, value: null } : { name: word.slice(0, sign), value: word.slice(sign + 1) };
-  return { name: word.slice(0, 2), value: word.length > 2 ? word.slice(2) : null };
+  return { name: word.slice(0, 2), value: word.length > 2 ? word.slice(sign === 2 ? 3 : 2) : null };
 }
 
 // The value of an option as a whole number of a range, or null where it is not there.

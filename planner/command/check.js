@@ -1,10 +1,11 @@
 // The commands check and explain: the verdict upon sheets, and why one is refused.
 import { explain } from '../lib/explain.js';
 import { placeOfWord } from '../lib/document.js';
-import { verdictText } from '../lib/marking.js';
+import { verdictText } from '../lib/paper.js';
 import { holdCount } from './arguments.js';
 import { complaintsOf, readableSheet, readSheet } from './files.js';
 import { print, printJson, say } from './output.js';
+import { shownPath } from './paths.js';
 import { openProved } from './proved.js';
 import { explanationData, explanationLines, sayRefusal } from './refusal.js';
 
@@ -23,7 +24,7 @@ function judgedAsLine(sheet, calls, several) {
   complaints.forEach(say);
   if (complaints.length > 0) return { status: 2 };
   const number = calls.verdict(sheet.document.words);
-  print(several ? `${sheet.path}: ${verdictText(number)}` : verdictText(number));
+  print(several ? `${shownPath(sheet.path)}: ${verdictText(number)}` : verdictText(number));
   if (number !== 0) sayRefusal(sheet.path, sheet.document, calls);
   return { status: number === 0 ? 0 : 1 };
 }
@@ -39,7 +40,7 @@ function judgedAsData(sheet, calls) {
 // The whole explanation of one refusal.
 export async function explainFile(paths, options) {
   holdCount(paths, 1, 1, 'one FILE');
-  const sheet = readableSheet(paths[0], options['--exam']);
+  const sheet = readableSheet(paths[0], options);
   if (!sheet) return 2;
   const calls = await openProved();
   const explanation = explain(sheet.document, calls.verdict);

@@ -2,6 +2,7 @@
 import { cut } from '../lib/document.js';
 import { picture } from '../lib/drawing.js';
 import { gridAnimation, gridPicture, MOST_FRAMES } from '../lib/grid_picture.js';
+import { HEAD_LIMITS } from '../lib/limits.js';
 import { MOST_CYCLES } from '../lib/listing.js';
 import { svgFile } from '../lib/markup.js';
 import { MOST_NAME, nameOf } from '../lib/plan.js';
@@ -11,7 +12,8 @@ import { slotsPicture } from '../lib/slots_picture.js';
 import { holdCount, numberOption } from './arguments.js';
 import { wrongUse } from './failures.js';
 import { readableSheet } from './files.js';
-import { say, teller, writeFile } from './output.js';
+import { grouped, holdTarget, say, teller, writeFile } from './output.js';
+import { shownPath } from './paths.js';
 import { openProved } from './proved.js';
 import { sayRefusal } from './refusal.js';
 import { sayWhy } from './run.js';
@@ -19,6 +21,7 @@ import { sayWhy } from './run.js';
 const USUAL_PERIODS = 3;
 const USUAL_CYCLES = 120;
 const GAP = 16;
+const MOST_MODES = HEAD_LIMITS[4][1];
 
 export async function draw(paths, options) {
   holdCount(paths, 1, 1, 'one FILE');
@@ -28,22 +31,24 @@ export async function draw(paths, options) {
   const still = numberOption(options, '--cycle', 0, MOST_CYCLES - 1);
   if (!options['--grid'] && (cycles !== null || still !== null)) throw wrongUse('--cycles and --cycle belong to --grid');
   if (cycles !== null && still !== null) throw wrongUse('--cycles draws many cycles and --cycle one: only one of the two is wanted');
-  const sheet = readableSheet(paths[0], options['--exam']);
+  holdTarget(out, paths);
+  const sheet = readableSheet(paths[0], options);
   if (!sheet) return 2;
   const calls = await openProved();
   const refused = calls.verdict(sheet.document.words) !== 0;
   if (refused) sayRefusal(sheet.path, sheet.document, calls);
   if (!partsOf(sheet.document.words)) return notDrawn(sheet, 'its words do not divide into circuits and modes');
+  if (sheet.document.modeNames.length === 0) return notDrawn(sheet, 'it has no mode, and so no slots');
   const mode = modeNamed(sheet, options['--mode']);
   if (refused && options['--grid']) return notDrawn(sheet, 'words move only on a sheet that passes; without --grid its slots are drawn');
-  const drawn = options['--grid'] ? grid(sheet, calls, mode, cycles, still) : slots(sheet.document, mode);
+  const drawn = options['--grid'] ? grid(sheet, calls, mode, cycles, still) : slots(sheet, mode);
   if (!drawn) return 1;
-  writeFile(out, svgFile(drawn), [sheet.path]);
+  writeFile(out, svgFile(drawn));
   return refused ? 1 : 0;
 }
 
 function notDrawn(sheet, reason) {
-  say(`${sheet.path}: nothing is drawn: ${reason}.`);
+  say(`${shownPath(sheet.path)}: nothing is drawn: ${reason}.`);
   return 1;
 }
 
@@ -53,13 +58,18 @@ function modeNamed(sheet, text) {
   const { modeNames } = sheet.document;
   const number = modeNames.findIndex((name) => nameOf(name) === nameOf(text));
   if (number >= 0) return number;
-  throw wrongUse(`${sheet.path} has no mode ${text}; its modes: ${modeNames.map((name) => cut(name, MOST_NAME)).join(', ')}`);
+  const known = modeNames.slice(0, MOST_MODES).map((name) => cut(name, MOST_NAME));
+  const more = modeNames.length > MOST_MODES ? ', ..' : '';
+  throw wrongUse(`${shownPath(sheet.path)} has no mode ${cut(text, MOST_NAME)}; its modes: ${known.join(', ')}${more}`);
 }
 
-// The slots of one mode, or of all modes one below the other.
-function slots(document, mode) {
+// The slots of one mode, or of all modes one below the other, as many as a sheet may have.
+function slots({ path, document }, mode) {
   if (mode !== null) return slotsPicture(document, mode, { prefix: 'slots', background: true });
-  const pictures = document.modeNames.map((_, number) => slotsPicture(document, number, { prefix: `slots-${number}`, background: true }));
+  const all = document.modeNames.length;
+  if (all > MOST_MODES) say(`${shownPath(path)}: the first ${MOST_MODES} of its ${grouped(all)} modes are drawn; --mode draws another.`);
+  const shown = document.modeNames.slice(0, MOST_MODES);
+  const pictures = shown.map((_, number) => slotsPicture(document, number, { prefix: `slots-${number}`, background: true }));
   let height = 0;
   const placed = pictures.map((one) => {
     const part = { ...one, attributes: { ...one.attributes, y: height } };

@@ -3,9 +3,11 @@ import { readFileSync, readdirSync, statSync } from 'node:fs';
 import { basename, join } from 'node:path';
 import { MOST_BYTES } from '../lib/cells.js';
 import { problemLine, readFile } from '../lib/document.js';
-import { grouped, say } from './output.js';
+import { MOST_PROBLEMS } from '../lib/plan.js';
+import { grouped, printJson, say } from './output.js';
+import { shownPath } from './paths.js';
 
-const MOST_PROBLEMS = 200;
+const MOST_TOLD = 200;
 const REASONS = {
   ENOENT: 'there is no such file',
   ENOTDIR: 'there is no such file',
@@ -25,11 +27,12 @@ export function isFolder(path) {
   }
 }
 
-// The files of a folder by name, hidden ones left out, or what is wrong.
+// The files of a folder and the folders in it, by name, hidden ones left out; or what is wrong.
 export function filesOf(folder) {
   try {
-    const names = readdirSync(folder).filter((name) => !name.startsWith('.') && !isFolder(join(folder, name)));
-    return { names: names.sort() };
+    const names = readdirSync(folder).filter((name) => !name.startsWith('.')).sort();
+    const folders = names.filter((name) => isFolder(join(folder, name)));
+    return { names: names.filter((name) => !folders.includes(name)), folders };
   } catch (error) {
     return { wrong: reasonOf(error) };
   }
@@ -57,16 +60,33 @@ export function readSheet(path, exam) {
 
 // Why a sheet cannot be judged, a line for each reason; none where it can.
 export function complaintsOf({ path, wrong, document }) {
-  if (wrong) return [`${path}: ${wrong}`];
-  const lines = document.problems.slice(0, MOST_PROBLEMS).map((problem) => problemLine(path, problem));
-  const more = document.problems.length - lines.length;
-  return more > 0 ? [...lines, `${path}: ${grouped(more)} more cells cannot be read`] : lines;
+  const shown = shownPath(path);
+  if (wrong) return [`${shown}: ${wrong}`];
+  const { problems } = document;
+  const lines = problems.slice(0, MOST_TOLD).map((problem) => problemLine(shown, problem));
+  const more = problems.length - lines.length;
+  // The reader stops counting there.
+  const least = problems.length >= MOST_PROBLEMS ? 'at least ' : '';
+  return more > 0 ? [...lines, `${shown}: ${least}${grouped(more)} more cells cannot be read`] : lines;
 }
 
-// A sheet that can be judged, or null once it is said why not.
-export function readableSheet(path, exam) {
-  const sheet = readSheet(path, exam);
-  const complaints = complaintsOf(sheet);
-  complaints.forEach(say);
-  return complaints.length === 0 ? sheet : null;
+// Tells what cannot be read: by lines on standard error, or as JSON with what else is known.
+export function tellUnreadable(problems, options, known) {
+  if (options['--json']) printJson({ ...known, answer: 'unreadable', problems });
+  else problems.forEach(say);
+}
+
+// Sheets that can all be judged, or null once it is told why not.
+export function readableSheets(paths, options, known) {
+  const sheets = paths.map((path) => readSheet(path, options['--exam']));
+  const problems = sheets.flatMap(complaintsOf);
+  if (problems.length === 0) return sheets;
+  tellUnreadable(problems, options, known);
+  return null;
+}
+
+// A sheet that can be judged, or null once it is told why not.
+export function readableSheet(path, options) {
+  const sheets = readableSheets([path], options, { file: path });
+  return sheets ? sheets[0] : null;
 }

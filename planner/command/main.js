@@ -1,4 +1,5 @@
 // The planner's command: reads the words of the command line and hands them to the command that they name.
+import { cut } from '../lib/document.js';
 import { readArguments } from './arguments.js';
 import { certificate } from './certificate.js';
 import { check, explainFile } from './check.js';
@@ -24,6 +25,8 @@ const OPTIONS = {
   '--mode': 'value',
   '-o': 'value',
 };
+
+const MOST_MESSAGE = 5000;
 
 // Each command, and the options that it takes.
 const COMMANDS = {
@@ -68,7 +71,8 @@ try {
   const status = await carryOut(process.argv.slice(2));
   process.exitCode = Math.max(status, process.exitCode ?? 0);
 } catch (error) {
-  say(`calqetum: ${error.message}`);
+  // A message is one line, whatever names and words it repeats.
+  say(`calqetum: ${cut(error.message, MOST_MESSAGE)}`);
   if (error.use) say('calqetum: --help says how it is used');
   else if (!error.expected) say(error.stack);
   process.exitCode = 2;

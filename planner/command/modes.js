@@ -1,13 +1,14 @@
 // The commands modes and compare: what each circuit gets, and whom a switch of modes or a change of the sheet disturbs.
 import { cut } from '../lib/document.js';
 import { explain } from '../lib/explain.js';
-import { PREMISE, answerText, circuitsOf, compareDocuments, modePairs, slotsText } from '../lib/isolation.js';
-import { verdictText } from '../lib/marking.js';
+import { COMPARE_PREMISE, PREMISE, answerText, circuitsOf, compareDocuments, modePairs, slotsText } from '../lib/isolation.js';
+import { verdictText } from '../lib/paper.js';
 import { MOST_NAME, nameOf } from '../lib/plan.js';
 import { holdCount } from './arguments.js';
 import { wrongUse } from './failures.js';
-import { readableSheet } from './files.js';
+import { readableSheet, readableSheets } from './files.js';
 import { print, printJson, tableLines } from './output.js';
+import { shownPath } from './paths.js';
 import { openProved } from './proved.js';
 import { explanationData, sayRefusal } from './refusal.js';
 
@@ -21,7 +22,7 @@ const renamed = ({ name, newName }) => (newName === name ? named(name) : `${name
 // The planner's question for every circuit of a sheet, or for one.
 export async function modes(names, options) {
   holdCount(names, 1, 2, 'FILE, and at most one CIRCUIT,');
-  const sheet = readableSheet(names[0], options['--exam']);
+  const sheet = readableSheet(names[0], options);
   if (!sheet) return 2;
   const calls = await openProved();
   if (toldRefusals([sheet], calls, options)) return 1;
@@ -47,7 +48,7 @@ function toldRefusals(sheets, calls, options) {
   }
   for (const sheet of refused) {
     const line = verdictText(calls.verdict(sheet.document.words));
-    print(sheets.length > 1 ? `${sheet.path}: ${line}` : line);
+    print(sheets.length > 1 ? `${shownPath(sheet.path)}: ${line}` : line);
     sayRefusal(sheet.path, sheet.document, calls);
   }
   return true;
@@ -58,7 +59,8 @@ function circuitNamed(sheet, text) {
   const found = circuits.find((circuit) => nameOf(circuit.name) === nameOf(text));
   if (found) return found;
   const known = circuits.map((circuit) => named(circuit.name)).join(', ');
-  throw wrongUse(`${sheet.path} has no circuit ${text}; ${known === '' ? 'it has no circuits' : `its circuits: ${known}`}`);
+  const others = known === '' ? 'it has no circuits' : `its circuits: ${known}`;
+  throw wrongUse(`${shownPath(sheet.path)} has no circuit ${cut(text, MOST_NAME)}; ${others}`);
 }
 
 function modesLines(document, circuits, pairs) {
@@ -97,14 +99,16 @@ function wrapped(text) {
 // What a change of the sheet leaves undisturbed.
 export async function compare(paths, options) {
   holdCount(paths, 2, 2, 'OLD and NEW, two files,');
-  const sheets = paths.map((path) => readableSheet(path, options['--exam']));
-  if (sheets.includes(null)) return 2;
+  const both = { old: paths[0], new: paths[1] };
+  const sheets = readableSheets(paths, options, both);
+  if (!sheets) return 2;
   const calls = await openProved();
   if (toldRefusals(sheets, calls, options)) return 1;
   const found = compareDocuments(sheets[0].document, sheets[1].document);
-  if (options['--json']) printJson({ old: paths[0], new: paths[1], answer: 'passes', ...found, premise: PREMISE });
-  else print(comparisonLines(found, paths).join('\n'));
-  return 0;
+  const answer = found.comparable ? 'passes' : 'grids differ';
+  if (options['--json']) printJson({ ...both, answer, ...found, premise: COMPARE_PREMISE });
+  else print(comparisonLines(found, paths.map(shownPath)).join('\n'));
+  return found.comparable ? 0 : 1;
 }
 
 function comparisonLines(found, [old, changed]) {
@@ -120,5 +124,6 @@ function comparisonLines(found, [old, changed]) {
     ...found.modesInNewAlone.map((name) => `mode ${named(name)}: in ${changed} alone`),
   ];
   const none = found.circuits.length === 0 ? ['No circuit is in both sheets.'] : [];
-  return [...none, ...circuits, ...alone, '', ...wrapped(PREMISE)];
+  const starts = found.starts === null ? [] : wrapped(found.starts);
+  return [...none, ...circuits, ...alone, '', ...starts, ...wrapped(COMPARE_PREMISE)];
 }

@@ -1,6 +1,7 @@
 // What the command writes: lines on standard output, messages on standard error, files, and how far long work has come.
-import { realpathSync, writeFileSync } from 'node:fs';
+import { writeFileSync } from 'node:fs';
 import { failedBecause, wrongUse } from './failures.js';
+import { realPath, sameFile, SHEET_FILE, shownPath } from './paths.js';
 
 // Characters that could move a terminal's cursor or turn the order of a line round.
 const UNPRINTABLE = /[\u0000-\u0008\u000b-\u001f\u007f-\u009f\u2028\u2029\u202a-\u202e\u2066-\u2069]/g;
@@ -72,25 +73,25 @@ export function teller(what, total) {
   };
 }
 
-const sameFile = (one, other) => {
-  try {
-    return realpathSync(one) === realpathSync(other);
-  } catch {
-    return false;
-  }
-};
+// Holds the target behind -o to what may be written over: neither what is read, nor any plan or sheet, be it by way of a link.
+export function holdTarget(path, read) {
+  if (path === '-') return;
+  const shown = shownPath(path);
+  if (read.some((one) => sameFile(one, path))) throw wrongUse(`${shown} is the file that is read; name another one behind -o`);
+  const sheet = [path, realPath(path) ?? ''].some((name) => SHEET_FILE.test(name));
+  if (sheet) throw wrongUse(`${shown} is not written: .csv, .tsv, .sheet and .words are plans and sheets; name another file behind -o`);
+}
 
-// Writes a file, or standard output for '-'. What was read is never written over.
-export function writeFile(path, text, read) {
+// Writes a file, or standard output for '-'; holdTarget comes first.
+export function writeFile(path, text) {
   if (path === '-') {
     process.stdout.write(text);
     return;
   }
-  if (read.some((one) => sameFile(one, path))) throw wrongUse(`${path} is the file that was read; name another one behind -o`);
   try {
     writeFileSync(path, text);
   } catch (error) {
-    throw failedBecause(`${path} cannot be written: ${reasonOf(error)}`);
+    throw failedBecause(`${shownPath(path)} cannot be written: ${reasonOf(error)}`);
   }
 }
 

@@ -1,6 +1,7 @@
 // What is said of a refused sheet.
 import { explain, helpLine } from '../lib/explain.js';
 import { say } from './output.js';
+import { shownPath } from './paths.js';
 
 const FIRST_LINES = 3;
 
@@ -22,7 +23,7 @@ export function explanationData(explanation) {
 export function sayRefusal(path, document, calls) {
   const explanation = explain(document, calls.verdict);
   const { number, title, lines, help } = explanation;
-  say(`${path}: refused with number ${number}: ${title}.`);
+  say(`${shownPath(path)}: refused with number ${number}: ${title}.`);
   lines.slice(0, FIRST_LINES).forEach((line) => say(`  ${line}`));
   if (lines.length > FIRST_LINES || help.length > 0) say('  calqetum explain says more, and what would help.');
   return explanation;

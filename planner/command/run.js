@@ -7,6 +7,7 @@ import { holdCount, numberOption } from './arguments.js';
 import { wrongUse } from './failures.js';
 import { readableSheet } from './files.js';
 import { print, printJson, say, teller } from './output.js';
+import { shownPath } from './paths.js';
 import { openProved } from './proved.js';
 import { sayRefusal } from './refusal.js';
 
@@ -14,7 +15,7 @@ export async function run(paths, options) {
   holdCount(paths, 1, 1, 'one FILE');
   const cycles = numberOption(options, '--cycles', 0, MOST_CYCLES);
   if (cycles === null) throw wrongUse('--cycles N is wanted: how many cycles to run');
-  const sheet = readableSheet(paths[0], options['--exam']);
+  const sheet = readableSheet(paths[0], options);
   if (!sheet) return 2;
   const calls = await openProved();
   const { told, done } = teller('cycle', cycles);
@@ -31,7 +32,7 @@ export async function run(paths, options) {
 // Why a run is refused: by the sheet, or by a call of a row.
 export function sayWhy(sheet, refused, calls) {
   if (refused.what === 'sheet') sayRefusal(sheet.path, sheet.document, calls);
-  else say(`${sheet.path}: refused with number ${refused.number}: ${callLine(sheet.document, refused, calls)}`);
+  else say(`${shownPath(sheet.path)}: refused with number ${refused.number}: ${callLine(sheet.document, refused, calls)}`);
 }
 
 function runData(document, { refused, frames }, calls) {

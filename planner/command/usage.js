@@ -60,7 +60,10 @@ where a file has words and no names, circuits by their six words and modes by nu
 ${EXAM}
 ${JSON_OPTION}
 
-${STATUS}`,
+exit status
+  0  compared
+  1  a sheet is refused, or the grids differ, so that nothing can be said
+  2  a file cannot be read (its cells are named), or wrong use`,
   run: `usage: calqetum run FILE --cycles N [--names] [--exam] [--json]
 
 Runs a sheet with its memory and at rows for N cycles (at most 65,536) and lists what landed: cycle, node, address, word and kind
@@ -74,7 +77,8 @@ ${STATUS}`,
        calqetum draw FILE --grid -o F.svg [--mode NAME] [--cycles N | --cycle T] [--exam]
 
 Draws the slots on the wires of one mode, or of all modes one below the other; a refused sheet is drawn too, with its clashes marked.
-  -o F.svg     where the picture goes; - is standard output
+Of a refused sheet with over 8 modes the first 8 are drawn.
+  -o F.svg     where the picture goes; - is standard output. No .csv, .tsv, .sheet or .words is written over
   --mode NAME  one mode alone
   --grid       draws the nodes with the words under way instead: what the at rows of the file do; or with every circuit kept sending,
                where the file has no at rows or a mode is named (without --mode the first)
@@ -88,22 +92,23 @@ ${STATUS}`,
 Marks papers. KEY is a sheet, or a folder of sheets (.csv, .tsv, .sheet, .words); the right lines are worked out by the proved calls:
 the verdict ('passes' or 'refused N') and, with --cycles N, what lands in N cycles. A PAPER is a text with lines as check and run print
 them, or a folder of such papers. Where KEY is a folder, a verdict has its sheet's name in front ('a.csv: passes'), and a listing stands
-below a line 'a.csv:' or '# a.csv'. Blank lines and comments behind # count for nothing, nor do capitals, blanks and the order of lines.
+below a line 'a.csv:' or '# a.csv'. Where KEY is one sheet, lines need no name; all may have one other name. Blank lines count for nothing,
+nor do comments (a # that begins the line or stands behind a blank), capitals, blanks and the order of lines.
   right    the line is the key's
-  wrong    the verdict, or the address, word or kind of a landing, is another
+  wrong    the verdict, or the address, word or kind of a landing, is another; or the paper has different answers to it
   missing  the key has a line that the paper lacks
-  surplus  nothing lands there, the line is a second one, or it cannot be read
+  surplus  nothing lands there, the line is a further one, is about another sheet, or cannot be read (1,000 are listed, all are counted)
 ${EXAM}
 ${JSON_OPTION}
 
 exit status
   0  all papers are marked, whatever the marks
-  2  the key or a paper cannot be read, or wrong use`,
+  2  the key or a paper cannot be read, a folder of papers has folders in it (they are named), or wrong use`,
   certificate: `usage: calqetum certificate FILE -o F.html [--exam]
 
 Writes a certificate: the sheet, its hashes, the verdict, what each circuit gets, whom a switch of modes disturbs, and what all this rests
 on. A refused sheet gets a certificate of refusal. The same file gives the same certificate, to the byte.
-  -o F.html  where it goes; - is standard output
+  -o F.html  where it goes; - is standard output. No .csv, .tsv, .sheet or .words is written over
   --exam     circuits and slots stay in the order of the rows, so that their order is judged too
 
 ${STATUS}`,

@@ -4,6 +4,7 @@ export const MOST_BYTES = 4 * 1024 * 1024;
 export const MOST_ROWS = 10000;
 // So many rows a spreadsheet can have, empty ones included.
 const MOST_LINES = 1048576;
+const UNCLOSED = 'a closing quote: none follows up to the end of the file';
 
 const KEYWORDS = new Set(['network', 'circuit', 'mode', 'slot', 'memory', 'at']);
 const SEPARATORS = [';', '\t', ','];
@@ -67,12 +68,21 @@ export function readTable(text) {
   const lines = plain.split(/\r\n|\r|\n/, MOST_ROWS);
   const told = /^"?sep=(.)"?$/i.exec(lines[0]);
   const separator = told ? told[1] : separatorOf(lines);
-  const rows = [];
+  const { rows, open } = rowsOf(plain, separator, true);
   const problems = [];
+  if (open) problems.push({ row: open.row, column: open.column, found: '"' + open.text.slice(0, 20), wanted: UNCLOSED });
+  if (told) rows[0] = [''];
+  while (rows.length > 0 && rows[rows.length - 1].every((cell) => cell.trim() === '')) rows.pop();
+  return { rows, separator, problems };
+}
+
+// The rows of a text, and the quoted cell that is open at its end, or null. A quote in a comment counts only where it closes in its line.
+function rowsOf(plain, separator, withComments) {
+  const rows = [];
   let row = [];
   let cell = '';
   let blank = true;
-  let quoted = null;
+  let open = null;
   const add = (character) => {
     cell += character;
     if (blank) blank = character.trim() === '';
@@ -92,29 +102,35 @@ export function readTable(text) {
   };
   for (let at = 0; at < plain.length && rows.length < MOST_LINES; at++) {
     const character = plain[at];
-    if (quoted) {
+    if (open) {
       if (character !== '"') add(character);
       else if (plain[at + 1] === '"') add(plain[++at]);
-      else quoted = null;
+      else open = null;
     } else if (character === '"' && blank) {
-      quoted = { row: rows.length, column: row.length };
+      open = { row: rows.length, column: row.length };
       clear();
     } else if (character === separator) endCell();
     else if (character === '\n' || character === '\r') {
       if (character === '\r' && plain[at + 1] === '\n') at++;
       endRow();
+    } else if (character === '#' && blank && row.length === 0 && withComments) {
+      const line = /[^\r\n]*/y;
+      line.lastIndex = at;
+      const [comment] = line.exec(plain);
+      const cells = commentCells(cell + comment, separator);
+      row = cells.slice(0, -1);
+      cell = cells[cells.length - 1];
+      at += comment.length - 1;
     } else add(character);
   }
-  const unclosed = 'a closing quote: none follows up to the end of the file';
-  if (quoted) problems.push({ ...quoted, found: '"' + cell.slice(0, 20), wanted: unclosed });
+  const last = open && { ...open, text: cell };
   endRow();
-  if (told) rows[0] = [''];
-  while (rows.length > 0 && rows[rows.length - 1].every((text) => text.trim() === '')) rows.pop();
-  if (rows.length > MOST_ROWS) {
-    const wanted = `the end: a plan has at most ${MOST_ROWS} rows, and this has ${rows.length}`;
-    problems.push({ row: MOST_ROWS, column: 0, found: rows[MOST_ROWS][0], wanted });
-  }
-  return { rows, separator, problems };
+  return { rows, open: last };
+}
+
+function commentCells(line, separator) {
+  const { rows, open } = rowsOf(line, separator, false);
+  return open ? line.split(separator) : rows[0];
 }
 
 // A spreadsheet would reckon with a text that begins so; an apostrophe in front keeps it a text, and is taken off again when it is read.
@@ -131,7 +147,13 @@ function quotedCell(cell, separator) {
   return plain ? safe : '"' + safe.replaceAll('"', '""') + '"';
 }
 
-// The text of a table, its rows ended by CRLF as RFC 4180 has them.
+// The text of a table, its rows ended by CRLF as RFC 4180 has them. A comment is quoted whole where one of its cells has to be.
 export function writeTable(rows, separator = ';') {
-  return rows.map((row) => row.map((cell) => quotedCell(cell, separator)).join(separator) + '\r\n').join('');
+  return rows.map((row) => lineOf(row, separator) + '\r\n').join('');
+}
+
+function lineOf(row, separator) {
+  const cells = row.map((cell) => quotedCell(cell, separator));
+  const comment = /^\s*#/.test(row[0] ?? '') && cells.some((cell) => cell[0] === '"');
+  return (comment && cells[0][0] !== '"' ? [`"${cells[0]}"`, ...cells.slice(1)] : cells).join(separator);
 }

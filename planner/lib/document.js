@@ -1,5 +1,5 @@
 // What is open: a file's text as a plan or as words, with its sheet, the name of every cell, and what cannot be read.
-import { cellName, decodeText, readTable } from './cells.js';
+import { MOST_ROWS, cellName, decodeText, readTable } from './cells.js';
 import { readPlan } from './plan.js';
 import { sheetOfPlan, partsOf } from './sheet.js';
 import { placeName, readWords } from './words.js';
@@ -20,11 +20,20 @@ export function documentOfText(name, text, exam = false) {
 
 // A document of a table's rows; problems that the table had come first.
 export function documentOfRows(name, rows, exam = false, separator = ';', before = []) {
-  const known = { ...unread(name), kind: 'plan', rows, separator, exam };
-  if (before.length > 0) return { ...known, problems: before.map((problem) => placed(problem, cellName)) };
-  const plan = readPlan(rows);
-  if (plan.problems.length > 0) return { ...known, plan, problems: plan.problems.map((problem) => placed(problem, cellName)) };
+  const known = { ...unread(name), kind: 'plan', named: true, rows, separator, exam };
+  const first = [...before, ...tooMany(rows)];
+  const plan = readPlan(rows.slice(0, MOST_ROWS));
+  // Behind a quote that never closes, and the last row that is read, nothing is known of the rows.
+  const sound = first.length === 0 ? plan.problems : plan.problems.filter(({ row, depends }) => row < first[0].row && !depends);
+  const problems = [...first, ...sound];
+  if (problems.length > 0) return { ...known, plan, problems: problems.map((problem) => placed(problem, cellName)) };
   return { ...known, plan, ...sheetOfPlan(plan, exam) };
+}
+
+function tooMany(rows) {
+  if (rows.length <= MOST_ROWS) return [];
+  const wanted = `the end: a plan has at most ${MOST_ROWS} rows, and this has ${rows.length}`;
+  return [{ row: MOST_ROWS, column: 0, found: rows[MOST_ROWS][0] ?? '', wanted }];
 }
 
 export function documentOfWords(name, text) {
@@ -44,8 +53,9 @@ export function documentOfWords(name, text) {
   };
 }
 
+// `named` tells whether circuits and modes have names of their own.
 function unread(name) {
-  return { name, kind: null, plan: null, problems: [], words: null, places: null, circuitNames: [], modeNames: [] };
+  return { name, kind: null, named: false, plan: null, problems: [], words: null, places: null, circuitNames: [], modeNames: [] };
 }
 
 function placed(problem, named) {

@@ -1,17 +1,24 @@
 // Which circuits a switch of modes or a change of the sheet leaves undisturbed (demand 3), and what each gets: read from sheets that pass.
-import { COLUMNS } from './plan.js';
+import { cut } from './document.js';
+import { COLUMNS, MOST_NAME } from './plan.js';
 import { distance } from './route.js';
 import { partsOf } from './sheet.js';
 
 const MOST_SLOTS_SHOWN = 6;
 const RECORD_NAMES = COLUMNS.circuit.slice(1);
 
-// What has to be the same for the claim 'undisturbed' to hold.
+// What has to be the same for the claim 'undisturbed' to hold: of two modes, and of a line of two sheets.
+const OF_THE_CIRCUIT =
+  'Both runs must have the same starts of the circuit and the same stores into its two regions, each in the same cycle and in the same ' +
+  'order, and the same words in its two regions at the beginning; nothing else need be the same.';
 export const PREMISE =
-  'Undisturbed means: in two runs that, period by period, have the one or the other of the two modes or sheets in force, all that the ' +
-  'circuit delivers is the same, word for word and cycle for cycle, whatever other circuits, routes and switch orders do. For this, ' +
-  'both runs must have the same starts of the circuit and the same stores into its two regions, each in the same cycle and in the same ' +
-  'order, and the same words in its two regions at the beginning; nothing else.';
+  'Undisturbed means: take two runs of the sheet that have the same mode in force in every period, except that one of these two modes ' +
+  'may stand for the other. All that the circuit delivers is then the same in both, word for word and cycle for cycle, whatever other ' +
+  `circuits and routes do and however the switches were ordered. ${OF_THE_CIRCUIT}`;
+export const COMPARE_PREMISE =
+  'Undisturbed means: take a run of the one sheet and a run of the other in which every period has the two modes of one line in force, a ' +
+  'line that says undisturbed. All that the circuit delivers is then the same in both, word for word and cycle for cycle, whatever else ' +
+  `the sheets and the runs differ in. ${OF_THE_CIRCUIT} A run begins in the first mode of its sheet.`;
 
 const ANSWERS = { undisturbed: 'undisturbed', silent: 'silent in both: nothing of the circuit leaves', differs: 'differs' };
 
@@ -101,7 +108,8 @@ export function modePairs(document) {
     for (let first = 0; first < circuit.modes.length; first++) {
       for (let second = first + 1; second < circuit.modes.length; second++) {
         const [one, other] = [circuit.modes[first], circuit.modes[second]];
-        found.push({ circuit: circuit.number, first, second, ...compared(one, other, [one.name, other.name]) });
+        const names = [one, other].map((mode) => cut(mode.name, MOST_NAME));
+        found.push({ circuit: circuit.number, first, second, ...compared(one, other, names) });
       }
     }
   }
@@ -125,22 +133,24 @@ function changedRecord(first, second) {
 }
 
 // What can be said of two sheets that pass. Circuits and modes are matched by name; where a file has words and no names, circuits by their
-// six words and modes by number. Numbers of circuits, routes, the memory's size and all else of other circuits are free.
-export function compareDocuments(old, changed) {
+// six words and modes by number. Numbers of circuits, routes, the memory's size and all else of other circuits are free. `labels` are what
+// reasons call the two sheets.
+export function compareDocuments(old, changed, labels = ['the old sheet', 'the new sheet']) {
   const [first, second] = [partsOf(old.words), partsOf(changed.words)];
-  const none = { circuits: [], circuitsInOldAlone: [], circuitsInNewAlone: [], modesInOldAlone: [], modesInNewAlone: [] };
+  const none = { starts: null, circuits: [], circuitsInOldAlone: [], circuitsInNewAlone: [], modesInOldAlone: [], modesInNewAlone: [] };
   if (first.columns !== second.columns || first.rows !== second.rows) {
     const grids = `${first.columns} by ${first.rows} and ${second.columns} by ${second.rows} nodes`;
     return { comparable: false, reason: `Nothing can be said: the grids differ (${grids}).`, ...none };
   }
-  const named = old.kind === 'plan' && changed.kind === 'plan';
+  const named = old.named && changed.named;
   const circuits = matched(circuitsOf(old), circuitsOf(changed), (circuit) => (named ? circuit.name : circuit.record.join(' ')));
   const modesOf = (document, parts) => parts.schedules.map(({ number }) => ({ number, name: document.modeNames[number] }));
   const modes = matched(modesOf(old, first), modesOf(changed, second), (mode) => (named ? mode.name : mode.number));
   return {
     comparable: true,
     reason: null,
-    circuits: circuits.pairs.map(([one, other]) => comparedCircuit(one, other, modes.pairs)),
+    starts: startsText(old, changed, named, labels),
+    circuits: circuits.pairs.map(([one, other]) => comparedCircuit(one, other, modes.pairs, labels)),
     circuitsInOldAlone: circuits.firstAlone,
     circuitsInNewAlone: circuits.secondAlone,
     modesInOldAlone: modes.firstAlone,
@@ -148,7 +158,14 @@ export function compareDocuments(old, changed) {
   };
 }
 
-function comparedCircuit(one, other, modes) {
+// What is to be known where the two sheets begin in modes that are not the same line.
+function startsText(old, changed, named, [one, other]) {
+  const [first, second] = [old, changed].map((document) => cut(document.modeNames[0], MOST_NAME));
+  if (!named || first === second) return null;
+  return `The sheets begin in different modes: ${one} in ${first}, ${other} in ${second}; a run begins in the first mode of its sheet.`;
+}
+
+function comparedCircuit(one, other, modes, labels) {
   const changed = changedRecord(one.record, other.record);
   return {
     name: one.name,
@@ -160,7 +177,7 @@ function comparedCircuit(one, other, modes) {
       newName: second.name,
       old: first.number,
       new: second.number,
-      ...compared(one.modes[first.number], other.modes[second.number], ['the old sheet', 'the new sheet'], changed),
+      ...compared(one.modes[first.number], other.modes[second.number], labels, changed),
     })),
   };
 }

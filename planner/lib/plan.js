@@ -22,6 +22,9 @@ const KEYWORD = 'a keyword: network, circuit, mode, slot, memory or at (a commen
 const NETWORK = 'a network row: network, columns, rows, memory words a node';
 const NUMBER = `a whole number from 0 to ${LARGEST_WORD}`;
 
+// Characters that show nothing or turn the order of others round: two names could look alike.
+const UNSEEN = /[\p{Cf}\p{Cc}\p{Co}\p{Zl}\p{Zp}\u115f\u1160\u3164\uffa0]/u;
+
 // A name as it is compared: blanks at its ends and runs of blanks count for nothing.
 export function nameOf(text) {
   return text.normalize('NFC').trim().replace(/\s+/g, ' ');
@@ -35,10 +38,10 @@ export function numberOf(text) {
   return plain.length <= 10 && Number(plain) <= LARGEST_WORD ? Number(plain) : null;
 }
 
-// The row's cells up to a comment.
-function cellsOf(row) {
+// Where a comment begins in a row; the row's length where none does.
+function commentAt(row) {
   const comment = row.findIndex((cell) => cell.trimStart().startsWith('#'));
-  return comment < 0 ? row : row.slice(0, comment);
+  return comment < 0 ? row.length : comment;
 }
 
 // The names of circuits or of modes: the index of each, the one that differs in capitals alone, and some of them in a text.
@@ -53,10 +56,22 @@ function lookUp(what, list) {
 }
 
 // A reader of one row, which puts what it cannot read on the list of problems. Names are those that the rows before have given.
-function rowReader(cells, row, problems, names = {}) {
+function rowReader(whole, row, problems, names = {}) {
+  const comment = commentAt(whole);
+  const cells = whole.slice(0, comment);
+  let told = false;
   const text = (column) => (cells[column] ?? '').trim();
-  const problem = (column, wanted) => {
-    if (problems.length < MOST_PROBLEMS) problems.push({ row, column, found: cells[column] ?? '', wanted });
+  // `depends` tells a problem that another row may be the cause of.
+  const problem = (column, wanted, depends = false) => {
+    // What a comment hides is told once, where the comment begins.
+    const hidden = column >= comment && comment < whole.length;
+    const place = hidden ? comment : column;
+    const found = whole[place] ?? '';
+    if (problems.length < MOST_PROBLEMS && !(hidden && told)) {
+      const said = hidden ? `${wanted}; here # makes a comment of the rest of the row` : wanted;
+      problems.push({ row, column: place, found, wanted: said, depends });
+    }
+    told ||= hidden;
     return null;
   };
   const number = (column, what) => {
@@ -66,6 +81,7 @@ function rowReader(cells, row, problems, names = {}) {
   };
   const name = (column, what) => {
     const value = nameOf(text(column));
+    if (UNSEEN.test(value)) return problem(column, `${what} without characters that cannot be seen`);
     return value !== '' && value.length <= MOST_NAME ? value : problem(column, `${what}, of 1 to ${MOST_NAME} characters`);
   };
   // The index of the circuit or mode of a name; a name that differs in capitals is offered.
@@ -74,7 +90,7 @@ function rowReader(cells, row, problems, names = {}) {
     const { index, near, text: known } = names[what];
     if (index.has(value)) return index.get(value);
     const offered = near.get(value.toLowerCase());
-    return problem(column, `the name of a ${what}; ${offered ? `did you mean ${offered}?` : known}`);
+    return problem(column, `the name of a ${what}; ${offered ? `did you mean ${offered}?` : known}`, true);
   };
   const end = (column, keyword) => {
     for (let at = column; at < cells.length; at++) {
@@ -166,16 +182,16 @@ export function readPlan(rows) {
   const plan = { network: null, circuits: [], modes: [], slots: [], memory: [], acts: [], problems: [] };
   const later = [];
   rows.forEach((cells, row) => {
-    const kept = cellsOf(cells);
+    const kept = cells.slice(0, commentAt(cells));
     const keyword = (kept[0] ?? '').trim().toLowerCase();
-    const reader = rowReader(kept, row, plan.problems);
+    const reader = rowReader(cells, row, plan.problems);
     if (Object.hasOwn(readers, keyword)) readers[keyword](reader, row, plan);
-    else if (Object.hasOwn(laterReaders, keyword)) later.push([keyword, row, kept]);
+    else if (Object.hasOwn(laterReaders, keyword)) later.push([keyword, row, cells, kept]);
     else if (kept.some((cell) => cell.trim() !== '')) reader.problem(0, KEYWORD);
   });
   const names = { circuit: lookUp('circuit', plan.circuits), mode: lookUp('mode', plan.modes) };
-  for (const [keyword, row, kept] of later) laterReaders[keyword](rowReader(kept, row, plan.problems, names), row, plan, kept);
-  if (!plan.network) plan.problems.push({ row: 0, column: 0, found: rows[0]?.[0] ?? '', wanted: NETWORK });
+  for (const [keyword, row, cells, kept] of later) laterReaders[keyword](rowReader(cells, row, plan.problems, names), row, plan, kept);
+  if (!plan.network) plan.problems.push({ row: 0, column: 0, found: rows[0]?.[0] ?? '', wanted: NETWORK, depends: true });
   plan.problems.sort((a, b) => a.row - b.row || a.column - b.column);
   return plan;
 }

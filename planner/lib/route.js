@@ -23,6 +23,7 @@ export function distance(columns, rows, from, to) {
 // The route of letters as ES, closed by the code that leads out to the memory. Null where the text is no such letters, or turns straight
 // back: at a router the code of that side leads out.
 export function routeOfLetters(text) {
+  if (!/^[NESWnesw]+$/.test(text)) return null;
   const letters = text.toUpperCase();
   if (!/^[NESW]+$/.test(letters) || letters.length > MOST_LETTERS) return null;
   const codes = [...letters].map((letter) => LETTERS.indexOf(letter));

@@ -94,6 +94,16 @@ export function callLine(document, refused, calls = null) {
   return begin === '' ? capital(asked) : begin + asked;
 }
 
+// The cells of a refused call's row that its sentence names, or the cell that says what is asked.
+export function callMarks(document, refused, calls = null) {
+  const { row, column } = refused;
+  if (row === null || row === undefined) return [];
+  const text = callLine(document, refused, calls);
+  const columns = Array.from({ length: Math.max(START.kind, column) + 1 }, (_, at) => at);
+  const named = columns.filter((at) => text.includes(`(${cellName(row, at)})`));
+  return (named.length > 0 ? named : [column]).map((at) => ({ row, column: at, text }));
+}
+
 const lowered = (text) => text[0].toLowerCase() + text.slice(1);
 const cellText = (row, column) => (row === null || row === undefined ? '' : ` (${cellName(row, column)})`);
 const isMemoryRow = (refused) => refused.column >= 3;

@@ -44,6 +44,17 @@ function fillForTraffic(contents, parts) {
   }
 }
 
+// Puts what memory rows store into the memory that is lent to the load, which leaves it as it is: a call for each word would test the whole
+// sheet each time. A place that does not exist is left to the call, which refuses it.
+function lentStores(contents, parts, stores) {
+  const nodes = parts.columns * parts.rows;
+  return stores.filter(({ arguments: [node, address, word] }) => {
+    if (node >= nodes || address >= parts.memory) return true;
+    contents[node * parts.memory + address] = word;
+    return false;
+  });
+}
+
 // Starts every circuit that has no words left. The register is looked at first, since each call tests the whole state.
 function startIdle(calls, parts) {
   for (const { number, words } of parts.circuits) {
@@ -67,6 +78,7 @@ export function openRun(calls, words, { stores = [], acts = [], sending = false 
   run.nodes = parts.columns * parts.rows;
   const contents = new Uint32Array(run.nodes * parts.memory);
   if (sending) fillForTraffic(contents, parts);
+  const elsewhere = lentStores(contents, parts, stores);
   const loaded = calls.load(words, contents);
   if (loaded !== 0) return refuse(loaded, { what: 'load', row: null, column: null });
   const carriedOut = (call) => {
@@ -74,7 +86,7 @@ export function openRun(calls, words, { stores = [], acts = [], sending = false 
     if (number !== 0) refuse(number, call);
     return number === 0;
   };
-  if (!stores.every(carriedOut)) return run;
+  if (!elsewhere.every(carriedOut)) return run;
   let next = 0;
 
   // Carries out the acts of the present cycle and the cycle; null where one is refused.

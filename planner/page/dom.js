@@ -31,9 +31,10 @@ export function download(name, text, type) {
   setTimeout(() => URL.revokeObjectURL(url), 10000);
 }
 
-// The choices of a select; the chosen one is kept where it is still there.
-export function choices(id, options, chosen = byId(id).value) {
+// The choices of a select. What was chosen last is chosen again as soon as it is there.
+export function choices(id, options) {
   const select = byId(id);
+  const chosen = select.dataset.chosen ?? '';
   select.replaceChildren(
     ...options.map(({ value, text }) => {
       const option = document.createElement('option');
@@ -42,5 +43,11 @@ export function choices(id, options, chosen = byId(id).value) {
       return option;
     }),
   );
-  if (options.some((option) => String(option.value) === String(chosen))) select.value = chosen;
+  if (options.some((option) => String(option.value) === chosen)) select.value = chosen;
+}
+
+// Chooses for the reader, and forgets what was chosen before.
+export function chooseIn(id, value) {
+  byId(id).dataset.chosen = value;
+  byId(id).value = value;
 }

@@ -2,16 +2,18 @@
 import { cellName } from '../lib/cells.js';
 import { element } from '../lib/markup.js';
 import { COLUMNS } from '../lib/plan.js';
+import { placeName } from '../lib/words.js';
 import { byId, fill } from './dom.js';
 
 // Tells the cell at a place: its name, what stands in such cells, and its mark.
-export function showCellHelp(rows, row, column, marks) {
+export function showCellHelp({ kind, rows }, row, column, marks) {
   const cells = rows[row] ?? [];
   const keyword = (cells[0] ?? '').trim().toLowerCase();
   const names = COLUMNS[keyword === 'at' ? (cells[2] ?? '').trim().toLowerCase() : keyword];
   const name = column === 0 ? 'keyword' : (names?.[column - 1] ?? (keyword === 'memory' ? 'a word' : ''));
+  const place = kind === 'words' ? placeName({ row, column }) : `${cellName(row, column)}${name ? `: ${name}` : ''}`;
   const mark = marks.find((one) => one.row === row && one.column === column);
-  byId('cell-help').textContent = `${cellName(row, column)}${name ? `: ${name}` : ''}${mark ? `. ${mark.text}` : ''}`;
+  byId('cell-help').textContent = `${place}${mark ? `. ${mark.text}` : ''}`;
 }
 
 export function showRowHelp() {

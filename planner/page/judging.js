@@ -5,7 +5,8 @@ import { explain } from '../lib/explain.js';
 // The document of the open plan's rows. Lines of a file of words are rows of one word a cell.
 export function documentOf(plan, rows = plan.rows) {
   if (plan.kind === 'words') return documentOfWords(plan.name, rows.map((row) => row.join(' ')).join('\n'));
-  return documentOfRows(plan.name, rows, plan.exam, plan.separator);
+  // Names that stand for the numbers of a file of words are no names.
+  return { ...documentOfRows(plan.name, rows, plan.exam, plan.separator), named: !plan.fromWords };
 }
 
 // The rows of a file of words that does not divide into circuits and modes: a line a row, a word a cell, a comment in the last one.

@@ -1,9 +1,9 @@
-// The landing list: a run of the chosen traffic, some milliseconds at a time so that the page goes on answering.
+// The landing list: a run of the file's rows, as the command run lists it, some milliseconds at a time so that the page goes on answering.
 import { element } from '../lib/markup.js';
 import { KIND_NAMES, MOST_CYCLES, circuitOfLanding } from '../lib/listing.js';
+import { callsOfPlan, openRun } from '../lib/run.js';
 import { partsOf } from '../lib/sheet.js';
 import { byId, fill } from './dom.js';
-import { openTraffic } from './network_view.js';
 
 const MOST_LINES = 2000;
 const head = ['cycle', 'node', 'address', 'word', 'kind', 'circuit'];
@@ -16,7 +16,7 @@ export function usualCycles(opened) {
   return Math.min(MOST_CYCLES, last + 4 * longest);
 }
 
-// Lists the landings of a run; a later list puts an end to an earlier one. `done` is told of a refused call.
+// Lists what the rows of a file make land; a later list puts an end to an earlier one. `refused` is told of a refused call.
 export function makeLister(calls, refusedText) {
   let turn = 0;
   return {
@@ -30,7 +30,7 @@ export function makeLister(calls, refusedText) {
       const mine = ++turn;
       const cycles = Math.min(MOST_CYCLES, Math.max(0, Math.floor(Number(byId('cycles').value) || 0)));
       byId('cycles').value = cycles;
-      const { run, shown } = openTraffic(calls, opened);
+      const run = openRun(calls, opened.words, callsOfPlan(opened));
       const lines = [];
       const progress = byId('list-progress');
       const go = () => {
@@ -45,17 +45,18 @@ export function makeLister(calls, refusedText) {
         progress.value = run.cycle;
         if (!progress.hidden) return setTimeout(go, 0);
         if (run.refused) refused(run.refused);
-        showLines(shown, lines, run, refusedText);
+        showLines(opened, lines, run, run.refused && refusedText(run.refused, calls));
       };
       go();
     },
   };
 }
 
-function showLines(shown, lines, run, refusedText) {
+function showLines(shown, lines, run, why) {
   const count = lines.length === 1 ? 'One word lands' : `${lines.length} words land`;
   const cut = lines.length > MOST_LINES ? ` The first ${MOST_LINES} are shown.` : '';
-  byId('landings-note').textContent = run.refused ? refusedText(run.refused) : `${count} in ${run.cycle} cycles.${cut}`;
+  const none = shown.plan?.acts.length > 0 ? '' : " The file has no 'at' rows, so nothing is started.";
+  byId('landings-note').textContent = why ?? `${count} in ${run.cycle} cycles.${cut}${none}`;
   const parts = partsOf(shown.words);
   const rows = lines.slice(0, MOST_LINES).map((line) => {
     const circuit = circuitOfLanding(parts, line);

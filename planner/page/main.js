@@ -1,26 +1,22 @@
-// The page: opens files, keeps the plan that is open, and shows everything that is said of it.
+// The page: keeps the plan that is open, and shows everything that is said of it.
 import { openCalls } from '../lib/calls.js';
-import { decodeText, readTable, writeTable } from '../lib/cells.js';
-import { certificate } from '../lib/certificate.js';
+import { MOST_ROWS } from '../lib/cells.js';
 import { problemLine, readFile } from '../lib/document.js';
-import { explain } from '../lib/explain.js';
 import { element, svgFile } from '../lib/markup.js';
-import { callLine } from '../lib/rules.js';
-import { sha256 } from '../lib/sha256.js';
-import { slotsPicture } from '../lib/slots_picture.js';
+import { callLine, callMarks } from '../lib/rules.js';
 import { partsOf } from '../lib/sheet.js';
-import { rowsOfWords } from '../lib/words.js';
-import { byId, choices, download, fill, nodeOf } from './dom.js';
+import { slotsPicture } from '../lib/slots_picture.js';
+import { byId, choices, chooseIn, download, fill, nodeOf } from './dom.js';
+import { certificateOf, encoded, planOfFile, savedName, savedText } from './filing.js';
 import { showCellHelp, showRowHelp } from './help_view.js';
-import { changed, openPlan, redone, undone, withCell, withRowBelow, withoutRow } from './history.js';
-import { documentOf, judge, rowsOfLines } from './judging.js';
+import { canRedo, canUndo, changed, isSaved, redone, undone, withCell, withRowBelow, withoutRow } from './history.js';
+import { documentOf, judge } from './judging.js';
 import { makeLister, usualCycles } from './landings_view.js';
-import { makePlayer, showTraffic } from './network_view.js';
+import { makePlayer } from './network_view.js';
 import { showComparison, showQuestion } from './question_view.js';
 import { PAGE_ROWS, makeTable } from './table.js';
 import { showVerdict } from './verdict_view.js';
 
-const encoded = (text) => new TextEncoder().encode(text);
 const dataOf = (id) => JSON.parse(byId(id).textContent);
 const about = dataOf('about-data');
 const examples = dataOf('examples');
@@ -33,51 +29,45 @@ let opened = null;
 let judged = null;
 let other = null;
 let waiting = null;
+let exam = false;
 
-const refusedText = (refused) => callLine(opened, refused);
+const refusedText = (refused, calls) => callLine(opened, refused, calls);
 const player = makePlayer(showing, refusedText);
 const lister = makeLister(listing, refusedText);
 const table = makeTable(byId('table'), {
   typed: (row, column, text) => say(withCell(plan.rows, row, column, text)),
   committed(row, column, text) {
     if ((plan.rows[row]?.[column] ?? '') !== text) plan = changed(plan, withCell(plan.rows, row, column, text));
-    showRows();
-    say();
+    showPlan();
   },
   pasted(row, column, lines) {
+    if (row + lines.length > MOST_ROWS) return note(`Nothing was pasted: a plan has at most ${MOST_ROWS} rows.`);
     let rows = plan.rows;
     lines.forEach((texts, down) => texts.forEach((text, right) => (rows = withCell(rows, row + down, column + right, text))));
-    change((before) => changed(before, rows));
+    return change((before) => changed(before, rows));
   },
-  cancelled() {
-    showRows();
-    say();
-  },
-  chosen: (row, column) => showCellHelp(plan.rows, row, column, judged.marks),
+  cancelled: () => showPlan(),
+  chosen: (row, column) => showCellHelp(plan, row, column, marksNow()),
+  paged: () => showPages(),
 });
 
-// Opens bytes as the plan. A file of words becomes rows of a plan where it divides, in its own order.
-function openBytes(name, bytes) {
-  const { text, wrong } = decodeText(bytes);
-  if (wrong) return openFailed(name, wrong);
-  const words = readFile(name, bytes);
-  if (words.kind === 'words') {
-    const rows = words.words && rowsOfWords(words.words);
-    return open(rows ? openPlan(name, rows, { exam: true, bytes }) : openPlan(name, rowsOfLines(text), { kind: 'words', bytes }));
-  }
-  const read = readTable(text);
-  if (read.problems.length > 0) return openFailed(name, words.problems.map((problem) => problemLine('', problem).slice(2)).join('; '));
-  return open(openPlan(name, read.rows, { separator: read.separator, exam: byId('exam').checked, bytes }));
+function note(text) {
+  byId('file-note').textContent = text;
 }
 
-function open(next) {
+// Opens bytes as the plan. What was open and is not saved can be brought back by undoing.
+function openBytes(name, bytes) {
+  if (table.editing()) table.commit();
+  const kept = plan && !isSaved(plan) ? plan : null;
+  const { plan: next, note: said, wrong } = planOfFile(name, bytes, exam, kept);
+  if (wrong) return openFailed(name, wrong);
   plan = next;
-  byId('exam').checked = plan.exam;
-  byId('exam').disabled = plan.kind === 'words';
+  for (const id of ['circuit', 'mode', 'traffic']) chooseIn(id, '');
   byId('cycles').value = 0;
-  table.show(plan.rows, 0);
-  showRows();
-  say();
+  note(kept ? `${kept.name} had changes that are not saved: Undo brings it back. ${said}` : said);
+  showPlan(0);
+  const [schedule] = judged.explanation?.schedules ?? [];
+  if (schedule && opened.modeNames[schedule.number]) chooseIn('mode', opened.modeNames[schedule.number]);
 }
 
 // A file that cannot be opened leaves what is open as it is.
@@ -89,14 +79,25 @@ function openFailed(name, wrong) {
   verdict.focus();
 }
 
-function showRows(first = table.firstRow()) {
+// Shows the rows of the plan, from a row on, and what is said of them.
+function showPlan(first = table.firstRow()) {
+  byId('exam').checked = plan.exam;
+  byId('exam').disabled = plan.kind === 'words' || plan.fromWords;
   table.show(plan.rows, Math.min(first, Math.floor(plan.rows.length / PAGE_ROWS) * PAGE_ROWS));
-  byId('undo').disabled = plan.past.length === 0;
-  byId('redo').disabled = plan.future.length === 0;
+  byId('undo').disabled = !canUndo(plan);
+  byId('redo').disabled = !canRedo(plan);
+  say();
+  showPages();
+}
+
+function showPages() {
   const from = table.firstRow();
   byId('pages').hidden = plan.rows.length < PAGE_ROWS;
   byId('shown-rows').textContent = `rows ${from + 1} to ${Math.min(plan.rows.length, from + PAGE_ROWS)} of ${plan.rows.length}`;
+  table.mark(marksNow());
 }
+
+const marksNow = () => [...judged.marks, ...(judged.calls ?? [])];
 
 // Judges rows and says so at once; what takes longer to draw follows when nothing is typed for a moment.
 function say(rows = plan.rows) {
@@ -104,6 +105,7 @@ function say(rows = plan.rows) {
   judged = judge(opened, checking.verdict);
   showVerdict(opened, judged);
   table.mark(judged.marks);
+  byId('certificate').replaceChildren();
   clearTimeout(waiting);
   document.documentElement.dataset.drawn = 'no';
   waiting = setTimeout(showRest, 120);
@@ -111,32 +113,33 @@ function say(rows = plan.rows) {
 
 function showRest() {
   const passes = judged.answer === 'passes';
-  const parts = opened.words && partsOf(opened.words);
-  choices('mode', opened.modeNames.map((name, mode) => ({ value: mode, text: name })));
-  if (parts && opened.modeNames.length > 0) showSlots();
+  if (opened.modeNames.length > 0) choices('mode', opened.modeNames.map((name) => ({ value: name, text: name })));
+  if (opened.words && partsOf(opened.words) && opened.modeNames.length > 0) showSlots();
   else fill('slots', element('p', {}, 'The slots are drawn when the plan can be read.'));
+  player.open(passes ? opened : null);
   if (passes) {
     showQuestion(opened);
-    showTraffic(opened);
-    player.open(opened);
     if (byId('cycles').value === '0') byId('cycles').value = usualCycles(opened);
     listNow();
   } else {
     fill('isolation', element('p', {}, 'This is answered when the sheet passes.'));
-    player.open(null);
     lister.clear('Words land when the sheet passes.');
   }
   if (other) compareNow();
   document.documentElement.dataset.drawn = 'yes';
 }
 
+const modeShown = () => Math.max(0, opened.modeNames.indexOf(byId('mode').value));
+
 function showSlots() {
-  fill('slots', slotsPicture(opened, Number(byId('mode').value), { prefix: 'slots' }));
+  fill('slots', slotsPicture(opened, modeShown(), { prefix: 'slots' }));
 }
 
 function listNow() {
   lister.list(opened, (refused) => {
-    if (refused.row !== null) table.mark([...judged.marks, { row: refused.row, column: refused.column, text: refusedText(refused) }]);
+    judged = { ...judged, calls: callMarks(opened, refused, listing) };
+    showVerdict(opened, judged);
+    table.mark(marksNow());
   });
 }
 
@@ -150,40 +153,14 @@ function compareNow() {
   } else showComparison(opened, other);
 }
 
-// Goes to a cell that a message names.
-function goTo(row, column) {
-  if (row < table.firstRow() || row >= table.firstRow() + PAGE_ROWS) {
-    showRows(Math.floor(row / PAGE_ROWS) * PAGE_ROWS);
-    table.mark(judged.marks);
-  }
-  table.choose(row, column);
-}
-
+// Changes the plan; the chosen cell stays where it is, with the focus where the table had it.
 function change(next) {
   if (table.editing()) table.commit();
   const { row, column } = table.selected();
+  const focused = byId('table').contains(document.activeElement);
   plan = next(plan);
-  showRows();
-  say();
-  table.choose(row, column, false);
-}
-
-function savedText() {
-  return plan.kind === 'words' ? plan.rows.map((row) => row.join(' ')).join('\n') + '\n' : writeTable(plan.rows, plan.separator);
-}
-
-const savedName = () => (plan.kind === 'words' ? plan.name : `${plan.name.replace(/\.[^.]*$/, '')}.csv`);
-
-// The certificate is of the file: as it was opened, or as it was or would be saved.
-function printCertificate() {
-  if (judged.answer === 'unreadable') return byId('verdict').focus();
-  const isFiled = plan.rows === plan.saved;
-  const bytes = isFiled ? plan.bytes : encoded(savedText());
-  const filed = readFile(isFiled ? plan.name : savedName(), bytes, plan.exam);
-  const explanation = explain(filed, checking.verdict);
-  const made = certificate(filed, { verdict: judged.number, about, fileHash: sha256(bytes), explanation });
-  byId('certificate').replaceChildren(nodeOf(made));
-  window.print();
+  showPlan();
+  table.choose(row, column, focused);
 }
 
 async function openFileList(files, then) {
@@ -193,14 +170,29 @@ async function openFileList(files, then) {
   else then(file.name, new Uint8Array(await file.arrayBuffer()));
 }
 
+function save() {
+  if (table.editing()) table.commit();
+  download(savedName(plan), savedText(plan), plan.kind === 'words' ? 'text/plain' : 'text/csv');
+  plan = { ...plan, name: savedName(plan), saved: plan.rows, bytes: encoded(savedText(plan)), fromWords: false };
+  showPlan();
+}
+
+// Goes to the cell of a button; before the click is whole, since taking what is being typed draws the buttons anew.
+function jump(event) {
+  const button = event.target.closest('button.jump');
+  if (!button) return;
+  event.preventDefault();
+  if (table.editing()) table.commit();
+  table.choose(Number(button.dataset.row), Number(button.dataset.column));
+}
+
 function wire(id, event, handler) {
   byId(id).addEventListener(event, handler);
 }
 
 choices('example', [{ value: '', text: 'choose' }, ...examples.map((example) => ({ value: example.name, text: example.name }))]);
 wire('file', 'change', (event) => openFileList(event.target.files, openBytes));
-wire('file', 'click', (event) => (event.target.value = ''));
-wire('compare-file', 'click', (event) => (event.target.value = ''));
+for (const id of ['file', 'compare-file']) wire(id, 'click', (event) => (event.target.value = ''));
 wire('compare-file', 'change', (event) =>
   openFileList(event.target.files, (name, bytes) => {
     other = readFile(name, bytes);
@@ -211,46 +203,48 @@ wire('example', 'change', (event) => {
   const example = examples.find((one) => one.name === event.target.value);
   if (example) openBytes(example.name, encoded(example.text));
 });
-wire('exam', 'change', (event) => change((before) => ({ ...before, exam: event.target.checked })));
+wire('exam', 'change', (event) => {
+  exam = event.target.checked;
+  change((before) => ({ ...before, exam }));
+});
 wire('undo', 'click', () => change(undone));
 wire('redo', 'click', () => change(redone));
 wire('insert', 'click', () => change((before) => changed(before, withRowBelow(before.rows, table.selected().row))));
 wire('delete', 'click', () => change((before) => changed(before, withoutRow(before.rows, table.selected().row))));
-wire('earlier', 'click', () => goTo(Math.max(0, table.firstRow() - PAGE_ROWS), 0));
-wire('later', 'click', () => goTo(Math.min(plan.rows.length - 1, table.firstRow() + PAGE_ROWS), 0));
+wire('earlier', 'click', () => table.choose(table.firstRow() - PAGE_ROWS, 0));
+wire('later', 'click', () => table.choose(table.firstRow() + PAGE_ROWS, 0));
+for (const id of ['circuit', 'mode', 'traffic']) wire(id, 'change', (event) => chooseIn(id, event.target.value));
 wire('mode', 'change', showSlots);
 wire('circuit', 'change', () => judged.answer === 'passes' && showQuestion(opened));
-wire('traffic', 'change', () => {
-  player.open(opened);
-  listNow();
-});
+wire('traffic', 'change', () => player.open(opened));
 wire('list', 'click', () => judged.answer === 'passes' && listNow());
-wire('print', 'click', printCertificate);
-wire('save', 'click', () => {
-  download(savedName(), savedText(), plan.kind === 'words' ? 'text/plain' : 'text/csv');
-  plan = { ...plan, name: savedName(), saved: plan.rows, bytes: encoded(savedText()) };
-  byId('file-name').textContent = plan.name;
-});
+wire('print', 'click', () => (judged.answer === 'unreadable' ? byId('verdict').focus() : window.print()));
+wire('save', 'click', save);
 wire('save-slots', 'click', () => {
-  const picture = slotsPicture(opened, Number(byId('mode').value), { prefix: 'saved', background: true });
+  const picture = slotsPicture(opened, modeShown(), { prefix: 'saved', background: true });
   download('slots.svg', svgFile(picture), 'image/svg+xml');
 });
-wire('explanation', 'click', (event) => {
-  const button = event.target.closest('button.jump');
-  if (button) goTo(Number(button.dataset.row), Number(button.dataset.column));
-});
+wire('explanation', 'pointerdown', jump);
+wire('explanation', 'click', (event) => event.detail === 0 && jump(event));
 for (const event of ['pointerover', 'focusin']) {
   wire('slots', event, ({ target }) => {
     const box = target.closest?.('g[role=img]');
     if (box) byId('slot-help').textContent = box.getAttribute('aria-label');
   });
 }
+// However it is printed, the paper is the certificate of what is open now.
+addEventListener('beforeprint', () => {
+  if (table.editing()) table.commit();
+  byId('certificate').replaceChildren(nodeOf(certificateOf(plan, about, checking.verdict)));
+});
 addEventListener('keydown', (event) => {
-  if (!(event.ctrlKey || event.metaKey) || table.editing()) return;
+  if (!(event.ctrlKey || event.metaKey)) return;
   const key = event.key.toLowerCase();
-  if (key === 'z' && !event.shiftKey) change(undone);
-  else if (key === 'y' || (key === 'z' && event.shiftKey)) change(redone);
-  else if (key === 's') byId('save').click();
+  // In a field of its own, a browser's undo is meant.
+  const own = table.editing() || event.target.closest?.('input, select, textarea');
+  if (key === 's') save();
+  else if (key === 'z' && !event.shiftKey && !own) change(undone);
+  else if ((key === 'y' || (key === 'z' && event.shiftKey)) && !own) change(redone);
   else return;
   event.preventDefault();
 });
@@ -264,7 +258,7 @@ addEventListener('drop', (event) => {
   document.body.classList.remove('dropping');
   openFileList(event.dataTransfer.files, openBytes);
 });
-addEventListener('beforeunload', (event) => plan.rows !== plan.saved && event.preventDefault());
+addEventListener('beforeunload', (event) => !isSaved(plan) && event.preventDefault());
 
 showRowHelp();
 byId('versions').textContent = `Version ${about.version}, built with ${about.kit}.`;

@@ -6,25 +6,27 @@ import { byId, choices, download, fill } from './dom.js';
 
 const MOST_FRAMES = 20000;
 
+const ROWS = '';
+
 // The traffic to choose from: the rows of the file, or one mode with every circuit sending.
-export function showTraffic(opened) {
-  const own = opened.plan?.acts.length > 0 ? [{ value: 'rows', text: "the file's own (its 'at' rows)" }] : [];
-  const modes = opened.modeNames.map((name, mode) => ({ value: String(mode), text: `every circuit sends, mode ${name}` }));
+function showTraffic(opened) {
+  const own = opened.plan?.acts.length > 0 ? [{ value: ROWS, text: "the file's own (its 'at' rows)" }] : [];
+  const modes = opened.modeNames.map((name) => ({ value: name, text: `every circuit sends, mode ${name}` }));
   choices('traffic', [...own, ...modes]);
 }
 
 // Opens a run of the chosen traffic on a session.
-export function openTraffic(calls, opened) {
+function openTraffic(calls, opened) {
   const chosen = byId('traffic').value;
-  if (chosen === 'rows') return { run: openRun(calls, opened.words, callsOfPlan(opened)), shown: opened };
-  const mode = Number(chosen);
+  if (chosen === ROWS) return { run: openRun(calls, opened.words, callsOfPlan(opened)), shown: opened };
+  const mode = opened.modeNames.indexOf(chosen);
   const words = sheetOfMode(opened.words, mode);
   const run = openRun(calls, words, { ...callsOfPlan(opened), acts: [], sending: true });
   return { run, shown: { ...opened, words, modeNames: [opened.modeNames[mode]] } };
 }
 
 export function makePlayer(calls, refusedText) {
-  const player = { run: null, shown: null, frames: [], at: -1, timer: null };
+  const player = { calls, run: null, shown: null, frames: [], at: -1, timer: null };
   byId('grid-step').addEventListener('click', () => pause(player) || step(player, refusedText));
   byId('grid-back').addEventListener('click', () => pause(player) || draw(player, Math.max(0, player.at - 1)));
   byId('grid-first').addEventListener('click', () => pause(player) || draw(player, 0));
@@ -45,6 +47,7 @@ export function makePlayer(calls, refusedText) {
       fill('grid');
       byId('grid-caption').textContent = opened ? '' : 'The network runs when the sheet passes.';
       if (!opened) return;
+      showTraffic(opened);
       Object.assign(player, openTraffic(calls, opened));
       step(player, refusedText);
     },
@@ -57,7 +60,7 @@ function step(player, refusedText) {
   const frame = player.run.step();
   if (!frame) {
     pause(player);
-    byId('grid-caption').textContent = refusedText(player.run.refused);
+    byId('grid-caption').textContent = refusedText(player.run.refused, player.calls);
     return null;
   }
   player.frames.push(frame);

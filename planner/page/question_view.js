@@ -1,5 +1,5 @@
 // The planner's question: what each circuit has in each mode, and whether one mode disturbs it against another.
-import { PREMISE, circuitsOf, compareDocuments, modePairs, slotsText } from '../lib/isolation.js';
+import { COMPARE_PREMISE, PREMISE, circuitsOf, compareDocuments, modePairs, slotsText } from '../lib/isolation.js';
 import { element } from '../lib/markup.js';
 import { byId, choices, fill } from './dom.js';
 
@@ -14,10 +14,10 @@ const answerCell = (answer) => element('td', {}, element('span', { class: `answe
 // Shows the circuit that is chosen; all of them where there are few.
 export function showQuestion(opened) {
   const circuits = circuitsOf(opened);
-  const each = circuits.map((circuit) => ({ value: circuit.number, text: circuit.name }));
-  choices('circuit', [{ value: 'all', text: 'all circuits' }, ...each]);
+  // By name: an edit may give a circuit another number.
+  choices('circuit', [{ value: '', text: 'all circuits' }, ...circuits.map(({ name }) => ({ value: name, text: name }))]);
   const chosen = byId('circuit').value;
-  const shown = chosen === 'all' ? circuits : circuits.filter((circuit) => String(circuit.number) === chosen);
+  const shown = chosen === '' ? circuits : circuits.filter((circuit) => circuit.name === chosen);
   if (circuits.length === 0) return fill('isolation', element('p', {}, 'The sheet has no circuits.'));
   const pairs = modePairs(opened).filter((pair) => shown.some((circuit) => circuit.number === pair.circuit));
   return fill(
@@ -60,7 +60,7 @@ function figureTable(opened, circuits) {
 
 // Shows the comparison of the open sheet with another one.
 export function showComparison(opened, other) {
-  const compared = compareDocuments(opened, other);
+  const compared = compareDocuments(opened, other, [opened.name, other.name]);
   if (!compared.comparable) return fill('comparison', element('p', {}, compared.reason));
   const rows = compared.circuits.flatMap((circuit) =>
     circuit.modes.map((mode) =>
@@ -77,15 +77,16 @@ export function showComparison(opened, other) {
     'comparison',
     element('p', {}, `${opened.name} against ${other.name}`),
     alone.map(([what, names]) => element('p', {}, `${what}: ${names.join(', ')}`)),
-    rows.length > 0 && scrolled('Comparison', ['Circuit', 'Mode', 'it is', 'because'], rows),
+    compared.starts && element('p', {}, compared.starts),
+    rows.length > 0 && scrolled('Comparison', ['Circuit', 'Mode', 'it is', 'because'], rows, null, rows.length),
     rows.length === 0 && element('p', {}, 'No circuit and mode is in both.'),
-    element('p', { class: 'quiet' }, PREMISE),
+    element('p', { class: 'quiet' }, COMPARE_PREMISE),
   );
 }
 
 // A table with a heading row, in a region that scrolls and can be reached by Tab.
-function scrolled(label, head, rows, id = null) {
-  const shown = rows.slice(0, MOST_LINES);
+function scrolled(label, head, rows, id = null, most = MOST_LINES) {
+  const shown = rows.slice(0, most);
   const cut = `The first ${shown.length} of ${rows.length} lines are shown: choose one circuit to see all of its own.`;
   const heading = element('thead', {}, element('tr', {}, head.map((text) => element('th', { scope: 'col' }, text))));
   const table = element('table', { id }, heading, element('tbody', {}, shown));

@@ -3,18 +3,19 @@ import { cellName } from '../lib/cells.js';
 import { byId } from './dom.js';
 
 export const PAGE_ROWS = 200;
-const MOST_COLUMNS = 40;
+const PAGE_COLUMNS = 40;
 const LEAST_COLUMNS = 8;
 
 // Makes the table in a node. `handlers`: typed(row, column, text) while a cell is edited, committed(row, column, text),
-// pasted(row, column, lines of texts), cancelled(), chosen(row, column).
+// pasted(row, column, lines of texts), cancelled(), chosen(row, column), paged() when other rows or columns are shown.
 export function makeTable(host, handlers) {
   const table = document.createElement('table');
   table.className = 'plan';
   table.setAttribute('role', 'grid');
   table.setAttribute('aria-label', 'The rows of the plan');
   host.append(table);
-  const own = { host, table, handlers, rows: [['']], first: 0, columns: LEAST_COLUMNS, at: { row: 0, column: 0 }, input: null };
+  const shown = { rows: [['']], first: 0, firstColumn: 0, columns: LEAST_COLUMNS, width: LEAST_COLUMNS };
+  const own = { host, table, handlers, ...shown, at: { row: 0, column: 0 }, input: null };
   // Before the click is whole, what is being typed in another cell is taken; that draws the rows anew.
   table.addEventListener('pointerdown', (event) => {
     const cell = event.target.closest('td[data-row]');
@@ -59,25 +60,31 @@ function paste(own, event) {
 const cellAt = (own, row, column) => byId(`cell-${cellName(row, column)}`);
 const textAt = (own) => own.rows[own.at.row]?.[own.at.column] ?? '';
 
-// Draws a page of rows, and one empty row behind the last to be written in.
-function show(own, rows, first = own.first) {
+// Draws a page of rows and columns. An empty row and an empty column behind the last are there to be written in.
+function show(own, rows, first = own.first, firstColumn = own.firstColumn) {
   own.rows = rows;
   own.first = first;
   own.input = null;
-  own.columns = Math.min(MOST_COLUMNS, Math.max(LEAST_COLUMNS, ...rows.slice(first, first + PAGE_ROWS).map((row) => row.length)));
+  own.width = rows.reduce((most, row) => Math.max(most, row.length + 1), LEAST_COLUMNS);
+  own.firstColumn = Math.min(firstColumn, Math.max(0, own.width - PAGE_COLUMNS));
+  own.columns = Math.min(own.width - own.firstColumn, PAGE_COLUMNS);
   const head = document.createElement('thead');
   const letters = head.insertRow();
   letters.append(headCell('', 'col'));
-  for (let column = 0; column < own.columns; column++) letters.append(headCell(cellName(0, column).slice(0, -1), 'col'));
+  for (const column of columnsOf(own)) letters.append(headCell(cellName(0, column).slice(0, -1), 'col'));
   const body = document.createElement('tbody');
   const last = Math.min(rows.length, first + PAGE_ROWS - 1);
   for (let row = first; row <= last; row++) body.append(rowOf(own, row));
   own.table.setAttribute('aria-rowcount', String(rows.length + 2));
-  own.table.setAttribute('aria-colcount', String(own.columns + 1));
+  own.table.setAttribute('aria-colcount', String(own.width + 1));
   own.table.replaceChildren(head, body);
-  own.at = { row: Math.min(Math.max(own.at.row, first), last), column: Math.min(own.at.column, own.columns - 1) };
+  const lastColumn = own.firstColumn + own.columns - 1;
+  own.at = { row: within(own.at.row, first, last), column: within(own.at.column, own.firstColumn, lastColumn) };
   cellAt(own, own.at.row, own.at.column).tabIndex = 0;
 }
+
+const within = (value, least, most) => Math.min(Math.max(value, least), most);
+const columnsOf = (own) => Array.from({ length: own.columns }, (_, at) => own.firstColumn + at);
 
 function headCell(text, scope) {
   const cell = document.createElement('th');
@@ -92,12 +99,13 @@ function rowOf(own, row) {
   line.append(headCell(String(row + 1), 'row'));
   const cells = own.rows[row] ?? [];
   const comment = cells.findIndex((text) => text.trimStart().startsWith('#'));
-  for (let column = 0; column < own.columns; column++) {
+  for (const column of columnsOf(own)) {
     const cell = document.createElement('td');
     cell.id = `cell-${cellName(row, column)}`;
     cell.setAttribute('role', 'gridcell');
     cell.dataset.row = row;
     cell.dataset.column = column;
+    cell.setAttribute('aria-colindex', String(column + 2));
     cell.tabIndex = -1;
     cell.textContent = cells[column] ?? '';
     // A comment of one cell may run on over the empty cells beside it.
@@ -105,7 +113,6 @@ function rowOf(own, row) {
     else if (column === 0) cell.className = 'keyword';
     line.append(cell);
   }
-  if (cells.length > own.columns) line.append(`${cells.length - own.columns} more cells`);
   return line;
 }
 
@@ -116,7 +123,7 @@ function mark(own, marks) {
     cell.removeAttribute('title');
   }
   for (const { row, column, text } of marks) {
-    const cell = cellAt(own, row, Math.min(column, own.columns - 1));
+    const cell = cellAt(own, row, column);
     if (!cell) continue;
     cell.setAttribute('aria-invalid', 'true');
     cell.title = text;
@@ -133,9 +140,17 @@ function moved(own, row, column) {
   own.handlers.chosen(row, column);
 }
 
-function choose(own, row, column, focus = true) {
-  const last = Math.min(own.rows.length, own.first + PAGE_ROWS - 1);
-  moved(own, Math.min(Math.max(row, own.first), last), Math.min(Math.max(column, 0), own.columns - 1));
+// Goes to a cell, and to the page of rows and columns that has it.
+function choose(own, wantedRow, wantedColumn, focus = true) {
+  const row = within(wantedRow, 0, own.rows.length);
+  const column = within(wantedColumn, 0, own.width - 1);
+  const first = Math.floor(row / PAGE_ROWS) * PAGE_ROWS;
+  const isShown = column >= own.firstColumn && column < own.firstColumn + own.columns;
+  if (first !== own.first || !isShown) {
+    show(own, own.rows, first, isShown ? own.firstColumn : Math.max(0, column - PAGE_COLUMNS / 2));
+    own.handlers.paged();
+  }
+  moved(own, row, column);
   const cell = cellAt(own, own.at.row, own.at.column);
   if (focus) cell.focus();
   cell.scrollIntoView({ block: 'nearest', inline: 'nearest' });
@@ -150,7 +165,10 @@ function walkingKey(own, event) {
   else if (event.key === 'Home') choose(own, row, 0);
   else if (event.key === 'End') choose(own, row, Math.max(0, (own.rows[row]?.length ?? 1) - 1));
   else if (event.key === 'Enter' || event.key === 'F2') edit(own, textAt(own));
-  else if (event.key === 'Delete' || event.key === 'Backspace') own.handlers.committed(row, column, '');
+  else if (event.key === 'Delete' || event.key === 'Backspace') {
+    own.handlers.committed(row, column, '');
+    choose(own, row, column);
+  }
   else if (event.key.length === 1) edit(own, event.key);
   else return;
   event.preventDefault();

@@ -18,7 +18,7 @@ export function showVerdict(opened, judged) {
   byId('file-name').textContent = opened.name;
   if (judged.answer === 'passes') {
     verdict.textContent = '\u2713 passes: the sheet keeps all rules';
-    return fill('explanation');
+    return showRefusedCall(judged.calls ?? []);
   }
   if (judged.answer === 'unreadable') {
     const count = opened.problems.length;
@@ -37,6 +37,14 @@ export function showVerdict(opened, judged) {
     help.length > 0 && element('ul', { class: 'reasons' }, help.map((item) => element('li', {}, helpLine(item, number)))),
   );
 }
+
+// Below a sheet that passes: a row of the file that is refused when it runs.
+function showRefusedCall(marks) {
+  const said = marks.length > 0 && element('p', {}, `The sheet passes, but not all rows can be carried out. ${marks[0].text}`);
+  fill('explanation', said, said && cellList(marks));
+}
+
+const cellList = (marks) => element('ul', { class: 'reasons' }, marks.map((mark) => lineOf(mark, cellName(mark.row, mark.column), '')));
 
 function problemList(opened) {
   const shown = opened.problems.slice(0, MOST_PROBLEMS);

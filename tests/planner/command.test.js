@@ -93,7 +93,12 @@ test('compare', () => {
     `circuit brake: in ${example('cable-car.csv')} alone`, `circuit crane: in ${changed} alone`,
   ]);
   const wide = written('wide.csv', 'network;3;2;8\nmode;m;9');
-  gives(['compare', example('cable-car.csv'), wide], 0, 'Nothing can be said: the grids differ (2 by 2 and 3 by 2 nodes).\n');
+  gives(['compare', example('cable-car.csv'), wide], 1, 'Nothing can be said: the grids differ (2 by 2 and 3 by 2 nodes).\n');
+  assert.equal(json(['compare', example('cable-car.csv'), wide], 1).answer, 'grids differ');
+  const swapped = text('cable-car.csv').replace('mode;normal;12\n', '').replace('mode;high wind;12\n', 'mode;high wind;12\nmode;normal;12\n');
+  const order = gives(['compare', example('cable-car.csv'), written('swapped.csv', swapped)], 0, /./).stdout;
+  assert.match(order.replace(/\n/g, ' '), /begin in different modes: the old sheet in normal, the new sheet in high wind/);
+  assert.match(order.replace(/\n/g, ' '), /every period has the two modes of one line in force, a line that says undisturbed/);
   const refused = json(['compare', example('cable-car-clash.csv'), example('cable-car-late.csv')], 1);
   assert.deepEqual(refused.sheets.map(({ number }) => number), [11, 10]);
 });
@@ -132,8 +137,12 @@ test('draw: a refused sheet, and what cannot be drawn', () => {
   gives(['draw', example('g.sheet'), '-o', 'no.svg'], 1, '', /nothing is drawn: its words do not divide/);
   assert.throws(() => readFileSync(path('no.svg')));
   const plan = written('plan.csv', text('key.csv'));
-  gives(['draw', plan, '-o', './plan.csv'], 2, '', /is the file that was read/);
+  gives(['draw', plan, '-o', './plan.csv'], 2, '', /is the file that is read/);
   assert.equal(readFileSync(plan, 'utf8'), text('key.csv'));
+  gives(['draw', written('bare.csv', 'network;2;2;16\n'), '-o', 'no.svg'], 1, '', /nothing is drawn: it has no mode/);
+  const many = 'network;2;2;16\n' + Array.from({ length: 20 }, (_, at) => `mode;m${at};9\n`).join('');
+  const first = gives(['draw', written('many.csv', many), '-o', '-'], 1, /^<\?xml/, /the first 8 of its 20 modes are drawn/).stdout;
+  assert.equal(first.match(/<svg /g).length, 9);
   gives(['draw', plan, '-o', 'no folder/x.svg'], 2, '', /cannot be written: there is no such folder/);
   gives(['draw', plan, '--mode', 'other', '-o', 'no.svg'], 2, '', /no mode other; its modes: only/);
 });

@@ -2,7 +2,7 @@
 import test from 'node:test';
 import assert from 'node:assert/strict';
 import { openProved } from '../../planner/command/proved.js';
-import { MOST_BYTES, MOST_ROWS, writeTable } from '../../planner/lib/cells.js';
+import { MOST_BYTES, MOST_ROWS, readTable, writeTable } from '../../planner/lib/cells.js';
 import { cut, placeOfWord, problemLine, readFile } from '../../planner/lib/document.js';
 import { MOST_PROBLEMS } from '../../planner/lib/plan.js';
 import { rowsOfWords } from '../../planner/lib/words.js';
@@ -160,7 +160,7 @@ test('hostile shapes of tables', () => {
 });
 
 test('names that would do harm elsewhere are names', () => {
-  for (const name of ['<script>alert(1)</script>', '__proto__', 'constructor', '=cmd|x', 'toString', '\ud800', '\u202eabc', '\u009b31m']) {
+  for (const name of ['<script>alert(1)</script>', '__proto__', 'constructor', '=cmd|x', 'toString', '\ud800']) {
     const rows = [
       ['network', '2', '2', '8'], ['circuit', name, '0', '1', '0', '4', '0', '4'], ['mode', name, '9'], ['slot', name, name, '0', '3', 'E'],
     ];
@@ -171,6 +171,9 @@ test('names that would do harm elsewhere are names', () => {
     read(writeTable([...rows, ['slot', 'x', name.toUpperCase() + 'y', '0', '3', 'E']]));
   }
   assert.equal(cut('a\u001b[2Jb\u202ec'), 'a [2Jb c');
+  for (const name of ['\u202eabc', '\u009b31m', 'spe\u200bed', 'speed\u00ad']) {
+    assert.deepEqual(wanted(`network;2;2;8\nmode;${name};9\n`), ['B2: a name for the mode without characters that cannot be seen']);
+  }
 });
 
 test('a file of the largest sheet, whole and broken', () => {
@@ -197,4 +200,22 @@ test('plans with characters changed, cut and doubled are read or told, never thr
     const document = read(text, random.choose(['a.csv', 'a.csv', 'a.sheet']));
     if (document.words) document.words.forEach((word) => assert.ok(Number.isInteger(word) && word >= 0 && word <= 4294967295));
   }
+});
+
+test('what a comment hides, and quotes in comments', () => {
+  const head = 'network;2;2;8\n';
+  assert.deepEqual(wanted(`${head}circuit;#1;0;1;0;4;0;4\n`), [
+    'B2: a name for the circuit, of 1 to 60 characters; here # makes a comment of the rest of the row',
+  ]);
+  assert.match(problemLine('a.csv', read(`${head}circuit;#1;0;1;0;4;0;4\n`).problems[0]), /^a\.csv, B2: "#1" stands here/);
+  // A quote in a comment swallows no row; one that closes in its line is a quote.
+  const quotes = read(`${head}# see; "note\nmode;m;9\n# a;"b;c"\n`);
+  assert.deepEqual([quotes.modeNames, quotes.rows[1], quotes.rows[3]], [['m'], ['# see', ' "note'], ['# a', 'b;c']]);
+  for (const rows of [[['# x', 'a;b']], [['# "x', 'y']], [['# x', '=1', '"']], [['#']], [['# a\nb', 'c']]]) {
+    assert.deepEqual(readTable(writeTable(rows)).rows, rows);
+  }
+  assert.deepEqual(wanted(`${head}mode;m;x\nmode;"n;9\nmode;k;y\n`), [
+    'B3: a closing quote: none follows up to the end of the file', 'C2: period: a whole number from 0 to 4294967295',
+  ]);
+  assert.deepEqual(wanted(`${head}mode;m;9\ncircuit;c;0;1;0;4;0;4\nslot;m;c;0;2;\u00df\n`).length, 1);
 });

@@ -33,21 +33,70 @@ test('each mark, as it is printed', () => {
   assert.deepEqual(linesOf(result), [
     'right    passes',
     'right    7 1 0 11 0',
-    'wrong    8 1 1 23 0   (the key has 8 1 1 22 0)',
+    'wrong    8 1 1 23 0   (the paper has 2 different answers; the key has 8 1 1 22 0)',
     'missing  16 1 2 33 0',
     'surplus  9 1 0 1 0',
     'surplus  I guess   (a line that cannot be read)',
-    'surplus  8 1 1 24 0   (a second line for this cycle and node)',
+    'surplus  8 1 1 24 0   (a further line for this cycle and node)',
   ]);
   assert.equal(countsLine('paper.txt', result), 'paper.txt: 2 right, 1 wrong, 1 missing, 3 surplus of 4');
 });
 
-test('of two lines for one cycle and node the right one counts, whichever comes first', () => {
-  for (const both of ['7 1 0 11 0\n7 1 0 12 0', '7 1 0 12 0\n7 1 0 11 0']) {
-    const result = markPaper([key], paper.replace('7 1 0 11 0', both), true);
-    assert.deepEqual(counts(result), [4, 0, 0, 1, 4]);
-    assert.equal(linesOf(result)[4], 'surplus  7 1 0 12 0   (a second line for this cycle and node)');
+test('different answers to one line are wrong, whichever comes first; a repeated one is right', () => {
+  for (const [first, second] of [['7 1 0 11 0', '7 1 0 12 0'], ['7 1 0 12 0', '7 1 0 11 0']]) {
+    const result = markPaper([key], paper.replace('7 1 0 11 0', `${first}\n${second}`), true);
+    assert.deepEqual(counts(result), [3, 1, 0, 1, 4]);
+    assert.equal(linesOf(result)[1], `wrong    ${first}   (the paper has 2 different answers; the key has 7 1 0 11 0)`);
+    assert.equal(linesOf(result)[4], `surplus  ${second}   (a further line for this cycle and node)`);
   }
+  assert.deepEqual(counts(markPaper([key], paper.replace('7 1 0 11 0', '7 1 0 11 0\n07 1 0 011 0'), true)), [4, 0, 0, 1, 4]);
+  assert.deepEqual(linesOf(markPaper([keyNamed('key.csv')], 'passes\nPasses.')), ['right    passes', 'surplus  Passes.   (a further verdict)']);
+});
+
+test('a paper that gives every verdict has given none', () => {
+  const verdicts = ['passes', ...Array.from({ length: 11 }, (_, at) => `refused ${at + 1}`)];
+  for (const name of ['key.csv', 'cable-car-late.csv']) {
+    for (const cycles of [null, 20]) {
+      const one = { ...keyNamed(name, cycles), landings: null };
+      const result = markPaper([one], verdicts.join('\n'), cycles !== null);
+      assert.deepEqual(counts(result), [0, 1, 0, 11, 1]);
+      const right = name === 'key.csv' ? 'passes' : 'refused 10';
+      assert.equal(linesOf(result)[0], `wrong    passes   (the paper has 12 different answers; the key has ${right})`);
+      assert.deepEqual(counts(markPaper([one], verdicts.map((verdict) => `${name}: ${verdict}`).join('\n'), cycles !== null)), [0, 1, 0, 11, 1]);
+    }
+  }
+});
+
+test('a key of one sheet takes one name of the candidate, and never two', () => {
+  const late = keyNamed('cable-car-late.csv');
+  assert.deepEqual(counts(markPaper([late], 'c.csv: refused 10')), [1, 0, 0, 0, 1]);
+  assert.deepEqual(counts(markPaper([late], 'mine:\nrefused 10\nMINE: refused 10')), [1, 0, 0, 1, 1]);
+  assert.deepEqual(linesOf(markPaper([late], 'b.csv: passes\nc.csv: refused 10')), [
+    'missing  refused 10',
+    'surplus  b.csv: passes   (the key has no sheet of this name)',
+    'surplus  c.csv: refused 10   (the key has no sheet of this name)',
+  ]);
+  assert.deepEqual(counts(markPaper([late], 'b.csv:\nrefused 10\nc.csv:\nrefused 10')), [0, 0, 1, 4, 1]);
+  assert.deepEqual(counts(markPaper([late], 'refused 10\nb.csv: passes\nc.csv: refused 11')), [1, 0, 0, 2, 1]);
+  assert.deepEqual(counts(markPaper([late], 'b.csv: passes\ncable-car-late.csv: refused 10')), [1, 0, 0, 1, 1]);
+});
+
+test('names with # in them, and names that differ in capitals alone', () => {
+  const named = (...names) => names.map((name) => ({ ...keyNamed('key.csv'), name }));
+  for (const name of ['sheet#1.csv', 'sheet #1.csv', '#1.csv', '# 1.csv']) {
+    const keys = named(name, 'other.csv');
+    for (const line of [`${name}: passes`, `exams/${name}: passes`, `${name}:\npasses`]) {
+      assert.deepEqual(counts(markPaper(keys, line)), [1, 0, 1, 0, 2], line);
+    }
+  }
+  assert.deepEqual(counts(markPaper(named('a.csv', 'b.csv'), '# a.csv: passes\n# see exams/b.csv: passes')), [0, 0, 2, 0, 2]);
+  assert.deepEqual(counts(markPaper([key], paper.replace('7 1 0 11 0', '7 1 0 11 0  # sheet#1, data'), true)), [4, 0, 0, 0, 4]);
+  assert.deepEqual(counts(markPaper([key], paper.replace('7 1 0 11 0', '7 1 0 11 0#1'), true)), [3, 0, 1, 1, 4]);
+  const twins = [{ ...keyNamed('key.csv'), name: 'A.csv' }, { ...keyNamed('cable-car-late.csv'), name: 'a.csv' }];
+  assert.deepEqual(counts(markPaper(twins, 'A.csv: passes\na.csv: refused 10')), [2, 0, 0, 0, 2]);
+  assert.deepEqual(counts(markPaper(twins, 'A: passes\na: refused 10')), [2, 0, 0, 0, 2]);
+  assert.deepEqual(counts(markPaper(twins, 'A.CSV: passes')), [0, 0, 2, 1, 2]);
+  assert.deepEqual(counts(markPaper(named('Plan.csv', 'b.csv'), 'PLAN.CSV: passes')), [1, 0, 1, 0, 2]);
 });
 
 test('a paper that names the sheet of the key has other sheets beside it', () => {
@@ -94,6 +143,10 @@ test('a key whose start is refused: the verdict and the line of the refusal', ()
   assert.deepEqual(counts(markPaper([busy], 'passes\nrefused 17', true)), [2, 0, 0, 0, 2]);
   assert.deepEqual(linesOf(markPaper([busy], 'refused 16', true)), ['missing  passes', 'wrong    refused 16   (the key has refused 17)']);
   assert.deepEqual(counts(markPaper([busy], paper, true)), [1, 0, 1, 3, 2]);
+  assert.deepEqual(counts(markPaper([busy], 'passes\nrefused 16\nrefused 17', true)), [1, 1, 0, 1, 2]);
+  // The other way round: a refused call where the key has none says nothing of the verdict.
+  const other = markPaper([{ ...key, landings: [] }], 'passes\nrefused 17', true);
+  assert.deepEqual(linesOf(other), ['right    passes', 'surplus  refused 17   (the key has no refused call)']);
 });
 
 test('a key of several sheets', () => {
@@ -149,12 +202,29 @@ test('papers changed at random get the counts of their changes, whatever the ord
   }
 });
 
-test('hostile papers are marked in time, and long or strange lines are cut', () => {
-  const long = ['#' + ' '.repeat(2000000), ':'.repeat(2000000), '1 '.repeat(500000)];
-  for (const text of ['x:\n'.repeat(50000), '7 1 0 11 0\n'.repeat(50000), ...long]) {
+test('4 MB of any lines are marked in 2 seconds', () => {
+  const size = 4 * 1024 * 1024;
+  const filled = (line) => line.repeat(Math.floor(size / Buffer.byteLength(line)));
+  const marks = 'a' + '\u0345'.repeat(120) + '\u0334'.repeat(120);
+  const lines = ['\n', 'x\n', 'x:\n', '#\n', '# key\n', 'passes\n', 'x:passes\n', '7 1 0 11 0\n', '7\t1\t0\t11\t0\r\n', `${marks}:passes\n`];
+  const long = ['# ', ':', '1 ', ' #', '/', '.', 'a\t', '0'].map(filled);
+  const counted = (line) => Array.from({ length: 200000 }, (_, at) => line(at)).join('\n');
+  const many = [counted((at) => `${at} 1 0 11 0`), counted((at) => `${at}.csv: passes`), counted((at) => `${at.toString(36)}:`)];
+  const marked = ['\u0345'.repeat(size / 4) + '\u0334'.repeat(size / 4) + ':', ...lines.map(filled), ...long, ...many];
+  for (const text of marked) {
     const time = leastMilliseconds(() => assert.equal(markPaper([key], text, true).total, 4), 2000);
-    assert.ok(time < 2000, `it took ${time} ms`);
+    assert.ok(time < 2000, `it took ${time} ms: ${JSON.stringify(text.slice(0, 20))}`);
   }
+  const keys = Array.from({ length: 1000 }, (_, at) => ({ ...key, name: `${at}.csv` }));
+  const time = leastMilliseconds(() => assert.equal(markPaper(keys, many[1], true).right, 1000), 2000);
+  assert.ok(time < 2000, `it took ${time} ms: a key of 1,000 sheets`);
+});
+
+test('of surplus lines the first 1,000 are listed and all are counted; long or strange lines are cut', () => {
+  const result = markPaper([key], 'passes\n' + 'x\n7 1 0 11 0\n'.repeat(5000), true);
+  assert.deepEqual(counts(result), [2, 0, 2, 9999, 4]);
+  assert.deepEqual([result.lines.length, result.unlisted], [1004, 8999]);
+  assert.deepEqual(result.lines.slice(4).map(({ at }) => at), [2, ...Array.from({ length: 999 }, (_, at) => at + 4)]);
   const [line] = linesOf(markPaper([key], '\u001b[31mred\u009b2J' + 'y'.repeat(1000), true)).slice(-1);
   assert.ok(line.length < 150 && !/[\u0000-\u001f\u007f-\u009f]/.test(line), line);
 });

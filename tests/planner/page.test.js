@@ -120,7 +120,7 @@ test('slots on wires: a box for each slot and wire, told when it has the focus',
   assert.ok(!names.some((name) => name.includes('brake')));
   await browser.script("document.querySelector('#slots g[role=img]').focus()");
   assert.equal(await textOf('#slot-help'), names[0]);
-  await browser.script("const mode = document.getElementById('mode'); mode.value = '2'; mode.dispatchEvent(new Event('change'))");
+  await browser.script("const mode = document.getElementById('mode'); mode.value = 'evacuation'; mode.dispatchEvent(new Event('change'))");
   const later = await browser.script(labels);
   assert.ok(later.some((name) => name.includes('brake')) && !later.some((name) => name.includes('cabin')));
 });
@@ -155,7 +155,10 @@ test('the landing list is the key of document 01', async () => {
 test('a refused call of the rows is marked in its cell', async () => {
   await upload(written('start.csv', readFileSync(example('key.csv'), 'utf8').replace(';0;0;3;data', ';0;2;3;data')));
   await browser.until("return document.getElementById('landings-note').textContent.includes('16')");
-  assert.ok(await isMarked('C7'));
+  assert.ok((await isMarked('F7')) && !(await isMarked('C7')));
+  assert.match(await textOf('#explanation'), /passes, but not all rows.*Row 7.*number 16/s);
+  await browser.click(await browser.find('#cell-F7'));
+  assert.match(await textOf('#cell-help'), /^F7: write\. Row 7:/);
 });
 
 test('two sheets are compared', async () => {
