@@ -2,7 +2,8 @@
 import { realpathSync, statSync } from 'node:fs';
 import { cut } from '../lib/document.js';
 
-const MOST_SHOWN = 255;
+// A name of 255 characters and the stroke before it.
+const MOST_SHOWN = 256;
 
 export const SHEET_FILE = /\.(csv|tsv|sheet|words)$/i;
 

@@ -22,7 +22,7 @@ export function keyOf(calls, document, name, cycles = null, told = () => {}) {
 const landingText = (landing) => landingLine(landing.cycle, landing);
 
 // Marks one right line of the key by the paper's answers to it. It is right where all answers are the key's, and wrong where one differs:
-// a paper that gives every answer has given none. All answers but the first are surplus, save for so many repeats of a right one as are free.
+// a paper that gives every answer has given none. All answers but the first are surplus; so many repeats of a right one are free.
 function markOne(key, wanted, answers, textOf, note, free = 0) {
   if (answers.length === 0) return [{ mark: 'missing', sheet: key.name, text: wanted, key: wanted, at: null, note: null }];
   const [first, ...others] = answers;
