@@ -1,7 +1,7 @@
 // What the pictures share: the picture itself, texts, lines, a legend. Attributes alone, so that a page's policy and a file both show them.
 import { element } from './markup.js';
 
-export const FONT = 'system-ui, Segoe UI, Helvetica, Arial, sans-serif';
+const FONT = 'system-ui, Segoe UI, Helvetica, Arial, sans-serif';
 export const INK = '#111111';
 const NARROW = 'iljtfrI.,:;|!()[] \'';
 const WIDE = 'mwMW@%';

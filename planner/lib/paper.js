@@ -10,6 +10,7 @@ const MOST_KEPT = 10000;
 const UNREADABLE = 'a line that cannot be read';
 const UNKNOWN = 'the key has no sheet of this name';
 const NAMELESS = 'it names no sheet of the key';
+const SHEET_NAME = /\.(csv|tsv|sheet|words)$/;
 const LANDING = /^([0-9]+) ([0-9]+) ([0-9]+) ([0-9]+) ([0-9]+)$/;
 
 export const verdictText = (number) => (number === 0 ? 'passes' : `refused ${number}`);
@@ -114,12 +115,16 @@ function haveOneForeignName(read) {
   return named.length > 0 && named.every(({ said }) => said.sheet === null && said.name === named[0].said.name);
 }
 
+// Whether a line is a heading in the candidate's own words, as 'Verdict:', and no sheet's name.
+const isPlainHeading = ({ name, number, sheet }) => name !== undefined && number === null && sheet === null && !SHEET_NAME.test(name);
+
 // The lines of a paper that say something: answers, each with the sheet that it is about, and strays, of which the first `most` are listed
 // with what is wrong. A key of one sheet needs no names, and takes a name of the candidate's own.
 export function readPaper(keys, text, most) {
   const read = saidLines(keys, text, most);
   const only = keys.length === 1 ? keys[0] : null;
-  const other = only && haveOneForeignName(read.lines) ? only : null;
+  const lines = only ? read.lines.filter(({ said }) => !isPlainHeading(said)) : read.lines;
+  const other = only && haveOneForeignName(lines) ? only : null;
   const answers = [];
   const strays = { listed: [], count: read.unlisted };
   const stray = (at, sheet, line, note) => {
@@ -127,7 +132,7 @@ export function readPaper(keys, text, most) {
     if (strays.listed.length < most) strays.listed.push({ at, sheet, text: line, note });
   };
   let current = only;
-  for (const { at, said } of read.lines) {
+  for (const { at, said } of lines) {
     const { below, name, note, number, landing } = said;
     const sheet = below ?? (name === undefined ? current : (said.sheet ?? other));
     if (below !== undefined || number === null) current = sheet;

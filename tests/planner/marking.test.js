@@ -73,6 +73,8 @@ test('a key of one sheet takes one name of the candidate, and never two', () => 
   const late = keyNamed('cable-car-late.csv');
   assert.deepEqual(counts(markPaper([late], 'c.csv: refused 10')), [1, 0, 0, 0, 1]);
   assert.deepEqual(counts(markPaper([late], 'mine:\nrefused 10\nMINE: refused 10')), [1, 0, 0, 1, 1]);
+  // Headings in the candidate's own words are none of these names.
+  assert.deepEqual(counts(markPaper([key], `Verdict:\npasses\nListing:\n${paper.replace('passes\n', '')}`, true)), [4, 0, 0, 0, 4]);
   assert.deepEqual(linesOf(markPaper([late], 'b.csv: passes\nc.csv: refused 10')), [
     'missing  refused 10',
     'surplus  b.csv: passes   (the key has no sheet of this name)',

@@ -12,7 +12,7 @@ const CODES = { load: 3, start: 4, store: 5, fetch: 6, wordsLeft: 7, periodNumbe
 const [VERDICT, ENTRIES, STATE_WORD, MEMORY_WORD, MEMORY_LENGTH, STATE_LENGTH] = [1, 2, 12, 13, 14, 15];
 
 // The program's path: the environment's, or built where it is missing or older than what it is made of.
-export function nativeProgram() {
+function nativeProgram() {
   if (process.env.CALQETUM_NATIVE) return process.env.CALQETUM_NATIVE;
   const program = join(root, 'target', 'tests', 'planner_native');
   if (!existsSync(archive)) throw new Error('target/staticlib/libexports.a is missing: planner/build builds it');

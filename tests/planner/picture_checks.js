@@ -56,7 +56,7 @@ export function everyItem(item, found = []) {
   return found;
 }
 
-export const childNamed = (item, name) => item.children.find((child) => child.name === name);
+const childNamed = (item, name) => item.children.find((child) => child.name === name);
 export const textIn = (item) => item.children.map((child) => (typeof child === 'string' ? child : textIn(child))).join('');
 
 // The parts of a picture that tell what they are.
