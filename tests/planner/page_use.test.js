@@ -54,6 +54,9 @@ test('360 pixels wide nothing is cut off, and a lecture screen is filled', async
     await browser.size(width, 900);
     const wide = await browser.script('return [document.documentElement.scrollWidth, document.documentElement.clientWidth]');
     assert.ok(wide[0] <= wide[1], `${width} wide: the page is ${wide[0]} wide`);
+    // The network's letters stay readable: its picture is scrolled and not shrunk.
+    const picture = await browser.script("return document.querySelector('#grid svg').getBoundingClientRect().width");
+    assert.ok(picture >= 700, `${width} wide: the picture is ${picture} wide`);
   }
   await browser.size(1280, 900);
 });
