@@ -10,41 +10,41 @@ use Rattle.words.specs.Words.{pick}
 use Rattle.words.proofs.TestLaws.{yes=, no=, yes<, no<, is=, is<}
 use Rattle.sheet.specs.Sheet.{schedules, entriesOf}
 use Rattle.sheet.specs.Rules.{rule4, frameRules, circuitRules, entryRules, firstBroken, verdict}
-use Rattle.sheet.specs.Passed.{Framed}
+use Rattle.sheet.specs.Inner.Passed.{Framed}
 use Rattle.sheet.proofs.PassedLaws.{headed, framed}
 use Rattle.sheet.proofs.VerdictLaws.{kept, append-kept, append-broken}
 use Rattle.checker.specs.declared.Outcome.{Outcome}
 use Rattle.checker.specs.declared.Outcome.the-variants.{Passes, Refused}
 use Rattle.checker.specs.Answers.{outcomeOf, entriesNumber, entriesPart}
 
-module _ (s : List ℕ) where
+module _ (z : List ℕ) where
   -- what the first two groups settle
-  pub frame-kept : firstBroken frameRules s ≡ 0 → Framed s
+  pub frame-kept : firstBroken frameRules z ≡ 0 → Framed z
   frame-kept h =
-      let k₁ = kept s _ _ h (λ e. omega (arith, e)) in
-      let k₂ = kept s _ _ (k₁ .1) (λ e. omega (arith, e)) in
-      let k₃ = kept s _ _ (k₂ .1) (λ e. omega (arith, e)) in
-      framed s (headed s (k₁ .0) (k₂ .0)) (k₃ .0)
+      let k₁ = kept z _ _ h (λ e. omega (arith, e)) in
+      let k₂ = kept z _ _ (k₁ .1) (λ e. omega (arith, e)) in
+      let k₃ = kept z _ _ (k₂ .1) (λ e. omega (arith, e)) in
+      framed z (headed z (k₁ .0) (k₂ .0)) (k₃ .0)
 
-  pub circuits-kept : firstBroken circuitRules s ≡ 0 → rule4 s ≡ true
-  circuits-kept h = kept s _ _ h (λ e. omega (arith, e)) .0
+  pub circuits-kept : firstBroken circuitRules z ≡ 0 → rule4 z ≡ true
+  circuits-kept h = kept z _ _ h (λ e. omega (arith, e)) .0
 
   -- the first group decides; it is kept, and the second decides; both are kept, and the third decides
-  module _ (n : ℕ) (e : n ≡ firstBroken frameRules s) where
-    pub frame-decides : (n ≡ 0 → ⊥) → n ≡ verdict s
+  module _ (n : ℕ) (e : n ≡ firstBroken frameRules z) where
+    pub frame-decides : (n ≡ 0 → ⊥) → n ≡ verdict z
     unfolding verdict
-    frame-decides ne = e ∙ sym (append-broken s frameRules (circuitRules ++ entryRules) (λ z. ne (e ∙ z)))
+    frame-decides ne = e ∙ sym (append-broken z frameRules (circuitRules ++ entryRules) (λ e₀. ne (e ∙ e₀)))
 
-    module _ (z : n ≡ 0) (m : ℕ) (f : m ≡ firstBroken circuitRules s) where
-      behind-frame : firstBroken (circuitRules ++ entryRules) s ≡ verdict s
+    module _ (e₀ : n ≡ 0) (m : ℕ) (f : m ≡ firstBroken circuitRules z) where
+      behind-frame : firstBroken (circuitRules ++ entryRules) z ≡ verdict z
       unfolding verdict
-      behind-frame = sym (append-kept s frameRules (circuitRules ++ entryRules) (sym e ∙ z) refl)
+      behind-frame = sym (append-kept z frameRules (circuitRules ++ entryRules) (sym e ∙ e₀) refl)
 
-      pub circuits-decide : (m ≡ 0 → ⊥) → m ≡ verdict s
-      circuits-decide ne = f ∙ sym (append-broken s circuitRules entryRules (λ y. ne (f ∙ y))) ∙ behind-frame
+      pub circuits-decide : (m ≡ 0 → ⊥) → m ≡ verdict z
+      circuits-decide ne = f ∙ sym (append-broken z circuitRules entryRules (λ y. ne (f ∙ y))) ∙ behind-frame
 
-      pub entries-decide : m ≡ 0 → (k : ℕ) → k ≡ firstBroken entryRules s → k ≡ verdict s
-      entries-decide y k g = g ∙ sym (append-kept s circuitRules entryRules (sym f ∙ y) refl) ∙ behind-frame
+      pub entries-decide : m ≡ 0 → (k : ℕ) → k ≡ firstBroken entryRules z → k ≡ verdict z
+      entries-decide y k g = g ∙ sym (append-kept z circuitRules entryRules (sym f ∙ y) refl) ∙ behind-frame
 
 -- the outcome of a number that is not 0
 pub refused-is : (n : ℕ) → (n ≡ 0 → ⊥) → Refused n ≡ outcomeOf n
@@ -52,41 +52,41 @@ refused-is zero ne = absurd (ne refl)
 refused-is (suc n) ne = refl
 
 -- the number of handing back entries
-module _ (s : List ℕ) (j n : ℕ) (e : n ≡ verdict s) where
-  pub sheet-refused : (n ≡ 0 → ⊥) → n ≡ entriesNumber s j
+module _ (z : List ℕ) (j n : ℕ) (e : n ≡ verdict z) where
+  pub sheet-refused : (n ≡ 0 → ⊥) → n ≡ entriesNumber z j
   unfolding entriesNumber
-  sheet-refused ne = e ∙ sym (ap (λ (b : Bool). pick b (pick (j <? schedules s) 0 15) (verdict s)) (no= (λ z. ne (e ∙ z))))
+  sheet-refused ne = e ∙ sym (ap (λ (b : Bool). pick b (pick (j <? schedules z) 0 15) (verdict z)) (no= (λ e₀. ne (e ∙ e₀))))
 
-  passes-on : n ≡ 0 → pick (j <? schedules s) 0 15 ≡ entriesNumber s j
+  passes-on : n ≡ 0 → pick (j <? schedules z) 0 15 ≡ entriesNumber z j
   unfolding entriesNumber
-  passes-on z = sym (ap (λ (b : Bool). pick b (pick (j <? schedules s) 0 15) (verdict s)) (yes= (sym e ∙ z)))
+  passes-on e₀ = sym (ap (λ (b : Bool). pick b (pick (j <? schedules z) 0 15) (verdict z)) (yes= (sym e ∙ e₀)))
 
-  pub schedule-there : n ≡ 0 → j < schedules s → 0 ≡ entriesNumber s j
-  schedule-there z h = sym (ap (λ (b : Bool). pick {A = ℕ} b 0 15) (yes< h)) ∙ passes-on z
+  pub schedule-there : n ≡ 0 → j < schedules z → 0 ≡ entriesNumber z j
+  schedule-there e₀ h = sym (ap (λ (b : Bool). pick {A = ℕ} b 0 15) (yes< h)) ∙ passes-on e₀
 
-  pub schedule-absent : n ≡ 0 → schedules s ≤ j → 15 ≡ entriesNumber s j
-  schedule-absent z h = sym (ap (λ (b : Bool). pick {A = ℕ} b 0 15) (no< h)) ∙ passes-on z
+  pub schedule-absent : n ≡ 0 → schedules z ≤ j → 15 ≡ entriesNumber z j
+  schedule-absent e₀ h = sym (ap (λ (b : Bool). pick {A = ℕ} b 0 15) (no< h)) ∙ passes-on e₀
 
 -- where the number is 0, the sheet passes and the schedule exists
-pub record Handed (s : List ℕ) (j : ℕ) : Type 0 where
-  pub passes : verdict s ≡ 0
-  pub there : j < schedules s
+pub record Handed (z : List ℕ) (j : ℕ) : Type 0 where
+  pub passes : verdict z ≡ 0
+  pub there : j < schedules z
 
-pub handed : (s : List ℕ) (j : ℕ) → entriesNumber s j ≡ 0 → Handed s j
+pub handed : (z : List ℕ) (j : ℕ) → entriesNumber z j ≡ 0 → Handed z j
 unfolding entriesNumber _<?_ _=?_
-handed s j h = go (verdict s =? 0) refl (j <? schedules s) refl h
+handed z j h = go (verdict z =? 0) refl (j <? schedules z) refl h
   where
-    go : (a : Bool) → (verdict s =? 0) ≡ a → (b : Bool) → (j <? schedules s) ≡ b → pick a (pick b 0 15) (verdict s) ≡ 0 → Handed s j
+    go : (a : Bool) → (verdict z =? 0) ≡ a → (b : Bool) → (j <? schedules z) ≡ b → pick a (pick b 0 15) (verdict z) ≡ 0 → Handed z j
     go true p true q r = record { passes = is= _ _ p; there = is< _ _ q }
-    go true p false q r = absurd (let z : ⊥ = omega arith in z)
+    go true p false q r = absurd (let e₀ : ⊥ = omega arith in e₀)
     go false p b q r = record { passes = r; there = absurd (false≢true (sym p ∙ yes= r)) }
 
 -- the part: the entries where the number is 0, else nothing
-module _ (s : List ℕ) (j n : ℕ) (e : n ≡ entriesNumber s j) where
-  pub part-empty : (n ≡ 0 → ⊥) → [] ≡ entriesPart s j
+module _ (z : List ℕ) (j n : ℕ) (e : n ≡ entriesNumber z j) where
+  pub part-empty : (n ≡ 0 → ⊥) → [] ≡ entriesPart z j
   unfolding entriesPart
-  part-empty ne = sym (ap (λ (b : Bool). pick b (entriesOf s j) []) (no= (λ z. ne (e ∙ z))))
+  part-empty ne = sym (ap (λ (b : Bool). pick b (entriesOf z j) []) (no= (λ e₀. ne (e ∙ e₀))))
 
-  pub part-whole : n ≡ 0 → entriesOf s j ≡ entriesPart s j
+  pub part-whole : n ≡ 0 → entriesOf z j ≡ entriesPart z j
   unfolding entriesPart
-  part-whole z = sym (ap (λ (b : Bool). pick b (entriesOf s j) []) (yes= (sym e ∙ z)))
+  part-whole e₀ = sym (ap (λ (b : Bool). pick b (entriesOf z j) []) (yes= (sym e ∙ e₀)))

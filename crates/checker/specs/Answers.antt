@@ -15,8 +15,8 @@ outcomeOf (suc n) = Refused (suc n)
 
 -- handing back the entries of schedule j: 1 to 11, then 15 where the schedule does not exist
 unfoldable pub entriesNumber : List ℕ → ℕ → ℕ
-entriesNumber s j = pick (verdict s =? 0) (pick (j <? schedules s) 0 15) (verdict s)
+entriesNumber z j = pick (verdict z =? 0) (pick (j <? schedules z) 0 15) (verdict z)
 
 -- the part that is handed back: the entries where the number is 0, else nothing
 unfoldable pub entriesPart : List ℕ → ℕ → List ℕ
-entriesPart s j = pick (entriesNumber s j =? 0) (entriesOf s j) []
+entriesPart z j = pick (entriesNumber z j =? 0) (entriesOf z j) []

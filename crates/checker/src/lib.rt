@@ -4,7 +4,7 @@ ghost use mathlib.Core.Bool.{true};
 ghost use Prim.Native.Nat.{ℕ, _<_};
 ghost use Rattle.sheet.specs.Sheet.{schedules};
 ghost use Rattle.sheet.specs.Rules.{frameRules, circuitRules, entryRules, firstBroken, rule4, verdict as numberOf};
-ghost use Rattle.sheet.specs.Passed.{Framed};
+ghost use Rattle.sheet.specs.Inner.Passed.{Framed};
 ghost use Rattle.checker.specs.Answers.{outcomeOf, entriesNumber, entriesPart};
 
 // A sheet passes, or is refused with the first number of document 01 that applies.
@@ -14,12 +14,12 @@ pub enum Outcome {
 }
 
 // The first of the numbers 1 to 3 that applies, or 0.
-fn frame_number(s: &[u32]) -> u32
-    ensures { λ r. ⌜ r ≡ firstBroken frameRules (now (s .entry)) ⌝ }
+fn frame_number(z: &[u32]) -> u32
+    ensures { λ r. ⌜ r ≡ firstBroken frameRules (now (z .entry)) ⌝ }
 {
-    if sheet::keeps_rule1(s) {
-        if sheet::keeps_rule2(s) {
-            if sheet::keeps_rule3(s) {
+    if sheet::keeps_rule1(z) {
+        if sheet::keeps_rule2(z) {
+            if sheet::keeps_rule3(z) {
                 return 0;
             }
             return 3;
@@ -30,13 +30,13 @@ fn frame_number(s: &[u32]) -> u32
 }
 
 // The first of the numbers 4 to 6 that applies, or 0; verdict_number has tested those before.
-fn circuits_number(s: &[u32]) -> u32
-    requires { ⌜ Framed (now s) ⌝ }
-    ensures { λ r. ⌜ r ≡ firstBroken circuitRules (now (s .entry)) ⌝ }
+fn circuits_number(z: &[u32]) -> u32
+    requires { ⌜ Framed (now z) ⌝ }
+    ensures { λ r. ⌜ r ≡ firstBroken circuitRules (now (z .entry)) ⌝ }
 {
-    if sheet::keeps_rule4(s) {
-        if sheet::keeps_rule5(s) {
-            if sheet::keeps_rule6(s) {
+    if sheet::keeps_rule4(z) {
+        if sheet::keeps_rule5(z) {
+            if sheet::keeps_rule6(z) {
                 return 0;
             }
             return 6;
@@ -47,16 +47,16 @@ fn circuits_number(s: &[u32]) -> u32
 }
 
 // The first of the numbers 7 to 11 that applies, or 0; verdict_number has tested those before.
-fn schedules_number(s: &[u32]) -> u32
-    requires { ⌜ (Framed (now s)) × (rule4 (now s) ≡ true) ⌝ }
-    ensures { λ r. ⌜ r ≡ firstBroken entryRules (now (s .entry)) ⌝ }
+fn schedules_number(z: &[u32]) -> u32
+    requires { ⌜ (Framed (now z)) × (rule4 (now z) ≡ true) ⌝ }
+    ensures { λ r. ⌜ r ≡ firstBroken entryRules (now (z .entry)) ⌝ }
 {
-    if sheet::keeps_rule7(s) {
-        if sheet::keeps_rule8(s) {
-            let distances = routes::circuit_distances(s);
-            if routes::keeps_rule9(s, &distances) {
-                if routes::keeps_rule10(s, &distances) {
-                    if clash::keeps_rule11(s) {
+    if sheet::keeps_rule7(z) {
+        if sheet::keeps_rule8(z) {
+            let distances = routes::circuit_distances(z);
+            if routes::keeps_rule9(z, &distances) {
+                if routes::keeps_rule10(z, &distances) {
+                    if clash::keeps_rule11(z) {
                         return 0;
                     }
                     return 11;
@@ -71,18 +71,18 @@ fn schedules_number(s: &[u32]) -> u32
 }
 
 // The number of the verdict upon a sheet: 0, or the first number that applies.
-pub fn verdict_number(s: &[u32]) -> u32
-    ensures { λ r. ⌜ r ≡ numberOf (now (s .entry)) ⌝ }
+pub fn verdict_number(z: &[u32]) -> u32
+    ensures { λ r. ⌜ r ≡ numberOf (now (z .entry)) ⌝ }
 {
-    let frame = frame_number(s);
+    let frame = frame_number(z);
     if frame != 0 {
         return frame;
     }
-    let circuits = circuits_number(s);
+    let circuits = circuits_number(z);
     if circuits != 0 {
         return circuits;
     }
-    schedules_number(s)
+    schedules_number(z)
 }
 
 // The outcome of a number.
@@ -96,40 +96,40 @@ fn outcome_of(number: u32) -> Outcome
 }
 
 // The verdict upon a sheet.
-pub fn verdict(s: &[u32]) -> Outcome
-    ensures { λ r. ⌜ r ≡ outcomeOf (numberOf (now (s .entry))) ⌝ }
+pub fn verdict(z: &[u32]) -> Outcome
+    ensures { λ r. ⌜ r ≡ outcomeOf (numberOf (now (z .entry))) ⌝ }
 {
-    outcome_of(verdict_number(s))
+    outcome_of(verdict_number(z))
 }
 
 // The number of handing back the entries of schedule j: 1 to 11, then 15 where the schedule does not exist, or 0.
-fn part_number(s: &[u32], j: u32) -> u32
-    ensures { λ r. ⌜ r ≡ entriesNumber (now (s .entry)) j ⌝ }
+fn part_number(z: &[u32], j: u32) -> u32
+    ensures { λ r. ⌜ r ≡ entriesNumber (now (z .entry)) j ⌝ }
 {
-    let number = verdict_number(s);
+    let number = verdict_number(z);
     if number != 0 {
         return number;
     }
-    if j < words::get(s, 4) {
+    if j < words::get(z, 4) {
         return 0;
     }
     15
 }
 
 // Whether the entries of schedule j can be handed back, or which number applies: the call beside entries.
-pub fn entries_number(s: &[u32], j: u32) -> Outcome
-    ensures { λ r. ⌜ r ≡ outcomeOf (entriesNumber (now (s .entry)) j) ⌝ }
+pub fn entries_number(z: &[u32], j: u32) -> Outcome
+    ensures { λ r. ⌜ r ≡ outcomeOf (entriesNumber (now (z .entry)) j) ⌝ }
 {
-    outcome_of(part_number(s, j))
+    outcome_of(part_number(z, j))
 }
 
 // The entries of schedule j as that part of the sheet; empty where a number applies.
-pub fn entries(s: &[u32], j: u32) -> &[u32]
-    ensures { λ r. ⌜ now r ≡ entriesPart (now (s .entry)) j ⌝ }
+pub fn entries(z: &[u32], j: u32) -> &[u32]
+    ensures { λ r. ⌜ now r ≡ entriesPart (now (z .entry)) j ⌝ }
 {
-    let number = part_number(s, j);
+    let number = part_number(z, j);
     if number != 0 {
-        return &s[0..0];
+        return &z[0..0];
     }
-    sheet::entries_of(s, j)
+    sheet::entries_of(z, j)
 }

@@ -21,34 +21,34 @@ use Rattle.sheet.specs.declared.entries.Entry.{Entry}
 use Rattle.sheet.specs.declared.circuits.Circuit.{Circuit}
 use Rattle.sheet.specs.Sheet.{columns, rows, nodes, schedules, circuitAt, period, entriesOf, entryCount, entryAt}
 use Rattle.sheet.specs.Wires.{WireCycle, occupied, meet}
-use Rattle.sheet.specs.Rules.{entryRoute, entryLeads, entryEnds, entryOccupied, reaches, hopsOf, usesOf, eachEntry, rule9, rule10, rule11At}
-use Rattle.sheet.specs.Passed.{Ranged, Routed}
+use Rattle.sheet.specs.Rules.{entryRoute, entryLeads, entryEnds, entryOccupied, reaches, routeHops, usesOf, eachEntry, rule9, rule10, rule11At}
+use Rattle.sheet.specs.Inner.Passed.{Ranged, Routed}
 use Rattle.sheet.proofs.PassedLaws.{entry-small, period-range}
-use Rattle.occupancy.specs.Occupancy.{anyTaken, Takes}
-use Rattle.clash.specs.Table.{placeOf, entryPlaces, places, Held, Free, Placed, Placeable, Roomy}
+use Rattle.occupancy.specs.Inner.Occupancy.{anyTaken, Takes}
+use Rattle.clash.specs.Inner.Table.{placeOf, entryPlaces, places, Held, Free, TakenOrKept, Placeable, HoldsAllWires}
 use Rattle.clash.proofs.ShareLaws.{share, Holds, holds-none, holds-more, free-where}
 use Rattle.clash.proofs.WireLaws.{Fitting, meet-places, packet-places, fitting-packet, row-ends}
 
-module _ (long : ℕ) (s : List ℕ) (e : Entry) (stride : ℕ) (p : Placeable long s e stride) where
+module _ (long : ℕ) (z : List ℕ) (e : Entry) (stride : ℕ) (p : Placeable long z e stride) where
   -- the route leads somewhere
   record Leading : Type 0 where
     uses : List Use
     node : ℕ
     hops : ℕ
-    route : entryRoute s e ≡ leads uses node hops
+    route : entryRoute z e ≡ leads uses node hops
 
   leading : Leading
   unfolding entryLeads
-  leading = go (entryRoute s e) refl (p .leads-there)
+  leading = go (entryRoute z e) refl (p .leads-there)
     where
-      go : (r : Route) → entryRoute s e ≡ r
-          → reaches r (circuitAt s (e .circuit) .receive .node)
-          (distanceOf (columns s) (rows s) (circuitAt s (e .circuit) .read .node) (circuitAt s (e .circuit) .receive .node)) ≡ true → Leading
+      go : (r : Route) → entryRoute z e ≡ r
+          → reaches r (circuitAt z (e .circuit) .receive .node)
+          (distanceOf (columns z) (rows z) (circuitAt z (e .circuit) .read .node) (circuitAt z (e .circuit) .receive .node)) ≡ true → Leading
       go (leads uses node hops) q h = record { uses = uses; node = node; hops = hops; route = q }
       go nowhere q h = absurd (false≢true h)
 
   module _ (l : Leading) where
-    small : SmallUses (nodes s * 6) (3 * (l .hops + 1)) (l .uses)
+    small : SmallUses (nodes z * 6) (3 * (l .hops + 1)) (l .uses)
     unfolding entryRoute
     small = uses-small _ _ _ _ (p .source-inside) _ _ _ (l .route)
 
@@ -61,19 +61,19 @@ module _ (long : ℕ) (s : List ℕ) (e : Entry) (stride : ℕ) (p : Placeable l
     few = hops-high _ _ _ _ (p .source-inside) _ _ _ (l .route)
 
     ends : e .offset + 3 * (l .hops + 1) + e .size ≤ stride
-    ends = omega (arith, p .in-time, ap hopsOf (l .route))
+    ends = omega (arith, p .in-time, ap routeHops (l .route))
 
-    occupied-is : occupied (l .uses) (e .size) (e .offset) ≡ entryOccupied s e
+    occupied-is : occupied (l .uses) (e .size) (e .offset) ≡ entryOccupied z e
     unfolding entryOccupied
     occupied-is = ap (λ (r : Route). occupied (usesOf r) (e .size) (e .offset)) (sym (l .route))
 
-    fitting : Fitting stride (entryOccupied s e)
+    fitting : Fitting stride (entryOccupied z e)
     fitting =
         subst (Fitting stride) occupied-is
-        (fitting-packet stride (nodes s * 6) (3 * (l .hops + 1)) (l .uses) (e .size) (e .offset) small ends)
+        (fitting-packet stride (nodes z * 6) (3 * (l .hops + 1)) (l .uses) (e .size) (e .offset) small ends)
 
     -- the answer of following the entry's route
-    module _ (path : Path) (q : path ≡ pathOf (entryRoute s e)) where
+    module _ (path : Path) (q : path ≡ pathOf (entryRoute z e)) where
       path-is : path ≡ pathOf (leads (l .uses) (l .node) (l .hops))
       path-is = q ∙ ap pathOf (l .route)
 
@@ -104,13 +104,13 @@ module _ (long : ℕ) (s : List ℕ) (e : Entry) (stride : ℕ) (p : Placeable l
             let b : i < length (l .uses) = omega (arith, counted, hops-is) in
             let w : word (path .wires) i ≡ word (wiresOf (l .uses)) i = ap (word (path .wires)) (sym (zero-add i)) ∙ wire-at i b in
             let d : word (path .delays) i ≡ word (delaysOf (l .uses)) i = ap (word (path .delays)) (sym (zero-add i)) ∙ delay-at i b in
-            let soon = delays-small (nodes s * 6) (3 * (l .hops + 1)) (l .uses) small i b in
-            let end = row-ends stride (nodes s * 6) (word (path .wires) i) (e .offset + word (path .delays) i + e .size)
-            (omega (arith, w, wires-small (nodes s * 6) (3 * (l .hops + 1)) (l .uses) small i b)) (omega (arith, d, soon, ends)) in
+            let soon = delays-small (nodes z * 6) (3 * (l .hops + 1)) (l .uses) small i b in
+            let end = row-ends stride (nodes z * 6) (word (path .wires) i) (e .offset + word (path .delays) i + e .size)
+            (omega (arith, w, wires-small (nodes z * 6) (3 * (l .hops + 1)) (l .uses) small i b)) (omega (arith, d, soon, ends)) in
             omega (arith, end, p .room);
       }
 
-      places-of : places (path .wires) (path .delays) stride (e .offset) (e .size) 0 (path .hops + 2) ≡ entryPlaces stride s e
+      places-of : places (path .wires) (path .delays) stride (e .offset) (e .size) 0 (path .hops + 2) ≡ entryPlaces stride z e
       unfolding entryPlaces
       places-of =
           let n : path .hops + 2 ≡ length (l .uses) = omega (arith, counted, hops-is) in
@@ -118,58 +118,58 @@ module _ (long : ℕ) (s : List ℕ) (e : Entry) (stride : ℕ) (p : Placeable l
           ∙ packet-places stride (path .wires) (path .delays) (e .size) (e .offset) (l .uses) 0 wire-at delay-at
           ∙ ap (map (placeOf stride)) occupied-is
 
-  pub entry-fitting : Fitting stride (entryOccupied s e)
+  pub entry-fitting : Fitting stride (entryOccupied z e)
   entry-fitting = fitting leading
 
   -- what is read of the entry's circuit and of the head, and the route followed
-  module _ (circuit : Circuit) (c : circuit ≡ circuitAt s (e .circuit)) (cols count : ℕ) (x : cols ≡ columns s) (y : count ≡ rows s) where
+  module _ (circuit : Circuit) (c : circuit ≡ circuitAt z (e .circuit)) (cols count : ℕ) (x : cols ≡ columns z) (y : count ≡ rows z) where
     pub source-read : InGrid cols count (circuit .read .node)
     source-read =
         subst (λ (n : ℕ). InGrid n count (circuit .read .node)) (sym x)
-        (subst (λ (n : ℕ). InGrid (columns s) n (circuit .read .node)) (sym y)
-        (subst (λ (k : Circuit). InGrid (columns s) (rows s) (k .read .node)) (sym c) (p .source-inside)))
+        (subst (λ (n : ℕ). InGrid (columns z) n (circuit .read .node)) (sym y)
+        (subst (λ (k : Circuit). InGrid (columns z) (rows z) (k .read .node)) (sym c) (p .source-inside)))
 
     module _ (path : Path) (q : path ≡ pathOf (routeFrom cols count (circuit .read .node) (e .route))) where
-      followed : path ≡ pathOf (entryRoute s e)
+      followed : path ≡ pathOf (entryRoute z e)
       unfolding entryRoute
       followed =
           q
           ∙ ap₂ (λ (a b : ℕ). pathOf (routeFrom a b (circuit .read .node) (e .route))) x y
-          ∙ ap (λ (k : Circuit). pathOf (routeFrom (columns s) (rows s) (k .read .node) (e .route))) c
+          ∙ ap (λ (k : Circuit). pathOf (routeFrom (columns z) (rows z) (k .read .node) (e .route))) c
 
       pub entry-held : Held long (path .wires) (path .delays) (path .hops + 2) stride (e .offset) (e .size)
       entry-held = held-of leading path followed
 
-      pub entry-places : places (path .wires) (path .delays) stride (e .offset) (e .size) 0 (path .hops + 2) ≡ entryPlaces stride s e
+      pub entry-places : places (path .wires) (path .delays) stride (e .offset) (e .size) 0 (path .hops + 2) ≡ entryPlaces stride z e
       entry-places = places-of leading path followed
 
       pub entry-hops : path .hops ≤ 7
       entry-hops = omega (arith, hops-is leading path followed, few leading)
 
 -- each entry of a schedule that passed the rules is such an entry
-pub placeable : (long : ℕ) (s : List ℕ) → Routed s → (j : ℕ) → j < schedules s → (i : ℕ) → i < entryCount (entriesOf s j)
-    → Roomy long s (period s j + 6) → Placeable long s (entryAt (entriesOf s j) i) (period s j + 6)
+pub placeable : (long : ℕ) (z : List ℕ) → Routed z → (j : ℕ) → j < schedules z → (i : ℕ) → i < entryCount (entriesOf z j)
+    → HoldsAllWires long z (period z j + 6) → Placeable long z (entryAt (entriesOf z j) i) (period z j + 6)
 unfolding rule9 rule10 eachEntry entryEnds
-placeable long s r j h i l m =
-    let small = entry-small s (r .ranged) j h i l in
-    let leading = all-at _ (entryCount (entriesOf s j)) (all-at _ (schedules s) (r .routes-lead) j h) i l in
-    let ending = is≤ _ _ (all-at _ (entryCount (entriesOf s j)) (all-at _ (schedules s) (r .packets-end) j h) i l) in
+placeable long z r j h i l m =
+    let small = entry-small z (r .ranged) j h i l in
+    let leading = all-at _ (entryCount (entriesOf z j)) (all-at _ (schedules z) (r .routes-lead) j h) i l in
+    let ending = is≤ _ _ (all-at _ (entryCount (entriesOf z j)) (all-at _ (schedules z) (r .packets-end) j h) i l) in
     record {
       source-inside = small .source-inside;
       leads-there = leading;
       in-time = omega (arith, ending, small .size-low);
       size-low = omega (arith, small .size-low);
       size-high = small .size-high;
-      stride-small = omega (arith, period-range s (r .ranged) j h .1);
+      stride-small = omega (arith, period-range z (r .ranged) j h .1);
       room = m;
     }
 
 -- the answer of placing an entry
-pub hit-answer : (t xs ys : List ℕ) {w : Bool} → w ≡ anyTaken t xs → w ≡ true → xs ≡ ys → Placed t t ys false
+pub hit-answer : (t xs ys : List ℕ) {w : Bool} → w ≡ anyTaken t xs → w ≡ true → xs ≡ ys → TakenOrKept t t ys false
 hit-answer t xs ys m y e =
     record { free = ap not (sym y ∙ m ∙ ap (anyTaken t) e); now-taken = λ q. absurd (false≢true q); kept = λ q. refl }
 
-pub take-answer : (t u xs ys : List ℕ) {w : Bool} → w ≡ anyTaken t xs → w ≡ false → Takes t u xs → xs ≡ ys → Placed t u ys true
+pub take-answer : (t u xs ys : List ℕ) {w : Bool} → w ≡ anyTaken t xs → w ≡ false → Takes t u xs → xs ≡ ys → TakenOrKept t u ys true
 take-answer t u xs ys m y r e =
     record {
       free = ap not (sym y ∙ m ∙ ap (anyTaken t) e);
@@ -178,52 +178,52 @@ take-answer t u xs ys m y r e =
     }
 
 -- with the entries before it in the table, an entry is placed exactly where it meets none of them
-module _ (s : List ℕ) (j stride : ℕ) (entries : List ℕ) (long : ℕ) where
+module _ (z : List ℕ) (j stride : ℕ) (entries : List ℕ) (long : ℕ) where
   abbrev placesAt : ℕ → List ℕ
-  placesAt i = entryPlaces stride s (entryAt entries i)
+  placesAt i = entryPlaces stride z (entryAt entries i)
 
   abbrev meetAt : ℕ → ℕ → Bool
-  meetAt i k = meet (entryOccupied s (entryAt entries i)) (entryOccupied s (entryAt entries k))
+  meetAt i k = meet (entryOccupied z (entryAt entries i)) (entryOccupied z (entryAt entries k))
 
   -- just the first i entries of schedule j are in the table, and no two of them meet
   pub record Placing (i : ℕ) (table : List ℕ) : Type 0 where
-    pub entries-are : entries ≡ entriesOf s j
-    pub each : (k : ℕ) → k < entryCount entries → Placeable long s (entryAt entries k) stride
+    pub entries-are : entries ≡ entriesOf z j
+    pub each : (k : ℕ) → k < entryCount entries → Placeable long z (entryAt entries k) stride
     pub long-is : length table ≡ long
     pub holds : Holds placesAt i table
     pub apart : all i (λ k. all k (λ m. not (meetAt k m))) ≡ true
 
-  pub placing-start : (table : List ℕ) → length table ≡ long → Routed s → j < schedules s → Roomy (length table) s (period s j + 6) → Free table
-      → entries ≡ entriesOf s j → stride ≡ period s j + 6 → Placing 0 table
+  pub placing-start : (table : List ℕ) → length table ≡ long → Routed z → j < schedules z → HoldsAllWires (length table) z (period z j + 6) → Free table
+      → entries ≡ entriesOf z j → stride ≡ period z j + 6 → Placing 0 table
   placing-start table n r h m f p q =
       record {
         entries-are = p;
         each = λ k l.
-            subst (λ (x : ℕ). Placeable long s (entryAt entries k) x) (sym q)
-            (subst (λ (x : List ℕ). Placeable long s (entryAt x k) (period s j + 6)) (sym p)
-            (placeable long s r j h k (subst (λ (x : List ℕ). k < entryCount x) p l) (subst (λ (x : ℕ). Roomy x s (period s j + 6)) n m)));
+            subst (λ (x : ℕ). Placeable long z (entryAt entries k) x) (sym q)
+            (subst (λ (x : List ℕ). Placeable long z (entryAt x k) (period z j + 6)) (sym p)
+            (placeable long z r j h k (subst (λ (x : List ℕ). k < entryCount x) p l) (subst (λ (x : ℕ). HoldsAllWires x z (period z j + 6)) n m)));
         long-is = n;
         holds = holds-none placesAt table f;
         apart = sym (all-none _);
       }
 
   -- the test of a schedule, from the entries that were read
-  rule-is : entries ≡ entriesOf s j → all (entryCount entries) (λ k. all k (λ n. not (meetAt k n))) ≡ rule11At s j
+  rule-is : entries ≡ entriesOf z j → all (entryCount entries) (λ k. all k (λ n. not (meetAt k n))) ≡ rule11At z j
   unfolding rule11At
   rule-is p =
-      ap (λ (x : List ℕ). all (entryCount x) (λ k. all k (λ n. not (meet (entryOccupied s (entryAt x k)) (entryOccupied s (entryAt x n)))))) p
+      ap (λ (x : List ℕ). all (entryCount x) (λ k. all k (λ n. not (meet (entryOccupied z (entryAt x k)) (entryOccupied z (entryAt x n)))))) p
 
   module _ (i : ℕ) (table : List ℕ) (g : Placing i table) where
     pub placing-length : length table ≡ long
     placing-length = g .long-is
 
     module _ (h : i < entryCount entries) (e : Entry) (q : e ≡ entryAt entries i) where
-      pub placing-next : Placeable (length table) s e stride
+      pub placing-next : Placeable (length table) z e stride
       placing-next =
-          subst (λ (n : ℕ). Placeable n s e stride) (sym (g .long-is))
-          (subst (λ (x : Entry). Placeable long s x stride) (sym q) (g .each i h))
+          subst (λ (n : ℕ). Placeable n z e stride) (sym (g .long-is))
+          (subst (λ (x : Entry). Placeable long z x stride) (sym q) (g .each i h))
 
-      module _ (after : List ℕ) {r : Bool} (m : Placed table after (entryPlaces stride s e) r) where
+      module _ (after : List ℕ) {r : Bool} (m : TakenOrKept table after (entryPlaces stride z e) r) where
         share-is : (k : ℕ) → k < i → not (share (placesAt i) (placesAt k)) ≡ not (meetAt i k)
         unfolding entryPlaces
         share-is k l =
@@ -232,13 +232,13 @@ module _ (s : List ℕ) (j stride : ℕ) (entries : List ℕ) (long : ℕ) where
         answer-is : r ≡ all i (λ k. not (meetAt i k))
         answer-is =
             m .free
-            ∙ ap (λ (x : Entry). not (anyTaken table (entryPlaces stride s x))) q
+            ∙ ap (λ (x : Entry). not (anyTaken table (entryPlaces stride z x))) q
             ∙ free-where placesAt i table (g .holds) (placesAt i)
             ∙ all-same i _ _ share-is
 
         pub placing-more : r ≡ true → Placing (i + 1) after
         placing-more y =
-            let t : Takes table after (placesAt i) = subst (λ (x : Entry). Takes table after (entryPlaces stride s x)) q (m .now-taken y) in
+            let t : Takes table after (placesAt i) = subst (λ (x : Entry). Takes table after (entryPlaces stride z x)) q (m .now-taken y) in
             record {
               entries-are = g .entries-are;
               each = g .each;
@@ -247,13 +247,13 @@ module _ (s : List ℕ) (j stride : ℕ) (entries : List ℕ) (long : ℕ) where
               apart = all-more _ i (g .apart) (sym answer-is ∙ y);
             }
 
-        pub placing-fails : r ≡ false → false ≡ rule11At s j
+        pub placing-fails : r ≡ false → false ≡ rule11At z j
         placing-fails y =
             all-fails (λ k. all k (λ n. not (meetAt k n))) (entryCount entries) i h (sym answer-is ∙ y) ∙ rule-is (g .entries-are)
 
         pub failed-length : r ≡ false → length after ≡ long
         failed-length y = ap length (m .kept y) ∙ g .long-is
 
-    pub placing-done : i ≤ entryCount entries → entryCount entries ≤ i → true ≡ rule11At s j
+    pub placing-done : i ≤ entryCount entries → entryCount entries ≤ i → true ≡ rule11At z j
     placing-done a b =
         all-done (λ k. all k (λ n. not (meetAt k n))) (entryCount entries) i (g .apart) a b ∙ rule-is (g .entries-are)

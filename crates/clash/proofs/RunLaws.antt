@@ -11,9 +11,9 @@ use lib.ListN.{length}
 use Rattle.words.specs.Tests.{_or_, _=?_}
 use Rattle.words.specs.Words.{word}
 use Rattle.words.proofs.TestLaws.{or-yes, or-on}
-use Rattle.occupancy.specs.Occupancy.{run, taken, anyTaken, listed, takeRun, Takes}
+use Rattle.occupancy.specs.Inner.Occupancy.{run, taken, anyTaken, listed, takeRun, Takes}
 use Rattle.occupancy.proofs.TakeLaws.{takes-run}
-use Rattle.clash.specs.Table.{places}
+use Rattle.clash.specs.Inner.Table.{places}
 
 or-assoc : (a b c : Bool) → (a or (b or c)) ≡ ((a or b) or c)
 unfolding _or_
@@ -92,7 +92,7 @@ module _ (wires delays : List ℕ) (stride cycle size : ℕ) where
     from-end : (left : ℕ) → left ≡ 0 → places wires delays stride cycle size i left ≡ []
     unfolding places
     from-end zero e = refl
-    from-end (suc n) e = absurd (let z : ⊥ = omega arith in z)
+    from-end (suc n) e = absurd (let e₀ : ⊥ = omega arith in e₀)
 
     module _ (h : count ≤ i) (t : List ℕ) where
       pub packet-clear : false ≡ anyTaken t (from i)

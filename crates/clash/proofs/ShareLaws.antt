@@ -7,8 +7,8 @@ use mathlib.Core.List.{List, [], _∷_}
 use mathlib.Core.Path.{_≡_, refl, sym, _∙_, ap, ap₂}
 use native.Mathlib.Numerals.{add-one}
 use Rattle.words.specs.Tests.{all, any, _and_, _or_}
-use Rattle.occupancy.specs.Occupancy.{taken, anyTaken, listed, Takes}
-use Rattle.clash.specs.Table.{Free}
+use Rattle.occupancy.specs.Inner.Occupancy.{taken, anyTaken, listed, Takes}
+use Rattle.clash.specs.Inner.Table.{Free}
 
 -- two lists share a place
 unfoldable pub share : List ℕ → List ℕ → Bool

@@ -16,8 +16,8 @@ use Rattle.words.proofs.TestLaws.{yes=, no=, is=, and-no, and-both, and-no-righ
 use Rattle.torus.specs.Route.{Wire, source, side, memory, Use, wireNumber, wiresPerNode}
 use Rattle.torus.proofs.RouteLaws.{Proper, SmallUse, SmallUses, wiresOf, delaysOf}
 use Rattle.sheet.specs.Wires.{WireCycle, sameWire, same, during, occupied, member, meet}
-use Rattle.occupancy.specs.Occupancy.{run, listed}
-use Rattle.clash.specs.Table.{placeOf, places}
+use Rattle.occupancy.specs.Inner.Occupancy.{run, listed}
+use Rattle.clash.specs.Inner.Table.{placeOf, places}
 use Rattle.clash.proofs.ShareLaws.{share}
 
 -- the wires have proper sides, and the cycles are below the stride

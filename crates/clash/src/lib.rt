@@ -6,9 +6,9 @@ ghost use Prim.Native.Nat.{ℕ, _+_, _*_, _<_, _≤_};
 ghost use lib.ListN.{length};
 ghost use Rattle.sheet.specs.Sheet.{schedules, period};
 ghost use Rattle.sheet.specs.Rules.{rule11At, rule11};
-ghost use Rattle.sheet.specs.Passed.{Routed};
-ghost use Rattle.occupancy.specs.Occupancy.{anyTaken, Takes};
-ghost use Rattle.clash.specs.Table.{places, entryPlaces, Held, Free, Placed, Placeable, Roomy};
+ghost use Rattle.sheet.specs.Inner.Passed.{Routed};
+ghost use Rattle.occupancy.specs.Inner.Occupancy.{anyTaken, Takes};
+ghost use Rattle.clash.specs.Inner.Table.{places, entryPlaces, Held, Free, TakenOrKept, Placeable, HoldsAllWires};
 use sheet::Circuit;
 use sheet::Entry;
 
@@ -66,13 +66,13 @@ fn take_packet(
 }
 
 // Takes the places that an entry occupies, unless one of them is taken: whether it did.
-fn place_entry(table: &mut [u32], s: &[u32], e: Entry, stride: usize) -> bool
-    requires { ⌜ Placeable (length (now table)) (now s) e stride ⌝ }
-    ensures { λ r. ⌜ Placed (now (table .entry)) (now (table .exit)) (entryPlaces stride (now (s .entry)) e) r ⌝ }
+fn place_entry(table: &mut [u32], z: &[u32], e: Entry, stride: usize) -> bool
+    requires { ⌜ Placeable (length (now table)) (now z) e stride ⌝ }
+    ensures { λ r. ⌜ TakenOrKept (now (table .entry)) (now (table .exit)) (entryPlaces stride (now (z .entry)) e) r ⌝ }
 {
-    let circuit = Circuit::at(s, e.circuit);
+    let circuit = Circuit::at(z, e.circuit);
     let read = circuit.read;
-    let path = torus::follow_route(words::get(s, 0), words::get(s, 1), read.node, e.route);
+    let path = torus::follow_route(words::get(z, 0), words::get(z, 1), read.node, e.route);
     let count = (path.hops + 2) as usize;
     let wires = path.wires;
     let delays = path.delays;
@@ -86,16 +86,16 @@ fn place_entry(table: &mut [u32], s: &[u32], e: Entry, stride: usize) -> bool
 }
 
 // Number 11 at schedule j, in a free table.
-fn entries_apart(table: &mut [u32], s: &[u32], j: u32) -> bool
-    requires { ⌜ (Routed (now s)) × (j < schedules (now s)) × (Roomy (length (now table)) (now s) (period (now s) j + 6)) × (Free (now table)) ⌝ }
-    ensures { λ r. ⌜ r ≡ rule11At (now (s .entry)) j ⌝ }
+fn entries_apart(table: &mut [u32], z: &[u32], j: u32) -> bool
+    requires { ⌜ (Routed (now z)) × (j < schedules (now z)) × (HoldsAllWires (length (now table)) (now z) (period (now z) j + 6)) × (Free (now table)) ⌝ }
+    ensures { λ r. ⌜ r ≡ rule11At (now (z .entry)) j ⌝ }
 {
-    let stride = (sheet::schedule_period(s, j) as usize) + 6;
-    let entries = sheet::entries_of(s, j);
+    let stride = (sheet::schedule_period(z, j) as usize) + 6;
+    let entries = sheet::entries_of(z, j);
     let count = entries.len() / 4;
     let mut i = 0;
     while i < count {
-        if place_entry(table, s, Entry::at(entries, i), stride) {
+        if place_entry(table, z, Entry::at(entries, i), stride) {
             i += 1;
         } else {
             return false;
@@ -105,57 +105,57 @@ fn entries_apart(table: &mut [u32], s: &[u32], j: u32) -> bool
 }
 
 // Number 11 at schedule j, in a table of 1,024 places, which a small sheet needs no more than.
-fn apart_in_small(s: &[u32], j: u32) -> bool
-    requires { ⌜ (Routed (now s)) × (j < schedules (now s)) × (Roomy 33 (now s) (period (now s) j + 6)) ⌝ }
-    ensures { λ r. ⌜ r ≡ rule11At (now (s .entry)) j ⌝ }
+fn apart_in_small(z: &[u32], j: u32) -> bool
+    requires { ⌜ (Routed (now z)) × (j < schedules (now z)) × (HoldsAllWires 33 (now z) (period (now z) j + 6)) ⌝ }
+    ensures { λ r. ⌜ r ≡ rule11At (now (z .entry)) j ⌝ }
 {
     let mut table = [0u32; 33];
-    entries_apart(&mut table, s, j)
+    entries_apart(&mut table, z, j)
 }
 
 // Number 11 at schedule j, in a table of 16,384 places.
-fn apart_in_middle(s: &[u32], j: u32) -> bool
-    requires { ⌜ (Routed (now s)) × (j < schedules (now s)) × (Roomy 513 (now s) (period (now s) j + 6)) ⌝ }
-    ensures { λ r. ⌜ r ≡ rule11At (now (s .entry)) j ⌝ }
+fn apart_in_middle(z: &[u32], j: u32) -> bool
+    requires { ⌜ (Routed (now z)) × (j < schedules (now z)) × (HoldsAllWires 513 (now z) (period (now z) j + 6)) ⌝ }
+    ensures { λ r. ⌜ r ≡ rule11At (now (z .entry)) j ⌝ }
 {
     let mut table = [0u32; 513];
-    entries_apart(&mut table, s, j)
+    entries_apart(&mut table, z, j)
 }
 
 // Number 11 at schedule j, in a table for the largest sheets: 96 wires in 1,030 cycles.
-fn apart_in_large(s: &[u32], j: u32) -> bool
-    requires { ⌜ (Routed (now s)) × (j < schedules (now s)) × (Roomy 3091 (now s) (period (now s) j + 6)) ⌝ }
-    ensures { λ r. ⌜ r ≡ rule11At (now (s .entry)) j ⌝ }
+fn apart_in_large(z: &[u32], j: u32) -> bool
+    requires { ⌜ (Routed (now z)) × (j < schedules (now z)) × (HoldsAllWires 3091 (now z) (period (now z) j + 6)) ⌝ }
+    ensures { λ r. ⌜ r ≡ rule11At (now (z .entry)) j ⌝ }
 {
     let mut table = [0u32; 3091];
-    entries_apart(&mut table, s, j)
+    entries_apart(&mut table, z, j)
 }
 
 // Number 11 at schedule j.
-fn schedule_apart(s: &[u32], j: u32) -> bool
-    requires { ⌜ (Routed (now s)) × (j < schedules (now s)) ⌝ }
-    ensures { λ r. ⌜ r ≡ rule11At (now (s .entry)) j ⌝ }
+fn schedule_apart(z: &[u32], j: u32) -> bool
+    requires { ⌜ (Routed (now z)) × (j < schedules (now z)) ⌝ }
+    ensures { λ r. ⌜ r ≡ rule11At (now (z .entry)) j ⌝ }
 {
-    let cycles = sheet::schedule_period(s, j) + 6;
-    let places = words::get(s, 0) * words::get(s, 1) * torus::WIRES_PER_NODE * cycles;
+    let cycles = sheet::schedule_period(z, j) + 6;
+    let places = words::get(z, 0) * words::get(z, 1) * torus::WIRES_PER_NODE * cycles;
     if places <= 1024 {
-        return apart_in_small(s, j);
+        return apart_in_small(z, j);
     }
     if places <= 16384 {
-        return apart_in_middle(s, j);
+        return apart_in_middle(z, j);
     }
-    apart_in_large(s, j)
+    apart_in_large(z, j)
 }
 
 // Number 11: no two entries of one schedule occupy one wire in one cycle. The checker calls it last, and so meets the requires.
-pub fn keeps_rule11(s: &[u32]) -> bool
-    requires { ⌜ Routed (now s) ⌝ }
-    ensures { λ r. ⌜ r ≡ rule11 (now (s .entry)) ⌝ }
+pub fn keeps_rule11(z: &[u32]) -> bool
+    requires { ⌜ Routed (now z) ⌝ }
+    ensures { λ r. ⌜ r ≡ rule11 (now (z .entry)) ⌝ }
 {
-    let count = words::get(s, 4);
+    let count = words::get(z, 4);
     let mut j: u32 = 0;
     while j < count {
-        if schedule_apart(s, j) {
+        if schedule_apart(z, j) {
             j += 1;
         } else {
             return false;

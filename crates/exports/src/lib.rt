@@ -7,7 +7,7 @@ ghost use Rattle.words.specs.Words.{pick};
 ghost use Rattle.sheet.specs.Rules.{verdict};
 ghost use Rattle.checker.specs.Answers.{entriesNumber};
 ghost use Rattle.network.specs.Registers.{stateWords};
-ghost use Rattle.network.specs.Machine.{nextState, nextMemory};
+ghost use Rattle.network.specs.Inner.Machine.{nextState, nextMemory};
 ghost use Rattle.session.specs.Calls.{loadNumber, loaded, startNumber, started, placeNumber, stored, fetched, leftNumber, wordsLeft, stateNumber, periodNumberIn, landedNumber, lastLanding, orderNumber, ordered, cycleNumber};
 ghost use Rattle.session.specs.Answers.{foundOf, landedOf};
 ghost use Rattle.exports.specs.Packed.{packed, entriesField, chosen, fieldOf, packedFound, packedLanded};

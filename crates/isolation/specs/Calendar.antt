@@ -6,7 +6,7 @@ use mathlib.Core.List.{List, [], _∷_}
 use Rattle.words.specs.Tests.{_and_, _=?_}
 use Rattle.words.specs.Words.{pick}
 use Rattle.sheet.specs.Sheet.{period}
-use Rattle.isolation.specs.Sessions.{Event, started, wrote, ordered, cycled}
+use Rattle.isolation.specs.Sessions.{Event, startDone, storeDone, orderDone, cycleDone}
 
 -- the cycles since the load, the cycle within the period, the period number, the schedule in force, and the order not yet spent (whether
 -- there is one, its schedule and its period number)
@@ -69,10 +69,10 @@ orderCalendar schedule periodNumber k = record {
 }
 
 abbrev pub calendarEvent : List ℕ → Event → Calendar → Calendar
-calendarEvent z (started circuit readAddress writeAddress count kind) k = k
-calendarEvent z (wrote node address new) k = k
-calendarEvent z (ordered schedule periodNumber) k = orderCalendar schedule periodNumber k
-calendarEvent z cycled k = nextCalendar z k
+calendarEvent z (startDone circuit readAddress writeAddress count kind) k = k
+calendarEvent z (storeDone node address new) k = k
+calendarEvent z (orderDone schedule periodNumber) k = orderCalendar schedule periodNumber k
+calendarEvent z cycleDone k = nextCalendar z k
 
 abbrev pub calendarAll : List ℕ → List Event → Calendar → Calendar
 calendarAll z [] k = k

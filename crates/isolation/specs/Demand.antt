@@ -13,16 +13,16 @@ use Rattle.sheet.specs.declared.circuits.Circuit.{Circuit}
 use Rattle.sheet.specs.declared.entries.Entry.{Entry}
 use Rattle.sheet.specs.Sheet.{columns, rows, circuits, schedules, nodes, circuitAt, period, entriesOf, entryCount, entryAt}
 use Rattle.sheet.specs.Slots.{slotLength, sourceOf, destinationOf}
-use Rattle.sheet.specs.Rules.{entryRoute, hopsOf}
+use Rattle.sheet.specs.Rules.{entryRoute, routeHops}
 use Rattle.session.specs.declared.Found.{Found}
 use Rattle.session.specs.declared.Found.the-variants.{Word as FoundWord}
 use Rattle.session.specs.declared.Landed.{Landed}
 use Rattle.session.specs.declared.Landed.the-variants.{Nothing, Word as LandedWord, Refused}
 use Rattle.session.specs.Answers.{foundOf, landedOf}
-use Rattle.session.specs.Calls.{Lent, Call, landed, cycle, number, stateNumber, leftNumber, placeNumber, landedNumber, periodNumberIn, wordsLeft, fetched, lastLanding}
-use Rattle.isolation.specs.Sessions.{Session, isCycle, opened, standing, Event, started, wrote, ordered, cycled, eventsBefore}
+use Rattle.session.specs.Calls.{Lent, Call, landed, cycle, number, stateNumber, leftNumber, placeNumber, landedNumber, periodNumberIn, wordsLeft, fetched, lastLanding, ask}
+use Rattle.isolation.specs.Sessions.{Session, isCycle, afterLoad, standing, Event, startDone, storeDone, orderDone, cycleDone, eventsBefore}
 use Rattle.isolation.specs.Calendar.{Calendar, calendarAfter}
-use Rattle.isolation.specs.Reckoning.{Item, none, item, Reckoned, owed, circuitHops, flightCycles, landedLast, reckon}
+use Rattle.isolation.specs.Reckoning.{Item, none, item, Reckoned, owed, hopsOf, flightCycles, lastReckoned, reckon}
 
 -- the answers of words left, fetch, the period number and what landed
 abbrev pub leftAnswer : Lent → ℕ → Found
@@ -42,10 +42,10 @@ abbrev pub inRegion : Region → ℕ → Bool
 inRegion r address = r .offset ≤? address and address <? r .offset + r .size
 
 -- what landed, as far as it falls into a region
-abbrev pub landedIn : Region → Landed → Item
-landedIn r Nothing = none
-landedIn r (LandedWord kind address w) = pick (inRegion r address) (item kind address w) none
-landedIn r (Refused n) = none
+abbrev pub itemWithin : Region → Landed → Item
+itemWithin r Nothing = none
+itemWithin r (LandedWord kind address w) = pick (inRegion r address) (item kind address w) none
+itemWithin r (Refused n) = none
 
 -- the calendar of a session after its first k calls
 abbrev pub calendarAt : Session → ℕ → Calendar
@@ -63,12 +63,12 @@ abbrev pub CycleAt : Session → ℕ → Type 0
 CycleAt l k = (k < length (l .calls)) × (isCycle (getD (l .calls) k cycle) ≡ true)
 
 -- what landed at the circuit's destination, as the session answers after its first k calls
-abbrev pub landedAt : Session → ℕ → ℕ → Landed
-landedAt l circuit k = landedAnswer (standing l k) (destinationOf (l .sheet) circuit)
+abbrev pub answerAtDestination : Session → ℕ → ℕ → Landed
+answerAtDestination l circuit k = landedAnswer (standing l k) (destinationOf (l .sheet) circuit)
 
 -- and of it what is the circuit's
-abbrev pub landingAt : Session → ℕ → ℕ → Item
-landingAt l circuit k = landedIn (itsRecord l circuit .receive) (landedAt l circuit k)
+abbrev pub circuitLanding : Session → ℕ → ℕ → Item
+circuitLanding l circuit k = itemWithin (itsRecord l circuit .receive) (answerAtDestination l circuit k)
 
 -- entry i of schedule j of a sheet
 abbrev pub entryIn : List ℕ → ℕ → ℕ → Entry
@@ -79,16 +79,16 @@ pub record AsReckoned (l : Session) (circuit : ℕ) : Type 0 where
   -- each of its entries has so many side outputs as hops are reckoned
   pub side-outputs : (j i : ℕ) → j < schedules (l .sheet) → i < entryCount (entriesOf (l .sheet) j)
       → entryIn (l .sheet) j i .circuit ≡ circuit
-      → hopsOf (entryRoute (l .sheet) (entryIn (l .sheet) j i)) ≡ circuitHops (l .sheet) circuit
+      → routeHops (entryRoute (l .sheet) (entryIn (l .sheet) j i)) ≡ hopsOf (l .sheet) circuit
   -- at every point words left answers the owed words
   pub words-left : (k : ℕ) → k ≤ length (l .calls) → leftAnswer (standing l k) circuit ≡ FoundWord (owed (reckonedAt l circuit k))
   -- what is reckoned to leave in cycle t, with kind, address and word, is what the session answers as landed at the destination directly
   -- after cycle t + 3 × (hops + 1), which is call k
   pub lands : (k t kind address w : ℕ) → CycleAt l k → calendarAt l k .cycles ≡ t + flightCycles (l .sheet) circuit
-      → reckonedAt l circuit k .leaving t ≡ item kind address w → landedAt l circuit (suc k) ≡ LandedWord kind address w
+      → reckonedAt l circuit k .leaving t ≡ item kind address w → answerAtDestination l circuit (suc k) ≡ LandedWord kind address w
   -- at every point what landed last in its receive region is what left so many cycles before, or nothing
   pub landings : (k : ℕ) → k ≤ length (l .calls)
-      → landingAt l circuit k ≡ landedLast (l .sheet) circuit (reckonedAt l circuit k) (calendarAt l k .cycles)
+      → circuitLanding l circuit k ≡ lastReckoned (l .sheet) circuit (reckonedAt l circuit k) (calendarAt l k .cycles)
   -- its regions' words are those at load, changed only by stores and these landings
   pub read-region : (k address : ℕ) → k ≤ length (l .calls) → inRegion (itsRecord l circuit .read) address ≡ true
       → fetchAnswer (standing l k) (sourceOf (l .sheet) circuit) address ≡ FoundWord (reckonedAt l circuit k .readWords address)
@@ -117,26 +117,26 @@ pub data Act : Type 0 where
   receiveStored : ℕ → ℕ → Act
 
 abbrev pub actOf : List ℕ → ℕ → Event → List Act
-actOf z circuit (started c readAddress writeAddress count kind) =
+actOf z circuit (startDone c readAddress writeAddress count kind) =
     pick (c =? circuit) (began readAddress writeAddress count kind ∷ []) []
-actOf z circuit (wrote node address new) =
+actOf z circuit (storeDone node address new) =
     pick (node =? sourceOf z circuit and inRegion (circuitAt z circuit .read) address) (readStored address new ∷ []) []
     ++ pick (node =? destinationOf z circuit and inRegion (circuitAt z circuit .receive) address) (receiveStored address new ∷ []) []
-actOf z circuit (ordered schedule periodNumber) = []
-actOf z circuit cycled = []
+actOf z circuit (orderDone schedule periodNumber) = []
+actOf z circuit cycleDone = []
 
 -- its acts after t cycles and before the next
 abbrev pub actsAfter : List ℕ → ℕ → List Event → ℕ → List Act
 actsAfter z circuit [] t = []
-actsAfter z circuit (cycled ∷ es) zero = []
-actsAfter z circuit (cycled ∷ es) (suc t) = actsAfter z circuit es t
-actsAfter z circuit (started c readAddress writeAddress count kind ∷ es) zero =
-    actOf z circuit (started c readAddress writeAddress count kind) ++ actsAfter z circuit es zero
-actsAfter z circuit (started c readAddress writeAddress count kind ∷ es) (suc t) = actsAfter z circuit es (suc t)
-actsAfter z circuit (wrote node address new ∷ es) zero = actOf z circuit (wrote node address new) ++ actsAfter z circuit es zero
-actsAfter z circuit (wrote node address new ∷ es) (suc t) = actsAfter z circuit es (suc t)
-actsAfter z circuit (ordered schedule periodNumber ∷ es) zero = actsAfter z circuit es zero
-actsAfter z circuit (ordered schedule periodNumber ∷ es) (suc t) = actsAfter z circuit es (suc t)
+actsAfter z circuit (cycleDone ∷ es) zero = []
+actsAfter z circuit (cycleDone ∷ es) (suc t) = actsAfter z circuit es t
+actsAfter z circuit (startDone c readAddress writeAddress count kind ∷ es) zero =
+    actOf z circuit (startDone c readAddress writeAddress count kind) ++ actsAfter z circuit es zero
+actsAfter z circuit (startDone c readAddress writeAddress count kind ∷ es) (suc t) = actsAfter z circuit es (suc t)
+actsAfter z circuit (storeDone node address new ∷ es) zero = actOf z circuit (storeDone node address new) ++ actsAfter z circuit es zero
+actsAfter z circuit (storeDone node address new ∷ es) (suc t) = actsAfter z circuit es (suc t)
+actsAfter z circuit (orderDone schedule periodNumber ∷ es) zero = actsAfter z circuit es zero
+actsAfter z circuit (orderDone schedule periodNumber ∷ es) (suc t) = actsAfter z circuit es (suc t)
 
 -- the schedule in force in cycle t, by the calendar
 abbrev pub scheduleIn : Session → ℕ → ℕ
@@ -150,9 +150,9 @@ pub record Alike (a b : Session) (c d n : ℕ) : Type 0 where
   pub same-record : itsRecord a c ≡ itsRecord b d
   -- its regions' words at load
   pub same-read : (address : ℕ) → inRegion (itsRecord a c .read) address ≡ true
-      → fetchAnswer (opened a) (sourceOf (a .sheet) c) address ≡ fetchAnswer (opened b) (sourceOf (b .sheet) d) address
+      → fetchAnswer (afterLoad a) (sourceOf (a .sheet) c) address ≡ fetchAnswer (afterLoad b) (sourceOf (b .sheet) d) address
   pub same-receive : (address : ℕ) → inRegion (itsRecord a c .receive) address ≡ true
-      → fetchAnswer (opened a) (destinationOf (a .sheet) c) address ≡ fetchAnswer (opened b) (destinationOf (b .sheet) d) address
+      → fetchAnswer (afterLoad a) (destinationOf (a .sheet) c) address ≡ fetchAnswer (afterLoad b) (destinationOf (b .sheet) d) address
   -- its starts and the stores into its regions, in order, each after the same number of cycles, before the last of the n
   pub same-acts : (t : ℕ) → t < n
       → actsAfter (a .sheet) c (eventsBefore a (length (a .calls))) t ≡ actsAfter (b .sheet) d (eventsBefore b (length (b .calls))) t
@@ -164,7 +164,7 @@ pub record Alike (a b : Session) (c d n : ℕ) : Type 0 where
 -- then nobody can tell the two apart by what the circuit delivers
 pub record Undisturbed (a b : Session) (c d n : ℕ) : Type 0 where
   -- its landings so far, by cycle
-  pub landings : (t : ℕ) → t < n → landingAt a c (pointAfter a (suc t)) ≡ landingAt b d (pointAfter b (suc t))
+  pub landings : (t : ℕ) → t < n → circuitLanding a c (pointAfter a (suc t)) ≡ circuitLanding b d (pointAfter b (suc t))
   -- its words left
   pub words-left : leftAnswer (standing a (pointAfter a n)) c ≡ leftAnswer (standing b (pointAfter b n)) d
   -- its regions' words
@@ -183,8 +183,8 @@ pub record Demand3 : Type 0 where
   pub period-number : (l : Session) (k : ℕ) → k ≤ length (l .calls) → periodAnswer (standing l k) ≡ FoundWord (calendarAt l k .number)
   -- at every node and point what landed is answered; nothing has directly after the load, and a call that is no cycle leaves the answer
   pub landed-answered : (l : Session) (k node : ℕ) → k ≤ length (l .calls) → node < nodes (l .sheet)
-      → number (landed node) (standing l k) ≡ 0
-  pub landed-at-load : (l : Session) (node : ℕ) → node < nodes (l .sheet) → landedAnswer (opened l) node ≡ Nothing
+      → number (ask (landed node)) (standing l k) ≡ 0
+  pub landed-at-load : (l : Session) (node : ℕ) → node < nodes (l .sheet) → landedAnswer (afterLoad l) node ≡ Nothing
   pub landed-kept : (l : Session) (k node : ℕ) → k < length (l .calls) → node < nodes (l .sheet)
       → isCycle (getD (l .calls) k cycle) ≡ false → landedAnswer (standing l (suc k)) node ≡ landedAnswer (standing l k) node
   -- for every circuit what is answered is what is reckoned

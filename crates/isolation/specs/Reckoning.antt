@@ -9,7 +9,7 @@ use Rattle.torus.specs.Torus.{distanceOf}
 use Rattle.torus.specs.Route.{routerCycles}
 use Rattle.sheet.specs.Sheet.{columns, rows, memoryWords}
 use Rattle.sheet.specs.Slots.{slotLength, sourceOf, destinationOf}
-use Rattle.isolation.specs.Sessions.{Event, started, wrote, ordered, cycled}
+use Rattle.isolation.specs.Sessions.{Event, startDone, storeDone, orderDone, cycleDone}
 use Rattle.isolation.specs.Calendar.{Calendar, calendarAtLoad, calendarEvent}
 
 -- a word on its way or landed: nothing, or kind, address and word
@@ -26,7 +26,7 @@ pub record Reckoned : Type 0 where
   pub count : ℕ
   pub kind : ℕ
   pub gone : ℕ
-  pub opened : ℕ → ℕ
+  pub packetWords : ℕ → ℕ
   pub leaving : ℕ → Item
   pub readWords : ℕ → ℕ
   pub receiveWords : ℕ → ℕ
@@ -36,30 +36,30 @@ abbrev pub owed : Reckoned → ℕ
 owed r = r .count - r .gone
 
 -- hops of a circuit's routes: by number 9 as many as the distance of its nodes
-abbrev pub circuitHops : List ℕ → ℕ → ℕ
-circuitHops z circuit = distanceOf (columns z) (rows z) (sourceOf z circuit) (destinationOf z circuit)
+abbrev pub hopsOf : List ℕ → ℕ → ℕ
+hopsOf z circuit = distanceOf (columns z) (rows z) (sourceOf z circuit) (destinationOf z circuit)
 
 -- cycles from leaving to landing: three for each router
 abbrev pub flightCycles : List ℕ → ℕ → ℕ
-flightCycles z circuit = routerCycles * (circuitHops z circuit + 1)
+flightCycles z circuit = routerCycles * (hopsOf z circuit + 1)
 
 -- what is reckoned to land in a cycle: what left so many cycles before
-unfoldable pub landingIn : List ℕ → ℕ → Reckoned → ℕ → Item
-landingIn z circuit r t = pick (flightCycles z circuit ≤? t) (r .leaving (t - flightCycles z circuit)) none
+unfoldable pub reckonedLanding : List ℕ → ℕ → Reckoned → ℕ → Item
+reckonedLanding z circuit r t = pick (flightCycles z circuit ≤? t) (r .leaving (t - flightCycles z circuit)) none
 
 -- what is reckoned to have landed last, after so many cycles: what landed in the last of them, and nothing before the first
-abbrev pub landedLast : List ℕ → ℕ → Reckoned → ℕ → Item
-landedLast z circuit r cycles = pick (1 ≤? cycles) (landingIn z circuit r (cycles - 1)) none
+abbrev pub lastReckoned : List ℕ → ℕ → Reckoned → ℕ → Item
+lastReckoned z circuit r cycles = pick (1 ≤? cycles) (reckonedLanding z circuit r (cycles - 1)) none
 
 -- a memory word after a landing
-abbrev pub storedBy : Item → ℕ → ℕ → ℕ
-storedBy none address w = w
-storedBy (item kind at new) address w = pick (at =? address) new w
+abbrev pub wordAfter : Item → ℕ → ℕ → ℕ
+wordAfter none address w = w
+wordAfter (item kind at new) address w = pick (at =? address) new w
 
 -- in cycle t a word leaves: some slot began in a cycle s before it, whose packet has min (length − 1) (owed words) payload words, and t
 -- is one of the cycles s + 1 to s + that number
 unfoldable pub leavesIn : Reckoned → ℕ → Bool
-leavesIn r t = any t (λ s. t ≤? s + r .opened s)
+leavesIn r t = any t (λ s. t ≤? s + r .packetWords s)
 
 -- the next word of the transfer, with the word that its read address holds as the cycle begins
 abbrev pub nextItem : Reckoned → Item
@@ -73,7 +73,7 @@ startOn readAddress writeAddress count kind r = record {
   count = count;
   kind = kind;
   gone = 0;
-  opened = r .opened;
+  packetWords = r .packetWords;
   leaving = r .leaving;
   readWords = r .readWords;
   receiveWords = r .receiveWords;
@@ -88,10 +88,10 @@ module _ (z : List ℕ) (circuit : ℕ) where
     count = r .count;
     kind = r .kind;
     gone = r .gone + pick (leavesIn r (k .cycles)) 1 0;
-    opened = λ t. pick (t =? k .cycles) (min (slotLength z (k .schedule) (k .cycle) circuit - 1) (owed r)) (r .opened t);
+    packetWords = λ t. pick (t =? k .cycles) (min (slotLength z (k .schedule) (k .cycle) circuit - 1) (owed r)) (r .packetWords t);
     leaving = λ t. pick (t =? k .cycles) (pick (leavesIn r (k .cycles)) (nextItem r) none) (r .leaving t);
     readWords = r .readWords;
-    receiveWords = λ address. storedBy (landingIn z circuit r (k .cycles)) address (r .receiveWords address);
+    receiveWords = λ address. wordAfter (reckonedLanding z circuit r (k .cycles)) address (r .receiveWords address);
   }
 
   -- a store at the circuit's source or destination
@@ -102,7 +102,7 @@ module _ (z : List ℕ) (circuit : ℕ) where
     count = r .count;
     kind = r .kind;
     gone = r .gone;
-    opened = r .opened;
+    packetWords = r .packetWords;
     leaving = r .leaving;
     readWords = λ at. pick (node =? sourceOf z circuit and at =? address) new (r .readWords at);
     receiveWords = λ at. pick (node =? destinationOf z circuit and at =? address) new (r .receiveWords at);
@@ -110,11 +110,11 @@ module _ (z : List ℕ) (circuit : ℕ) where
 
   -- an event, before which the calendar was k; an order changes the calendar alone
   abbrev pub reckonEvent : Event → Calendar → Reckoned → Reckoned
-  reckonEvent (started c readAddress writeAddress count kind) k r =
+  reckonEvent (startDone c readAddress writeAddress count kind) k r =
       pick (c =? circuit) (startOn readAddress writeAddress count kind r) r
-  reckonEvent (wrote node address new) k r = storeOn node address new r
-  reckonEvent (ordered schedule periodNumber) k r = r
-  reckonEvent cycled k r = cycleOn k r
+  reckonEvent (storeDone node address new) k r = storeOn node address new r
+  reckonEvent (orderDone schedule periodNumber) k r = r
+  reckonEvent cycleDone k r = cycleOn k r
 
   -- directly after the load: nothing owed, nothing left, the memories as lent
   abbrev pub atLoad : List ℕ → Reckoned
@@ -124,7 +124,7 @@ module _ (z : List ℕ) (circuit : ℕ) where
     count = 0;
     kind = 0;
     gone = 0;
-    opened = λ t. 0;
+    packetWords = λ t. 0;
     leaving = λ t. none;
     readWords = λ address. word memory (sourceOf z circuit * memoryWords z + address);
     receiveWords = λ address. word memory (destinationOf z circuit * memoryWords z + address);

@@ -7,18 +7,15 @@ use mathlib.Core.Path.{_≡_}
 use lib.ListN.{take}
 use Rattle.words.specs.Tests.{_=?_}
 use Rattle.words.specs.Words.{pick}
-use Rattle.session.specs.Calls.{Lent, Call, load, start, store, fetch, left, periodNumber, landed, order, cycle, isLoad, number, does, after}
+use Rattle.session.specs.Calls.{Lent, Call, load, start, store, order, cycle, isLoad, number, does, after, ask}
 
 abbrev pub isCycle : Call → Bool
 isCycle (load z) = false
 isCycle (start circuit readAddress writeAddress count kind) = false
 isCycle (store node address new) = false
-isCycle (fetch node address) = false
-isCycle (left circuit) = false
-isCycle periodNumber = false
-isCycle (landed node) = false
 isCycle (order schedule period) = false
 isCycle cycle = true
+isCycle (ask question) = false
 
 -- the lent words after some calls
 abbrev pub run : List Call → Lent → Lent
@@ -38,29 +35,26 @@ pub record Session : Type 0 where
   pub loads-refused : LoadsRefused calls (does (load sheet) lent)
 
 -- the lent words directly after the load, and after the first k calls behind it
-abbrev pub opened : Session → Lent
-opened l = does (load (l .sheet)) (l .lent)
+abbrev pub afterLoad : Session → Lent
+afterLoad l = does (load (l .sheet)) (l .lent)
 
 abbrev pub standing : Session → ℕ → Lent
-standing l k = run (take k (l .calls)) (opened l)
+standing l k = run (take k (l .calls)) (afterLoad l)
 
 -- what calls that are carried out tell: a transfer started, a word stored, a switch ordered, a cycle
 pub data Event : Type 0 where
-  started : ℕ → ℕ → ℕ → ℕ → ℕ → Event
-  wrote : ℕ → ℕ → ℕ → Event
-  ordered : ℕ → ℕ → Event
-  cycled : Event
+  startDone : ℕ → ℕ → ℕ → ℕ → ℕ → Event
+  storeDone : ℕ → ℕ → ℕ → Event
+  orderDone : ℕ → ℕ → Event
+  cycleDone : Event
 
 abbrev pub eventOf : Call → List Event
 eventOf (load z) = []
-eventOf (start circuit readAddress writeAddress count kind) = started circuit readAddress writeAddress count kind ∷ []
-eventOf (store node address new) = wrote node address new ∷ []
-eventOf (fetch node address) = []
-eventOf (left circuit) = []
-eventOf periodNumber = []
-eventOf (landed node) = []
-eventOf (order schedule period) = ordered schedule period ∷ []
-eventOf cycle = cycled ∷ []
+eventOf (start circuit readAddress writeAddress count kind) = startDone circuit readAddress writeAddress count kind ∷ []
+eventOf (store node address new) = storeDone node address new ∷ []
+eventOf (order schedule period) = orderDone schedule period ∷ []
+eventOf cycle = cycleDone ∷ []
+eventOf (ask question) = []
 
 -- the events of some calls: those that answer 0
 abbrev pub events : List Call → Lent → List Event
@@ -69,4 +63,4 @@ events (x ∷ calls) w = pick (number x w =? 0) (eventOf x) [] ++ events calls (
 
 -- the events of a session's first k calls
 abbrev pub eventsBefore : Session → ℕ → List Event
-eventsBefore l k = events (take k (l .calls)) (opened l)
+eventsBefore l k = events (take k (l .calls)) (afterLoad l)

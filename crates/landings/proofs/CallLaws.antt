@@ -21,7 +21,7 @@ use Rattle.session.specs.Calls.{memoryNumber, loadNumber, loaded, startNumber, 
 use Rattle.session.proofs.AnswerLaws.{number-is}
 use Rattle.landings.specs.declared.input.Message.{Message}
 use Rattle.landings.specs.declared.input.Message.the-variants.{Runs}
-use Rattle.landings.specs.Input.{sheetLength, sheetOf, memorySize, memoryOf, transfersPlace, transfers, transferPlace}
+use Rattle.landings.specs.Input.{statedLength, sheetOf, memorySize, memoryOf, transfersPlace, transfers, transferPlace}
 use Rattle.landings.specs.Lines.{lent}
 use Rattle.landings.specs.Messages.{Called, called, inputMessage, transferNumber, transferStarted, startNext, startsOn, callsOn, calls, refusalOf, callsMessage, message, behind}
 use Rattle.landings.proofs.MessageLaws.{whole}
@@ -137,9 +137,9 @@ start-done bytes count s₀ s k i l =
 
 -- where the parts lie of an input whose words are all there
 module _ (bytes : List ℕ) {sheet : List ℕ} (z : sheet ≡ sheetOf bytes) where
-  sheet-long : length sheet ≡ sheetLength bytes
+  sheet-long : length sheet ≡ statedLength bytes
   unfolding sheetOf
-  sheet-long = ap length z ∙ length-tab (sheetLength bytes) (λ k. wordIn bytes (1 + k))
+  sheet-long = ap length z ∙ length-tab (statedLength bytes) (λ k. wordIn bytes (1 + k))
 
   pub place-is : {size : ℕ} → size ≡ memorySize bytes → 1 + length sheet + size ≡ transfersPlace bytes
   place-is l = omega (arith, sheet-long, l)

@@ -18,7 +18,7 @@ use Rattle.soundness.proofs.SheetLaws.{sheet-bounds}
 use Rattle.session.proofs.ReadingLaws.{few-words}
 use Rattle.landings.specs.declared.input.Message.{Message}
 use Rattle.landings.specs.declared.input.Message.the-variants.{TooLarge, InputEnds, Refused, Runs}
-use Rattle.landings.specs.Input.{mostSheet, mostMemory, mostTransfers, mostCycles, sheetLength, sheetOf, memoryPlace, memorySize, transfersPlace, transfers, cyclesPlace, cycles}
+use Rattle.landings.specs.Input.{mostSheet, mostMemory, mostTransfers, mostCycles, statedLength, sheetOf, memoryPlace, memorySize, transfersPlace, transfers, cyclesPlace, cyclesAsked}
 use Rattle.landings.specs.Messages.{cyclesMessage, transfersMessage, memoryMessage, checkedMessage, inputMessage}
 
 -- a test applies, or it does not and the rest decides
@@ -35,8 +35,8 @@ module _ (b : List ℕ) (at : ℕ) (p : at ≡ cyclesPlace b) where
   cycles-end h = stops _ _ (yes< (omega (arith, p, h)))
 
   module _ (h : 4 * (at + 1) ≤ length b) {count : ℕ} (e : count ≡ wordIn b at) where
-    cycles-are : count ≡ cycles b
-    unfolding cycles
+    cycles-are : count ≡ cyclesAsked b
+    unfolding cyclesAsked
     cycles-are = e ∙ ap (wordIn b) p
 
     pub cycles-over : mostCycles < count → TooLarge ≡ cyclesMessage b
@@ -94,7 +94,7 @@ module _ (z : List ℕ) (e : verdict z ≡ 0) {a b : ℕ} (p : a ≡ columns z) 
   few-in-all r = omega (arith, size-is r, few-words z (sheet-bounds z e))
 
 -- the checker
-module _ (b : List ℕ) {sheet : List ℕ} {n : ℕ} (l : n ≡ sheetLength b) (q : sheet ≡ tab n (λ k. wordIn b (1 + k))) where
+module _ (b : List ℕ) {sheet : List ℕ} {n : ℕ} (l : n ≡ statedLength b) (q : sheet ≡ tab n (λ k. wordIn b (1 + k))) where
   pub sheet-is : sheet ≡ sheetOf b
   unfolding sheetOf
   sheet-is = q ∙ ap (λ m. tab m (λ k. wordIn b (1 + k))) l
@@ -139,22 +139,22 @@ module _ (b : List ℕ) where
 pub part-length : (n m : ℕ) → n ≤ m → length {A = ℕ} (take n (replicate m 0)) ≡ n
 part-length n m h = length-take-le n (replicate m 0) (omega (arith, length-replicate {A = ℕ} m 0))
 
-pub part-ready : (n m : ℕ) (b : List ℕ) → n ≤ m → m ≤ 8597 → 4 * (1 + n) ≤ length b → n ≡ sheetLength b
+pub part-ready : (n m : ℕ) (b : List ℕ) → n ≤ m → m ≤ 8597 → 4 * (1 + n) ≤ length b → n ≡ statedLength b
     → (4 * (1 + length {A = ℕ} (take n (replicate m 0))) ≤ length b)
-    × (length {A = ℕ} (take n (replicate m 0)) ≡ sheetLength b)
+    × (length {A = ℕ} (take n (replicate m 0)) ≡ statedLength b)
     × (length {A = ℕ} (take n (replicate m 0)) ≤ 8597)
 part-ready n m b h s k e = (omega (arith, part-length n m h), part-length n m h ∙ e, omega (arith, part-length n m h))
 
 -- what an input has whose words are all there
 pub record Whole (bytes : List ℕ) : Type 0 where
   pub some : 4 ≤ length bytes
-  pub small-sheet : sheetLength bytes ≤ mostSheet
+  pub small-sheet : statedLength bytes ≤ mostSheet
   pub sheet-there : 4 * memoryPlace bytes ≤ length bytes
   pub passes : verdict (sheetOf bytes) ≡ 0
   pub small-memory : memorySize bytes ≤ mostMemory
   pub few-transfers : transfers bytes ≤ mostTransfers
   pub long : 4 * (cyclesPlace bytes + 1) ≤ length bytes
-  pub few-cycles : cycles bytes ≤ mostCycles
+  pub few-cycles : cyclesAsked bytes ≤ mostCycles
 
 abbrev pub isRuns : Message → Bool
 isRuns TooLarge = false
@@ -179,11 +179,11 @@ not-less a b e = go (decLe b a)
     go (no p) = absurd (false≢true (sym e ∙ yes< (omega (arith, p))))
 
 module _ (b : List ℕ) where
-  cycles-passed : cyclesMessage b ≡ Runs → ((length b <? 4 * (cyclesPlace b + 1)) ≡ false) × ((mostCycles <? cycles b) ≡ false)
+  cycles-passed : cyclesMessage b ≡ Runs → ((length b <? 4 * (cyclesPlace b + 1)) ≡ false) × ((mostCycles <? cyclesAsked b) ≡ false)
   unfolding cyclesMessage
   cycles-passed e =
-      let p = passed (length b <? 4 * (cyclesPlace b + 1)) InputEnds (pick (mostCycles <? cycles b) TooLarge Runs) refl e in
-      (p .0, passed (mostCycles <? cycles b) TooLarge Runs refl (p .1) .0)
+      let p = passed (length b <? 4 * (cyclesPlace b + 1)) InputEnds (pick (mostCycles <? cyclesAsked b) TooLarge Runs) refl e in
+      (p .0, passed (mostCycles <? cyclesAsked b) TooLarge Runs refl (p .1) .0)
 
   transfers-passed : transfersMessage b ≡ Runs → ((mostTransfers <? transfers b) ≡ false) × (cyclesMessage b ≡ Runs)
   unfolding transfersMessage
@@ -201,12 +201,12 @@ module _ (b : List ℕ) where
   checked-passed e = accepted (verdict (sheetOf b) =? 0) (memoryMessage b) (Refused (verdict (sheetOf b))) refl e
 
   sheet-passed : inputMessage b ≡ Runs
-      → ((length b <? 4 * 1) ≡ false) × ((mostSheet <? sheetLength b) ≡ false) × ((length b <? 4 * memoryPlace b) ≡ false) × (checkedMessage b ≡ Runs)
+      → ((length b <? 4 * 1) ≡ false) × ((mostSheet <? statedLength b) ≡ false) × ((length b <? 4 * memoryPlace b) ≡ false) × (checkedMessage b ≡ Runs)
   unfolding inputMessage
   sheet-passed e =
       let last = pick (length b <? 4 * memoryPlace b) InputEnds (checkedMessage b) in
-      let p = passed (length b <? 4 * 1) InputEnds (pick (mostSheet <? sheetLength b) TooLarge last) refl e in
-      let q = passed (mostSheet <? sheetLength b) TooLarge last refl (p .1) in
+      let p = passed (length b <? 4 * 1) InputEnds (pick (mostSheet <? statedLength b) TooLarge last) refl e in
+      let q = passed (mostSheet <? statedLength b) TooLarge last refl (p .1) in
       let r = passed (length b <? 4 * memoryPlace b) InputEnds (checkedMessage b) refl (q .1) in
       (p .0, q .0, r .0, r .1)
 
@@ -246,8 +246,8 @@ module _ (b : List ℕ) where
       pub all-there : 4 * (at + 1 + 5 * count) + 3 < length b
       all-there = omega (arith, p, count-is, whole e .long)
 
-      pub cycles-is : {n : ℕ} → n ≡ wordIn b (at + 1 + 5 * count) → n ≡ cycles b
-      unfolding cycles
+      pub cycles-is : {n : ℕ} → n ≡ wordIn b (at + 1 + 5 * count) → n ≡ cyclesAsked b
+      unfolding cyclesAsked
       cycles-is r =
           let there : at + 1 + 5 * count ≡ cyclesPlace b = omega (arith, p, count-is) in
           r ∙ ap (wordIn b) there

@@ -18,11 +18,11 @@ use Rattle.listing.specs.Text.{lineEnd, field}
 use Rattle.listing.proofs.TextLaws.{putAll-front, field-short}
 use Rattle.landings.specs.declared.input.Message.{Message}
 use Rattle.landings.specs.declared.input.Message.the-variants.{TooLarge, InputEnds, Refused, Runs}
-use Rattle.landings.specs.Input.{sheetOf, memoryOf, cycles}
+use Rattle.landings.specs.Input.{sheetOf, memoryOf, cyclesAsked}
 use Rattle.landings.specs.Messages.{inputMessage, calls, refusalOf, callsMessage, message, behind}
 use Rattle.landings.specs.Lines.{lent, cycleLines, cyclesLines, cyclesOn}
 use Rattle.listing.specs.Text.{tooLarge, inputEnds, refused}
-use Rattle.landings.specs.Output.{heading, beforeCycles, allLines, printed, outputOf, HasAt, cyclesRun, atEnd}
+use Rattle.landings.specs.Output.{heading, beforeCycles, allLines, printed, printout, HasAt, cyclesRun, atEnd}
 use Rattle.landings.proofs.MessageLaws.{whole, isRuns}
 use Rattle.landings.proofs.PageLaws.{lines-short}
 use Rattle.landings.proofs.CallLaws.{calls-ready}
@@ -81,8 +81,8 @@ message-stops bytes v n e = ap (λ (x : Message). behind x (callsMessage bytes))
     stays Runs n = absurd (false≢true (sym n))
 
 -- the output of each message
-pub output-is : (bytes : List ℕ) {v : Message} → message bytes ≡ v → outputOf bytes ≡ printed v (allLines bytes)
-unfolding outputOf
+pub output-is : (bytes : List ℕ) {v : Message} → message bytes ≡ v → printout bytes ≡ printed v (allLines bytes)
+unfolding printout
 output-is bytes e = ap (λ (x : Message). printed x (allLines bytes)) e
 
 -- cycles and lines, some behind others
@@ -117,8 +117,8 @@ all-short nodes first (suc k) w few =
       length-append (cyclesLines nodes first k w) (cycleLines nodes (first + k) (cyclesOn (suc k) w .state)),
     )
 
-pub output-short : (bytes : List ℕ) → length (outputOf bytes) ≤ 62914589
-unfolding outputOf tooLarge inputEnds refused heading allLines
+pub output-short : (bytes : List ℕ) → length (printout bytes) ≤ 62914589
+unfolding printout tooLarge inputEnds refused heading allLines
 output-short bytes = go (message bytes) refl
   where
     go : (v : Message) → message bytes ≡ v → length (printed v (allLines bytes)) ≤ 62914589
@@ -132,12 +132,12 @@ output-short bytes = go (message bytes) refl
           arith,
           w .few-cycles,
           length-append heading (allLines bytes),
-          all-short (nodes (sheetOf bytes)) 0 (cycles bytes) (beforeCycles bytes) few,
+          all-short (nodes (sheetOf bytes)) 0 (cyclesAsked bytes) (beforeCycles bytes) few,
         )
 
 -- the line of a refusal, in two parts
 module _ (bytes : List ℕ) (n : ℕ) (e : message bytes ≡ Refused n) where
-  pub refused-has : {place : ℕ} → place ≡ 0 → HasAt (outputOf bytes) place refused
+  pub refused-has : {place : ℕ} → place ≡ 0 → HasAt (printout bytes) place refused
   refused-has p = has-front refused (field n lineEnd) (output-is bytes e) p
 
   module _ (start line : List ℕ) (end place next : ℕ)
@@ -152,11 +152,11 @@ module _ (bytes : List ℕ) (n : ℕ) (e : message bytes ≡ Refused n) where
         ∙ ap (λ k. take k (putAll start 0 (field n lineEnd))) (f ∙ zero-add (length (field n lineEnd)))
         ∙ putAll-front start (field n lineEnd) (omega (arith, l, field-short n lineEnd))
 
-    pub number-has : HasAt (outputOf bytes) next (take end line)
+    pub number-has : HasAt (printout bytes) next (take end line)
     number-has =
         has-back refused (take end line) (output-is bytes e ∙ ap (λ (x : List ℕ). refused ++ x) (sym number-is)) (omega (arith, p, q))
 
-    pub refused-done : {last : ℕ} → last ≡ next + length (take end line) → last ≡ length (outputOf bytes)
+    pub refused-done : {last : ℕ} → last ≡ next + length (take end line) → last ≡ length (printout bytes)
     refused-done r =
         omega (
           arith,
@@ -183,11 +183,11 @@ before-is bytes {s} {m} e f = ap (λ (x : List ℕ). lent x m) e ∙ ap (λ (x :
 
 pub end-refused : (bytes : List ℕ) (n : ℕ) {w : Lent} → message bytes ≡ Refused n → w ≡ beforeCycles bytes → w ≡ atEnd bytes
 unfolding atEnd cyclesOn
-end-refused bytes n e f = f ∙ sym (ap (λ (x : Message). cyclesOn (cyclesRun x (cycles bytes)) (beforeCycles bytes)) e)
+end-refused bytes n e f = f ∙ sym (ap (λ (x : Message). cyclesOn (cyclesRun x (cyclesAsked bytes)) (beforeCycles bytes)) e)
 
-pub end-runs : (bytes : List ℕ) {w : Lent} → message bytes ≡ Runs → w ≡ cyclesOn (cycles bytes) (beforeCycles bytes) → w ≡ atEnd bytes
+pub end-runs : (bytes : List ℕ) {w : Lent} → message bytes ≡ Runs → w ≡ cyclesOn (cyclesAsked bytes) (beforeCycles bytes) → w ≡ atEnd bytes
 unfolding atEnd
-end-runs bytes e f = f ∙ sym (ap (λ (x : Message). cyclesOn (cyclesRun x (cycles bytes)) (beforeCycles bytes)) e)
+end-runs bytes e f = f ∙ sym (ap (λ (x : Message). cyclesOn (cyclesRun x (cyclesAsked bytes)) (beforeCycles bytes)) e)
 
 -- the words are ready for the cycles
 pub before-ready : (bytes : List ℕ) {s m : List ℕ} → message bytes ≡ Runs → lent s m ≡ beforeCycles bytes → memoryNumber s m ≡ 0
@@ -197,27 +197,27 @@ before-ready bytes e f =
     ∙ calls-ready bytes (replicate stateWords 0) (memoryOf bytes) (runs-called bytes e)
 
 -- the output is the heading and the lines, as many as the input has nodes and cycles
-pub lines-are : (bytes : List ℕ) (n last : ℕ) → message bytes ≡ Runs → n ≡ nodes (sheetOf bytes) → last ≡ cycles bytes
-    → outputOf bytes ≡ heading ++ cyclesLines n 0 last (beforeCycles bytes)
+pub lines-are : (bytes : List ℕ) (n last : ℕ) → message bytes ≡ Runs → n ≡ nodes (sheetOf bytes) → last ≡ cyclesAsked bytes
+    → printout bytes ≡ heading ++ cyclesLines n 0 last (beforeCycles bytes)
 unfolding allLines
 lines-are bytes n last e p q =
     output-is bytes e
-    ∙ ap (λ k. heading ++ cyclesLines k 0 (cycles bytes) (beforeCycles bytes)) (sym p)
+    ∙ ap (λ k. heading ++ cyclesLines k 0 (cyclesAsked bytes) (beforeCycles bytes)) (sym p)
     ∙ ap (λ k. heading ++ cyclesLines n 0 k (beforeCycles bytes)) (sym q)
 
 pub few-nodes : (bytes : List ℕ) {n : ℕ} → message bytes ≡ Runs → n ≡ nodes (sheetOf bytes) → n ≤ 16
 few-nodes bytes e p = omega (arith, p, sheet-bounds (sheetOf bytes) (whole bytes (runs-whole bytes e) .passes) .few-nodes)
 
 -- the heading, and a message of one text
-pub heading-has : (bytes : List ℕ) {place : ℕ} → message bytes ≡ Runs → place ≡ 0 → HasAt (outputOf bytes) place heading
+pub heading-has : (bytes : List ℕ) {place : ℕ} → message bytes ≡ Runs → place ≡ 0 → HasAt (printout bytes) place heading
 heading-has bytes e p = has-front heading (allLines bytes) (output-is bytes e) p
 
-pub line-has : (bytes : List ℕ) {v : Message} {place : ℕ} → message bytes ≡ v → place ≡ 0 → HasAt (outputOf bytes) place (printed v (allLines bytes))
+pub line-has : (bytes : List ℕ) {v : Message} {place : ℕ} → message bytes ≡ v → place ≡ 0 → HasAt (printout bytes) place (printed v (allLines bytes))
 line-has bytes {v} e p = has-whole (printed v (allLines bytes)) (output-is bytes e) p
 
 pub line-done : (bytes : List ℕ) {v : Message} {place next : ℕ}
     → message bytes ≡ v
     → place ≡ 0
     → next ≡ place + length (printed v (allLines bytes))
-    → next ≡ length (outputOf bytes)
+    → next ≡ length (printout bytes)
 line-done bytes e p q = omega (arith, p, q, ap length (output-is bytes e))

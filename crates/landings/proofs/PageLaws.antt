@@ -14,7 +14,7 @@ use Rattle.words.specs.Words.{pick, putAll, leastFrom}
 use Rattle.words.proofs.TestLaws.{yes<, no<, is=}
 use Rattle.words.proofs.WordLaws.{length-putAll, leastFrom-most}
 use Rattle.network.specs.View.{Landing, nothing, landed}
-use Rattle.network.specs.Machine.{nextState, nextMemory}
+use Rattle.network.specs.Inner.Machine.{nextState, nextMemory}
 use Rattle.session.specs.declared.Landed.{Landed}
 use Rattle.session.specs.declared.Landed.the-variants.{Nothing, Word as LandedWord, Refused as LandedRefused}
 use Rattle.session.specs.Answers.{landedOf}
@@ -23,7 +23,7 @@ use Rattle.session.proofs.KeptLaws.{state-length-kept, memory-length-kept}
 use Rattle.listing.specs.Text.{landingLine}
 use Rattle.listing.proofs.TextLaws.{least-is, line-short, put-behind, putAll-front}
 use Rattle.landings.specs.Lines.{lent, lineFor, cycleLines, cyclesLines, cyclesOn}
-use Rattle.landings.specs.Pages.{cycleRoom, pageCycles}
+use Rattle.landings.specs.Inner.Pages.{cycleRoom, pageCycles}
 use Rattle.landings.proofs.ReadyLaws.{ready-kept}
 
 -- the line of an answer

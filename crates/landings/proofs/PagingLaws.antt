@@ -9,11 +9,11 @@ use lib.ListN.{length, length-append}
 use Rattle.sheet.specs.Sheet.{nodes}
 use Rattle.session.specs.Calls.{memoryNumber, Lent}
 use Rattle.landings.specs.declared.input.Message.the-variants.{Runs}
-use Rattle.landings.specs.Input.{sheetOf, cycles}
+use Rattle.landings.specs.Input.{sheetOf, cyclesAsked}
 use Rattle.landings.specs.Messages.{message}
 use Rattle.landings.specs.Lines.{lent, cyclesLines, cyclesOn}
-use Rattle.landings.specs.Pages.{pageCycles}
-use Rattle.landings.specs.Output.{heading, beforeCycles, outputOf, HasAt}
+use Rattle.landings.specs.Inner.Pages.{pageCycles}
+use Rattle.landings.specs.Output.{heading, beforeCycles, printout, HasAt}
 use Rattle.landings.proofs.PageLaws.{page-most, page-some}
 use Rattle.landings.proofs.OutputLaws.{has-between, cycles-behind, lines-behind, before-ready, lines-are}
 
@@ -63,7 +63,7 @@ module _ (bytes : List ℕ) (n last : ℕ) (s₀ m₀ buffer₀ s m buffer : Lis
         lines-behind n 0 time count (beforeCycles bytes)
         ∙ ap (λ (x : List ℕ). cyclesLines n 0 time (beforeCycles bytes) ++ x) (sym page-is)
 
-    pub page-has : message bytes ≡ Runs → n ≡ nodes (sheetOf bytes) → last ≡ cycles bytes → HasAt (outputOf bytes) place part
+    pub page-has : message bytes ≡ Runs → n ≡ nodes (sheetOf bytes) → last ≡ cyclesAsked bytes → HasAt (printout bytes) place part
     page-has e p q =
         let before = cyclesLines n 0 time (beforeCycles bytes) in
         let rest = cyclesLines n (0 + (time + count)) (last - (time + count)) (cyclesOn (time + count) (beforeCycles bytes)) in
@@ -102,8 +102,8 @@ pub page-done : (bytes : List ℕ) (n last : ℕ) (s₀ m₀ buffer₀ s m buffe
     → last ≤ time
     → message bytes ≡ Runs
     → n ≡ nodes (sheetOf bytes)
-    → last ≡ cycles bytes
-    → (place ≡ length (outputOf bytes)) × (lent s m ≡ cyclesOn (cycles bytes) (beforeCycles bytes))
+    → last ≡ cyclesAsked bytes
+    → (place ≡ length (printout bytes)) × (lent s m ≡ cyclesOn (cyclesAsked bytes) (beforeCycles bytes))
 page-done bytes n last s₀ m₀ buffer₀ s m buffer place time i l e p q =
     let end : time ≡ last = omega (arith, i .in-time, l) in (
       i .placed

@@ -8,7 +8,8 @@ use native.Mathlib.Omega.{arith}
 use Rattle.words.proofs.TestLaws.{yes=, yes≤}
 use Rattle.sheet.specs.Sheet.{nodes, memoryWords}
 use Rattle.session.specs.Calls.{stateNumber, memoryNumber, loadNumber, loaded, Lent, Call, number, does, isLoad}
-use Rattle.session.proofs.NumberLaws.{zero-then, zero-unless, MemoryPassed, memory-passed, load-passed}
+use Rattle.words.proofs.NumberLaws.{zero-then, zero-unless}
+use Rattle.session.proofs.NumberLaws.{MemoryPassed, memory-passed, load-passed}
 use Rattle.session.proofs.KeptLaws.{load-sound, load-length, loaded-sheet, sound-kept, state-length-kept, memory-length-kept, sheet-same}
 
 ready : (s m : List ℕ) → MemoryPassed s m → memoryNumber s m ≡ 0

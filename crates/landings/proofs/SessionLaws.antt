@@ -15,9 +15,9 @@ use Rattle.network.specs.Registers.{stateWords}
 use Rattle.session.specs.Calls.{loadNumber, loaded, Lent, Call, start, cycle, isLoad, number, does, after}
 use Rattle.isolation.specs.Sessions.{isCycle, run, LoadsRefused, Session, standing}
 use Rattle.isolation.specs.Demand.{CycleAt}
-use Rattle.isolation.proofs.Whole.{demand3}
+use Rattle.isolation.proofs.DemandProved.{demand3}
 use Rattle.landings.specs.declared.input.Message.the-variants.{Runs}
-use Rattle.landings.specs.Input.{sheetOf, memoryOf, transfers, transferPlace, cycles}
+use Rattle.landings.specs.Input.{sheetOf, memoryOf, transfers, transferPlace, cyclesAsked}
 use Rattle.landings.specs.Messages.{Called, called, transferNumber, transferStarted, startNext, startsOn, callsOn, calls, message}
 use Rattle.landings.specs.Lines.{lent, cyclesOn}
 use Rattle.landings.specs.Output.{beforeCycles}
@@ -168,8 +168,8 @@ module _ (bytes s m : List ℕ) (n : ℕ) (e : callsOn bytes s m .refusal ≡ 0)
         ap (number cycle) (sym stands-so) ∙ demand3 .cycles-carried-out sessionOf (length (startCalls bytes (transfers bytes)) + t) call-is-cycle
 
 -- no cycle of an input that runs is refused
-pub cycles-carried-out : (bytes : List ℕ) → message bytes ≡ Runs → (t : ℕ) → t < cycles bytes
+pub cycles-carried-out : (bytes : List ℕ) → message bytes ≡ Runs → (t : ℕ) → t < cyclesAsked bytes
     → number cycle (cyclesOn t (beforeCycles bytes)) ≡ 0
 unfolding beforeCycles calls
 cycles-carried-out bytes e t l =
-    session-cycles bytes (replicate stateWords 0) (memoryOf bytes) (cycles bytes) (runs-called bytes e) t l
+    session-cycles bytes (replicate stateWords 0) (memoryOf bytes) (cyclesAsked bytes) (runs-called bytes e) t l

@@ -27,15 +27,15 @@ abbrev pub ends : List ℕ → ℕ → Bool
 ends bytes n = length bytes <? 4 * n
 
 -- the sheet
-abbrev pub sheetLength : List ℕ → ℕ
-sheetLength bytes = wordIn bytes 0
+abbrev pub statedLength : List ℕ → ℕ
+statedLength bytes = wordIn bytes 0
 
 unfoldable pub sheetOf : List ℕ → List ℕ
-sheetOf bytes = tab (sheetLength bytes) (λ k. wordIn bytes (1 + k))
+sheetOf bytes = tab (statedLength bytes) (λ k. wordIn bytes (1 + k))
 
 -- the memories of all nodes
 abbrev pub memoryPlace : List ℕ → ℕ
-memoryPlace bytes = 1 + sheetLength bytes
+memoryPlace bytes = 1 + statedLength bytes
 
 unfoldable pub memorySize : List ℕ → ℕ
 memorySize bytes = nodes (sheetOf bytes) * memoryWords (sheetOf bytes)
@@ -58,5 +58,5 @@ transferPlace bytes k = transfersPlace bytes + 1 + 5 * k
 abbrev pub cyclesPlace : List ℕ → ℕ
 cyclesPlace bytes = transferPlace bytes (transfers bytes)
 
-unfoldable pub cycles : List ℕ → ℕ
-cycles bytes = wordIn bytes (cyclesPlace bytes)
+unfoldable pub cyclesAsked : List ℕ → ℕ
+cyclesAsked bytes = wordIn bytes (cyclesPlace bytes)

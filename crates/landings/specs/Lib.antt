@@ -2,4 +2,4 @@ pub mod Input
 pub mod Messages
 pub mod Lines
 pub mod Output
-pub mod Pages
+pub mod Inner

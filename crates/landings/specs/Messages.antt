@@ -11,10 +11,10 @@ use Rattle.network.specs.Registers.{stateWords}
 use Rattle.session.specs.Calls.{loadNumber, loaded, startNumber, started}
 use Rattle.landings.specs.declared.input.Message.{Message}
 use Rattle.landings.specs.declared.input.Message.the-variants.{TooLarge, InputEnds, Refused, Runs}
-use Rattle.landings.specs.Input.{mostSheet, mostMemory, mostTransfers, mostCycles, ends, sheetLength, sheetOf, memoryPlace, memorySize, memoryOf, transfersPlace, transfers, transferPlace, cyclesPlace, cycles}
+use Rattle.landings.specs.Input.{mostSheet, mostMemory, mostTransfers, mostCycles, ends, statedLength, sheetOf, memoryPlace, memorySize, memoryOf, transfersPlace, transfers, transferPlace, cyclesPlace, cyclesAsked}
 
 unfoldable pub cyclesMessage : List ℕ → Message
-cyclesMessage bytes = pick (ends bytes (cyclesPlace bytes + 1)) InputEnds (pick (mostCycles <? cycles bytes) TooLarge Runs)
+cyclesMessage bytes = pick (ends bytes (cyclesPlace bytes + 1)) InputEnds (pick (mostCycles <? cyclesAsked bytes) TooLarge Runs)
 
 unfoldable pub transfersMessage : List ℕ → Message
 transfersMessage bytes =
@@ -31,7 +31,7 @@ checkedMessage bytes = pick (verdict (sheetOf bytes) =? 0) (memoryMessage bytes)
 unfoldable pub inputMessage : List ℕ → Message
 inputMessage bytes =
     pick (ends bytes 1) InputEnds
-    (pick (mostSheet <? sheetLength bytes) TooLarge
+    (pick (mostSheet <? statedLength bytes) TooLarge
     (pick (ends bytes (memoryPlace bytes)) InputEnds (checkedMessage bytes)))
 
 -- the calls before the cycles, up to the first refusal: its number, or 0, and the state afterwards

@@ -9,7 +9,7 @@ use Rattle.session.specs.Calls.{Lent}
 use Rattle.listing.specs.Text.{lineEnd, field, tooLarge, inputEnds, refused}
 use Rattle.landings.specs.declared.input.Message.{Message}
 use Rattle.landings.specs.declared.input.Message.the-variants.{TooLarge, InputEnds, Refused, Runs}
-use Rattle.landings.specs.Input.{sheetOf, memoryOf, cycles}
+use Rattle.landings.specs.Input.{sheetOf, memoryOf, cyclesAsked}
 use Rattle.landings.specs.Messages.{calls, message}
 use Rattle.landings.specs.Lines.{lent, cyclesOn, cyclesLines}
 
@@ -25,7 +25,7 @@ beforeCycles bytes = lent (calls bytes .state) (memoryOf bytes)
 
 -- the lines of all cycles of an input
 unfoldable pub allLines : List ℕ → List ℕ
-allLines bytes = cyclesLines (nodes (sheetOf bytes)) 0 (cycles bytes) (beforeCycles bytes)
+allLines bytes = cyclesLines (nodes (sheetOf bytes)) 0 (cyclesAsked bytes) (beforeCycles bytes)
 
 -- what is printed for a message; where the input runs, the heading and its lines
 abbrev pub printed : Message → List ℕ → List ℕ
@@ -35,8 +35,8 @@ printed (Refused n) lines = refused ++ field n lineEnd
 printed Runs lines = heading ++ lines
 
 -- every byte that an input gets
-unfoldable pub outputOf : List ℕ → List ℕ
-outputOf bytes = printed (message bytes) (allLines bytes)
+unfoldable pub printout : List ℕ → List ℕ
+printout bytes = printed (message bytes) (allLines bytes)
 
 -- a text has a part at a place
 abbrev pub HasAt : List ℕ → ℕ → List ℕ → Type 0
@@ -51,4 +51,4 @@ cyclesRun Runs n = n
 
 -- the lent words at the end of the program
 unfoldable pub atEnd : List ℕ → Lent
-atEnd bytes = cyclesOn (cyclesRun (message bytes) (cycles bytes)) (beforeCycles bytes)
+atEnd bytes = cyclesOn (cyclesRun (message bytes) (cyclesAsked bytes)) (beforeCycles bytes)

@@ -4,7 +4,7 @@ ghost use Prim.Native.Nat.{ℕ, _+_, _*_, _<_, _≤_};
 ghost use lib.ListN.{length};
 ghost use Rattle.sheet.specs.Sheet.{nodes, memoryWords};
 ghost use Rattle.sheet.specs.Rules.{verdict};
-ghost use Rattle.landings.specs.Input.{sheetLength, memoryPlace, memorySize, transfersPlace, cyclesPlace, cycles};
+ghost use Rattle.landings.specs.Input.{statedLength, memoryPlace, memorySize, transfersPlace, cyclesPlace, cyclesAsked};
 ghost use Rattle.landings.specs.declared.input.Message.the-variants.{Runs};
 ghost use Rattle.landings.specs.Messages.{cyclesMessage, transfersMessage, memoryMessage, checkedMessage, inputMessage};
 
@@ -74,7 +74,7 @@ pub fn memory_size(sheet: &[u32]) -> u32
 
 // The checker's number for a sheet whose words are all there, and what follows; input_message lends room for the sheet.
 fn checked_message(bytes: &[u8], sheet: &mut [u32]) -> Message
-    requires { ⌜ (4 * (1 + length (now sheet)) ≤ length (now bytes)) × (length (now sheet) ≡ sheetLength (now bytes)) × (length (now sheet) ≤ 8597) ⌝ }
+    requires { ⌜ (4 * (1 + length (now sheet)) ≤ length (now bytes)) × (length (now sheet) ≡ statedLength (now bytes)) × (length (now sheet) ≤ 8597) ⌝ }
     ensures { λ r. ⌜ r ≡ checkedMessage (now (bytes .entry)) ⌝ }
 {
     octets::read_words(bytes, 1, sheet);
@@ -116,7 +116,7 @@ pub fn nodes_of(sheet: &[u32]) -> u32
 // The cycles of an input whose words are all there, behind its transfers, which begin at a place.
 pub fn cycles_in(bytes: &[u8], at: usize) -> u32
     requires { ⌜ (inputMessage (now bytes) ≡ Runs) × (at ≡ transfersPlace (now bytes)) ⌝ }
-    ensures { λ r. ⌜ r ≡ cycles (now (bytes .entry)) ⌝ }
+    ensures { λ r. ⌜ r ≡ cyclesAsked (now (bytes .entry)) ⌝ }
 {
     octets::word_in(bytes, at + 1 + 5 * (octets::word_in(bytes, at) as usize))
 }

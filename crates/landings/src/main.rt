@@ -10,10 +10,10 @@ ghost use lib.ListN.{length, replicate};
 ghost use Rattle.sheet.specs.Sheet.{nodes as nodesIn};
 ghost use Rattle.network.specs.Registers.{stateWords};
 ghost use Rattle.landings.specs.declared.input.Message.the-variants.{Refused, Runs};
-ghost use Rattle.landings.specs.Input.{sheetLength, sheetOf, memorySize, cycles};
+ghost use Rattle.landings.specs.Input.{statedLength, sheetOf, memorySize, cyclesAsked};
 ghost use Rattle.landings.specs.Messages.{inputMessage, message};
 ghost use Rattle.landings.specs.Lines.{lent, cyclesOn};
-ghost use Rattle.landings.specs.Output.{heading, beforeCycles, outputOf, atEnd};
+ghost use Rattle.landings.specs.Output.{heading, beforeCycles, printout, atEnd};
 use input::Message;
 use output::write_part;
 
@@ -22,7 +22,7 @@ const LINE_END: u8 = 10;
 // Prints the line of a refusal; the callers have its number from the input.
 fn print_refused(bytes: &[u8], place: &mut usize, number: u32)
     requires { ⌜ (message (now bytes) ≡ Refused number) × (now place ≡ 0) ⌝ }
-    ensures { λ _. ⌜ now (place .exit) ≡ length (outputOf (now (bytes .entry))) ⌝ }
+    ensures { λ _. ⌜ now (place .exit) ≡ length (printout (now (bytes .entry))) ⌝ }
 {
     write_part(bytes, place, b"refused ");
     let mut line = [0u8; 12];
@@ -40,9 +40,9 @@ fn write_pages(
     last: u32,
     buffer: &mut [u8],
 )
-    requires { ⌜ (message (now bytes) ≡ Runs) × (lent (now s) (now m) ≡ beforeCycles (now bytes)) × (nodes ≡ nodesIn (sheetOf (now bytes))) × (last ≡ cycles (now bytes)) × (now place ≡ length heading) × (length (now buffer) ≡ 65536) ⌝ }
-    ensures place { λ _. ⌜ now (place .exit) ≡ length (outputOf (now (bytes .entry))) ⌝ }
-    ensures words { λ _. ⌜ lent (now (s .exit)) (now (m .exit)) ≡ cyclesOn (cycles (now (bytes .entry))) (beforeCycles (now (bytes .entry))) ⌝ }
+    requires { ⌜ (message (now bytes) ≡ Runs) × (lent (now s) (now m) ≡ beforeCycles (now bytes)) × (nodes ≡ nodesIn (sheetOf (now bytes))) × (last ≡ cyclesAsked (now bytes)) × (now place ≡ length heading) × (length (now buffer) ≡ 65536) ⌝ }
+    ensures place { λ _. ⌜ now (place .exit) ≡ length (printout (now (bytes .entry))) ⌝ }
+    ensures words { λ _. ⌜ lent (now (s .exit)) (now (m .exit)) ≡ cyclesOn (cyclesAsked (now (bytes .entry))) (beforeCycles (now (bytes .entry))) ⌝ }
 {
     let mut time: u32 = 0;
     while time < last {
@@ -54,9 +54,9 @@ fn write_pages(
 
 // Prints the listing of all cycles; run_session has loaded and started.
 fn list(bytes: &[u8], place: &mut usize, s: &mut [u32], m: &mut [u32], nodes: u32, last: u32)
-    requires { ⌜ (message (now bytes) ≡ Runs) × (lent (now s) (now m) ≡ beforeCycles (now bytes)) × (nodes ≡ nodesIn (sheetOf (now bytes))) × (last ≡ cycles (now bytes)) × (now place ≡ 0) ⌝ }
-    ensures place { λ _. ⌜ now (place .exit) ≡ length (outputOf (now (bytes .entry))) ⌝ }
-    ensures words { λ _. ⌜ lent (now (s .exit)) (now (m .exit)) ≡ cyclesOn (cycles (now (bytes .entry))) (beforeCycles (now (bytes .entry))) ⌝ }
+    requires { ⌜ (message (now bytes) ≡ Runs) × (lent (now s) (now m) ≡ beforeCycles (now bytes)) × (nodes ≡ nodesIn (sheetOf (now bytes))) × (last ≡ cyclesAsked (now bytes)) × (now place ≡ 0) ⌝ }
+    ensures place { λ _. ⌜ now (place .exit) ≡ length (printout (now (bytes .entry))) ⌝ }
+    ensures words { λ _. ⌜ lent (now (s .exit)) (now (m .exit)) ≡ cyclesOn (cyclesAsked (now (bytes .entry))) (beforeCycles (now (bytes .entry))) ⌝ }
 {
     write_part(bytes, place, b"cycle node address word kind\n");
     let mut buffer = [0u8; 65536];
@@ -66,7 +66,7 @@ fn list(bytes: &[u8], place: &mut usize, s: &mut [u32], m: &mut [u32], nodes: u3
 // Runs the session of a sheet on a state of zeros and room for its memories.
 fn run_session(bytes: &[u8], place: &mut usize, sheet: &[u32], s: &mut [u32], m: &mut [u32])
     requires { ⌜ (inputMessage (now bytes) ≡ Runs) × (now sheet ≡ sheetOf (now bytes)) × (now s ≡ replicate stateWords 0) × (length (now m) ≡ memorySize (now bytes)) × (now place ≡ 0) ⌝ }
-    ensures place { λ _. ⌜ now (place .exit) ≡ length (outputOf (now (bytes .entry))) ⌝ }
+    ensures place { λ _. ⌜ now (place .exit) ≡ length (printout (now (bytes .entry))) ⌝ }
     ensures words { λ _. ⌜ lent (now (s .exit)) (now (m .exit)) ≡ atEnd (now (bytes .entry)) ⌝ }
 {
     let number = calls::prepare(bytes, sheet, s, m);
@@ -81,8 +81,8 @@ fn run_session(bytes: &[u8], place: &mut usize, sheet: &[u32], s: &mut [u32], m:
 
 // Reads the sheet of an input whose words are all there, and makes room for its memories.
 fn run(bytes: &[u8], place: &mut usize, sheet: &mut [u32])
-    requires { ⌜ (inputMessage (now bytes) ≡ Runs) × (length (now sheet) ≡ sheetLength (now bytes)) × (now place ≡ 0) ⌝ }
-    ensures place { λ _. ⌜ now (place .exit) ≡ length (outputOf (now (bytes .entry))) ⌝ }
+    requires { ⌜ (inputMessage (now bytes) ≡ Runs) × (length (now sheet) ≡ statedLength (now bytes)) × (now place ≡ 0) ⌝ }
+    ensures place { λ _. ⌜ now (place .exit) ≡ length (printout (now (bytes .entry))) ⌝ }
     ensures sheet { λ _. ⌜ now (sheet .exit) ≡ sheetOf (now (bytes .entry)) ⌝ }
 {
     octets::read_words(bytes, 1, sheet);
@@ -95,7 +95,7 @@ fn run(bytes: &[u8], place: &mut usize, sheet: &mut [u32])
 // Makes room for the sheet of an input whose words are all there.
 fn run_input(bytes: &[u8], place: &mut usize)
     requires { ⌜ (inputMessage (now bytes) ≡ Runs) × (now place ≡ 0) ⌝ }
-    ensures { λ _. ⌜ now (place .exit) ≡ length (outputOf (now (bytes .entry))) ⌝ }
+    ensures { λ _. ⌜ now (place .exit) ≡ length (printout (now (bytes .entry))) ⌝ }
 {
     let n = octets::word_in(bytes, 0) as usize;
     let mut sheet = [0u32; 8597];
@@ -105,7 +105,7 @@ fn run_input(bytes: &[u8], place: &mut usize)
 // Prints all of an input's output: the one line that it earns, or the listing.
 fn answer(bytes: &[u8], place: &mut usize)
     requires { ⌜ now place ≡ 0 ⌝ }
-    ensures { λ _. ⌜ now (place .exit) ≡ length (outputOf (now (bytes .entry))) ⌝ }
+    ensures { λ _. ⌜ now (place .exit) ≡ length (printout (now (bytes .entry))) ⌝ }
 {
     match input::input_message(bytes) {
         Message::TooLarge => write_part(bytes, place, b"too large\n"),

@@ -5,7 +5,7 @@ ghost use lib.ListN.{length, take};
 ghost use Rattle.words.specs.Words.{putAll};
 ghost use Rattle.session.specs.Calls.{memoryNumber, lastLanding};
 ghost use Rattle.landings.specs.Lines.{lent, lineFor, cycleLines, cyclesLines, cyclesOn};
-ghost use Rattle.landings.specs.Pages.{pageCycles};
+ghost use Rattle.landings.specs.Inner.Pages.{pageCycles};
 use session::Landed;
 
 // Room for a cycle's lines, 16 of at most 60 bytes, and some more.

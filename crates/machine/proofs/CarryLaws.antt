@@ -8,15 +8,15 @@ use native.Mathlib.Omega.{arith}
 use lib.ListN.{length}
 use Rattle.words.specs.Tests.{any}
 use Rattle.sheet.specs.Sheet.{circuits, nodes}
-use Rattle.sheet.specs.Passed.{Headed}
+use Rattle.sheet.specs.Inner.Passed.{Headed}
 use Rattle.network.specs.Registers.{sheetIn, room, movingWords}
-use Rattle.network.specs.Machine.{nextInRow, straysIn, nextState, nextMemory}
-use Rattle.network.specs.Stages.{stage, linkFrom, outFrom}
-use Rattle.sources.specs.Slots.{slotTable}
-use Rattle.sources.specs.Steps.{Steppable}
-use Rattle.receivers.specs.Required.{Receivable, Clocked}
-use Rattle.machine.specs.Ready.{Ready}
-use Rattle.machine.specs.Tables.{Tables}
+use Rattle.network.specs.Inner.Machine.{nextInRow, straysIn, nextState, nextMemory}
+use Rattle.network.specs.Inner.Stages.{stage, linkFrom, outFrom}
+use Rattle.sources.specs.Inner.Slots.{slotTable}
+use Rattle.sources.specs.Inner.Steps.{Steppable}
+use Rattle.receivers.specs.Inner.Required.{Receivable, Clocked}
+use Rattle.machine.specs.Inner.Ready.{Ready}
+use Rattle.machine.specs.Inner.Tables.{Tables}
 use Rattle.machine.proofs.JoinLaws.{headed-ready, linked-ready, memory-is, received-long, crossed-ready, sent-ready, state-is}
 
 module _ {s m slots marks cells outs values : List ℕ} (T : Tables s m slots marks cells outs values) (R : Ready s m)

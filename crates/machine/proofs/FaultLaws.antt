@@ -9,7 +9,7 @@ use Rattle.words.proofs.AllLaws.{any-same}
 use Rattle.sheet.specs.Sheet.{circuits, nodes}
 use Rattle.network.specs.Registers.{sheetIn}
 use Rattle.routers.proofs.PlaceLaws.{any-or}
-use Rattle.network.specs.Machine.{collidesIn, unheldIn, unchosenIn, headlessIn, crowdsIn, straysIn, reopensIn, faultyIn}
+use Rattle.network.specs.Inner.Machine.{collidesIn, unheldIn, unchosenIn, headlessIn, crowdsIn, straysIn, reopensIn, faultyIn}
 
 true-or : (a : Bool) → (true or a) ≡ true
 unfolding _or_

@@ -16,22 +16,23 @@ use Rattle.words.proofs.WordLaws.{length-tab, tab-at, tab-is}
 use Rattle.torus.specs.Torus.{InGrid, neighbourOf, oppositeOf}
 use Rattle.torus.proofs.NeighbourLaws.{neighbour-inside, opposite-side}
 use Rattle.sheet.specs.Sheet.{columns, rows, memoryWords, circuits, schedules, nodes, period}
-use Rattle.sheet.specs.Passed.{Headed, Framed}
+use Rattle.sheet.specs.Inner.Passed.{Headed, Framed}
 use Rattle.sheet.specs.Slots.{slotLength}
 use Rattle.network.specs.View.{Sender}
 use Rattle.network.specs.Cycle.{move, stepSender}
-use Rattle.network.specs.Registers.{reg, sheetIn, room, movingWords, clockRow, cyclePlace, numberPlace, schedulePlace, orderMarkPlace, orderSchedulePlace, orderPeriodPlace, linkMark, linkWord, outMark, outWord, receiveMark, receiveKind, receiveAddress, leftRow, readRow, writeRow, kindRow, toGoRow}
-use Rattle.network.specs.Machine.{at, neighbourPlace, senderIn, slotIn, nextSender, sourceMark, sourceWord, nextLinkMark, nextLinkWord, nextOutMark, nextOutWord, memoryMark, memoryWord, nextReceiveMark, nextReceiveKind, nextReceiveAddress, nextLandingMark, memoryAfter, straysIn, turns, isDue, nextClock, nextRows, nextInRow, exists, nextWord, nextState, nextMemory}
-use Rattle.network.specs.Stages.{stage, linkFrom, outFrom}
+use Rattle.network.specs.Registers.{reg, sheetIn, room, movingWords, clockRow, cyclePlace, numberPlace, inForcePlace, orderMarkPlace, orderSchedulePlace, orderPeriodPlace, linkMark, linkWord, outMark, outWord, receiveMark, receiveKind, receiveAddress, leftRow, readRow, writeRow, kindRow, toGoRow, at}
+use Rattle.network.specs.Seen.{seenSender}
+use Rattle.network.specs.Inner.Machine.{neighbourPlace, slotIn, nextSender, sourceMark, sourceWord, nextLinkMark, nextLinkWord, nextOutMark, nextOutWord, memoryMark, memoryWord, nextReceiveMark, nextReceiveKind, nextReceiveAddress, nextLandingMark, memoryAfter, straysIn, turns, isDue, nextClock, nextRows, nextInRow, exists, nextWord, nextState, nextMemory}
+use Rattle.network.specs.Inner.Stages.{stage, linkFrom, outFrom}
 use Rattle.network.proofs.RowLaws.{next-row, sender-same}
 use Rattle.network.proofs.StepLaws.{state-length}
 use Rattle.network.proofs.FillLaws.{restated, stage-length, stage-rest, stage-sheet, stage-here, stage-off}
-use Rattle.sources.specs.Slots.{slotTable}
-use Rattle.sources.specs.Steps.{Sending, Steppable}
-use Rattle.receivers.specs.Required.{Receivable, Clocked}
+use Rattle.sources.specs.Inner.Slots.{slotTable}
+use Rattle.sources.specs.Inner.Steps.{Sending, Steppable}
+use Rattle.receivers.specs.Inner.Required.{Receivable, Clocked}
 use Rattle.receivers.proofs.StrayLaws.{none-strays}
-use Rattle.machine.specs.Ready.{Ready}
-use Rattle.machine.specs.Tables.{Tables}
+use Rattle.machine.specs.Inner.Ready.{Ready}
+use Rattle.machine.specs.Inner.Tables.{Tables}
 use Rattle.machine.proofs.RowCases.{by-row}
 
 -- words with the same registers and the same behind them are the same
@@ -320,7 +321,7 @@ module _ (s m slots source-marks source-words out-marks out-words : List ℕ)
           crossed-sender row c a b l = crossed-off row c (omega arith) (omega arith) (λ x y z. omega arith) (λ x y z. omega arith)
 
           -- the senders
-          sender-is : (c : ℕ) → c < 64 → senderIn crossed c ≡ senderIn s c
+          sender-is : (c : ℕ) → c < 64 → seenSender crossed c ≡ seenSender s c
           sender-is c l =
               sender-same _ _
               (crossed-sender leftRow c (omega arith) (omega arith) l) (crossed-sender readRow c (omega arith) (omega arith) l)
@@ -330,16 +331,16 @@ module _ (s m slots source-marks source-words out-marks out-words : List ℕ)
           slot-is : (c : ℕ) → slotIn crossed c ≡ slotIn s c
           unfolding slotIn
           slot-is c =
-              ap (λ (z : List ℕ). slotLength z (reg crossed clockRow schedulePlace) (reg crossed clockRow cyclePlace) c) crossed-sheet
+              ap (λ (z : List ℕ). slotLength z (reg crossed clockRow inForcePlace) (reg crossed clockRow cyclePlace) c) crossed-sheet
               ∙ ap₂ (λ j cycle. slotLength (sheetIn s) j cycle c)
-              (crossed-clock schedulePlace (omega arith)) (crossed-clock cyclePlace (omega arith))
+              (crossed-clock inForcePlace (omega arith)) (crossed-clock cyclePlace (omega arith))
 
           next-sender : (c : ℕ) → c < 64 → nextSender crossed c ≡ nextSender s c
           next-sender c l = ap₂ (λ slot x. stepSender (move slot x) slot x) (slot-is c) (sender-is c l)
 
           slots-same : slotTable s ≡ slotTable crossed
           unfolding slotTable
-          slots-same = rw (crossed-sheet, crossed-clock schedulePlace (omega arith), crossed-clock cyclePlace (omega arith)) refl
+          slots-same = rw (crossed-sheet, crossed-clock inForcePlace (omega arith), crossed-clock cyclePlace (omega arith)) refl
 
           -- what the senders require
           pub crossed-ready : (Steppable crossed) × (slots ≡ slotTable crossed)
@@ -362,8 +363,8 @@ module _ (s m slots source-marks source-words out-marks out-words : List ℕ)
                 long = omega (arith, crossed-length, long);
                 framed = subst Framed (sym crossed-sheet) (R .steppable .framed);
                 in-force =
-                    subst (λ (z : List ℕ). reg crossed clockRow schedulePlace < schedules z) (sym crossed-sheet)
-                    (omega (arith, R .steppable .in-force, crossed-clock schedulePlace (omega arith)));
+                    subst (λ (z : List ℕ). reg crossed clockRow inForcePlace < schedules z) (sym crossed-sheet)
+                    (omega (arith, R .steppable .in-force, crossed-clock inForcePlace (omega arith)));
                 sending = sending;
               }
 
@@ -398,7 +399,7 @@ module _ (s m slots source-marks source-words out-marks out-words : List ℕ)
                   sent-sheet,
                   sent-clock cyclePlace (omega arith),
                   sent-clock numberPlace (omega arith),
-                  sent-clock schedulePlace (omega arith),
+                  sent-clock inForcePlace (omega arith),
                   sent-clock orderMarkPlace (omega arith),
                   sent-clock orderSchedulePlace (omega arith),
                   sent-clock orderPeriodPlace (omega arith),
@@ -411,11 +412,11 @@ module _ (s m slots source-marks source-words out-marks out-words : List ℕ)
               long = omega (arith, sent-length, long);
               framed = subst Framed (sym sent-sheet) (R .steppable .framed);
               in-force =
-                  subst (λ (z : List ℕ). reg sent clockRow schedulePlace < schedules z) (sym sent-sheet)
-                  (omega (arith, R .steppable .in-force, sent-clock schedulePlace (omega arith)));
+                  subst (λ (z : List ℕ). reg sent clockRow inForcePlace < schedules z) (sym sent-sheet)
+                  (omega (arith, R .steppable .in-force, sent-clock inForcePlace (omega arith)));
               in-time =
-                  subst (λ (z : List ℕ). reg sent clockRow cyclePlace < period z (reg sent clockRow schedulePlace)) (sym sent-sheet)
-                  (subst (λ (j : ℕ). reg sent clockRow cyclePlace < period (sheetIn s) j) (sym (sent-clock schedulePlace (omega arith)))
+                  subst (λ (z : List ℕ). reg sent clockRow cyclePlace < period z (reg sent clockRow inForcePlace)) (sym sent-sheet)
+                  (subst (λ (j : ℕ). reg sent clockRow cyclePlace < period (sheetIn s) j) (sym (sent-clock inForcePlace (omega arith)))
                   (omega (arith, R .clocked .in-time, sent-clock cyclePlace (omega arith))));
             }
 

@@ -12,13 +12,13 @@ use Rattle.words.specs.Words.{word, pick, tab}
 use Rattle.sheet.specs.Sheet.{columns, rows, memoryWords, nodes}
 use Rattle.sheet.specs.Rules.{rule8}
 use Rattle.network.specs.Registers.{sheetIn}
-use Rattle.network.specs.Machine.{sourceMark, sourceWord, nextOutMark, nextOutWord}
-use Rattle.network.specs.Paired.{Paired, Sendable}
-use Rattle.sources.specs.Slots.{slotTable}
+use Rattle.network.specs.Inner.Machine.{sourceMark, sourceWord, nextOutMark, nextOutWord}
+use Rattle.network.specs.Inner.Paired.{Paired, Sendable}
+use Rattle.sources.specs.Inner.Slots.{slotTable}
 use Rattle.sources.proofs.TableLaws.{tab-zeros}
-use Rattle.receivers.specs.Required.{Counted}
-use Rattle.machine.specs.Ready.{Ready}
-use Rattle.machine.specs.Tables.{Tables, Empty}
+use Rattle.receivers.specs.Inner.Required.{Counted}
+use Rattle.machine.specs.Inner.Ready.{Ready}
+use Rattle.machine.specs.Inner.Tables.{Tables, Empty}
 
 -- the number of nodes, and the memory words of a node, read off the state's sheet
 module _ {s m z : List ℕ} {a b : ℕ} (R : Ready s m) (own : z ≡ sheetIn s) (ea : a ≡ word z 0) (eb : b ≡ word z 1) where

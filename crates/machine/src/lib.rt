@@ -7,9 +7,9 @@ ghost use Rattle.words.specs.Tests.{any};
 ghost use Rattle.words.specs.Words.{pick, tab};
 ghost use Rattle.sheet.specs.Sheet.{nodes as nodeCount};
 ghost use Rattle.network.specs.Registers.{sheetIn};
-ghost use Rattle.network.specs.Machine.{straysIn, faultyIn, nextState, nextMemory};
-ghost use Rattle.machine.specs.Ready.{Ready};
-ghost use Rattle.machine.specs.Tables.{Tables, Empty};
+ghost use Rattle.network.specs.Inner.Machine.{straysIn, faultyIn, nextState, nextMemory};
+ghost use Rattle.machine.specs.Inner.Ready.{Ready};
+ghost use Rattle.machine.specs.Inner.Tables.{Tables, Empty};
 
 // Works out the tables of a cycle, lent as zeros: the slots that begin, the marks and words on the source wires, and those on the outputs.
 // Answers whether the cycle has a fault (number 20); then the tables are of no use.

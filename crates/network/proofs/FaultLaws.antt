@@ -12,9 +12,9 @@ use Rattle.words.proofs.AllLaws.{any-same}
 use Rattle.sheet.specs.Sheet.{circuits, nodes}
 use Rattle.sheet.specs.Slots.{sourceOf}
 use Rattle.network.specs.Cycle.{isFull, isPayload, isNone, collides, crowds, reopens, headless, strays, faulty}
-use Rattle.network.specs.Registers.{reg, sheetIn, room, linkMark, linkWord, headMark, headWord, choiceRow, latchRow, receiveMark, receiveAddress}
-use Rattle.network.specs.Machine.{at, slotIn, askedMark, sentMark, sentWord, memoryMark, memoryWord, collidesIn, unheldIn, unchosenIn, headlessIn, crowdsIn, straysIn, reopensIn, faultyIn}
-use Rattle.network.specs.Seen.{cell, choiceIn, marked, view}
+use Rattle.network.specs.Registers.{reg, sheetIn, room, linkMark, linkWord, headMark, headWord, choiceRow, latchRow, receiveMark, receiveAddress, at}
+use Rattle.network.specs.Inner.Machine.{slotIn, askedMark, sentMark, sentWord, memoryMark, memoryWord, collidesIn, unheldIn, unchosenIn, headlessIn, crowdsIn, straysIn, reopensIn, faultyIn}
+use Rattle.network.specs.Seen.{seenCell, seenChoice, marked, view}
 use Rattle.network.proofs.ViewLaws.{asked-same, sent-same}
 
 -- two tests that agree at each number below n
@@ -24,20 +24,20 @@ count-same zero p q h = refl
 count-same (suc n) p q h = ap₂ (λ b k. pick b (suc k) k) (h n (omega arith)) (count-same n p q (λ k l. h k (omega arith)))
 
 -- a cell is there, and is a payload word, by its mark
-pub full-cell : (mark w : ℕ) → (1 ≤? mark) ≡ isFull (cell mark w)
+pub full-cell : (mark w : ℕ) → (1 ≤? mark) ≡ isFull (seenCell mark w)
 full-cell zero w = no≤ (omega arith)
 full-cell (suc zero) w = yes≤ (omega arith)
 full-cell (suc (suc zero)) w = yes≤ (omega arith)
 full-cell (suc (suc (suc mark))) w = yes≤ (omega arith)
 
-pub payload-cell : (mark w : ℕ) → (2 ≤? mark) ≡ isPayload (cell mark w)
+pub payload-cell : (mark w : ℕ) → (2 ≤? mark) ≡ isPayload (seenCell mark w)
 payload-cell zero w = no≤ (omega arith)
 payload-cell (suc zero) w = no≤ (omega arith)
 payload-cell (suc (suc zero)) w = yes≤ (omega arith)
 payload-cell (suc (suc (suc mark))) w = yes≤ (omega arith)
 
 -- no output is chosen
-none-chosen : (register : ℕ) → (register =? 0) ≡ isNone (choiceIn register)
+none-chosen : (register : ℕ) → (register =? 0) ≡ isNone (seenChoice register)
 none-chosen zero = yes= refl
 none-chosen (suc o) = no= (λ e. omega arith)
 

@@ -14,7 +14,7 @@ use Rattle.words.specs.Words.{word, pick, tab}
 use Rattle.words.proofs.TestLaws.{and-both, and-left, and-right, is≤, is<, yes≤, yes<}
 use Rattle.words.proofs.WordLaws.{length-tab, tab-at, tab-is}
 use Rattle.network.specs.Registers.{reg, put, sheetIn, movingWords}
-use Rattle.network.specs.Stages.{restate, stage}
+use Rattle.network.specs.Inner.Stages.{restate, stage}
 use Rattle.network.proofs.PutLaws.{put-same, put-other, put-length, put-rest}
 
 -- one place k of the rows from low to high is written, nothing else

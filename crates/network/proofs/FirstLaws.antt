@@ -4,7 +4,7 @@ use Prim.Native.Nat.{ℕ, zero, suc}
 use mathlib.Core.Path.{_≡_, refl, _∙_, sym}
 use native.Mathlib.Decide.{ℕ-discrete}
 use Rattle.words.proofs.TestLaws.{yes=, no=}
-use Rattle.network.specs.Machine.{firstMark, firstWord}
+use Rattle.network.specs.Inner.Machine.{firstMark, firstWord}
 
 module _ (marks : ℕ → ℕ) where
   pub first-none : firstMark 0 marks ≡ 0

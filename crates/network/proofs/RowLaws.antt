@@ -14,8 +14,9 @@ use Rattle.words.proofs.WordLaws.{length-tab, tab-at}
 use Rattle.sheet.specs.Sheet.{circuits, nodes}
 use Rattle.network.specs.View.{Sender}
 use Rattle.network.specs.Cycle.{nextNumber}
-use Rattle.network.specs.Registers.{reg, sheetIn, movingWords, clockRow, cyclePlace, numberPlace, schedulePlace, orderMarkPlace, orderSchedulePlace, orderPeriodPlace, linkMark, linkWord, headMark, headWord, choiceRow, latchRow, outMark, outWord, receiveMark, receiveKind, receiveAddress, landingMark, landingKind, landingAddress, landingWord, leftRow, readRow, writeRow, kindRow, toGoRow}
-use Rattle.network.specs.Machine.{at, senderIn, nextSender, nextLinkMark, nextLinkWord, nextHeadWord, nextChoice, nextLatch, nextOutMark, nextOutWord, memoryWord, nextReceiveMark, nextReceiveKind, nextReceiveAddress, nextLandingMark, turns, isDue, nextClock, nextRows, nextInRow, exists, nextWord, nextState}
+use Rattle.network.specs.Registers.{reg, sheetIn, movingWords, clockRow, cyclePlace, numberPlace, inForcePlace, orderMarkPlace, orderSchedulePlace, orderPeriodPlace, linkMark, linkWord, headMark, headWord, choiceRow, latchRow, outMark, outWord, receiveMark, receiveKind, receiveAddress, landingMark, landingKind, landingAddress, landingWord, leftRow, readRow, writeRow, kindRow, toGoRow, at}
+use Rattle.network.specs.Seen.{seenSender}
+use Rattle.network.specs.Inner.Machine.{nextSender, nextLinkMark, nextLinkWord, nextHeadWord, nextChoice, nextLatch, nextOutMark, nextOutWord, memoryWord, nextReceiveMark, nextReceiveKind, nextReceiveAddress, nextLandingMark, turns, isDue, nextClock, nextRows, nextInRow, exists, nextWord, nextState}
 
 -- a cycle leaves the sheet
 pub sheet-kept : (s m : List ℕ) → sheetIn (nextState s m) ≡ sheetIn s
@@ -140,7 +141,7 @@ pub sender-same : (x y : Sender) → x .left ≡ y .left → x .readAddress ≡ 
 sender-same x y a b c d e = λ i. record { left = a i; readAddress = b i; writeAddress = c i; kind = d i; toGo = e i }
 
 pub sender-after : (s m : List ℕ) → circuits (sheetIn s) ≤ 64 → (circuit : ℕ) → circuit < circuits (sheetIn s)
-    → senderIn (nextState s m) circuit ≡ nextSender s circuit
+    → seenSender (nextState s m) circuit ≡ nextSender s circuit
 unfolding nextInRow nextRows
 sender-after s m few circuit l =
     sender-same _ _
@@ -155,8 +156,8 @@ pub record ClockAfter (s m : List ℕ) : Type 0 where
   pub cycle : reg (nextState s m) clockRow cyclePlace ≡ pick (turns s) 0 (reg s clockRow cyclePlace + 1)
   pub number : reg (nextState s m) clockRow numberPlace
       ≡ pick (turns s) (nextNumber (reg s clockRow numberPlace)) (reg s clockRow numberPlace)
-  pub schedule : reg (nextState s m) clockRow schedulePlace
-      ≡ pick (isDue s) (reg s clockRow orderSchedulePlace) (reg s clockRow schedulePlace)
+  pub schedule : reg (nextState s m) clockRow inForcePlace
+      ≡ pick (isDue s) (reg s clockRow orderSchedulePlace) (reg s clockRow inForcePlace)
   pub order-mark : reg (nextState s m) clockRow orderMarkPlace ≡ pick (isDue s) 0 (reg s clockRow orderMarkPlace)
   pub order-schedule : reg (nextState s m) clockRow orderSchedulePlace ≡ reg s clockRow orderSchedulePlace
   pub order-period : reg (nextState s m) clockRow orderPeriodPlace ≡ reg s clockRow orderPeriodPlace
@@ -166,7 +167,7 @@ unfolding nextClock _=?_
 clock-after s m = record {
   cycle = next-clock s m cyclePlace (omega arith);
   number = next-clock s m numberPlace (omega arith);
-  schedule = next-clock s m schedulePlace (omega arith);
+  schedule = next-clock s m inForcePlace (omega arith);
   order-mark = next-clock s m orderMarkPlace (omega arith);
   order-schedule = next-clock s m orderSchedulePlace (omega arith);
   order-period = next-clock s m orderPeriodPlace (omega arith);

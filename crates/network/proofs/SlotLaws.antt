@@ -12,7 +12,7 @@ use Rattle.words.proofs.WordLaws.{lastOf-le}
 use Rattle.sheet.specs.declared.entries.Entry.{Entry}
 use Rattle.packet.specs.Header.{routes}
 use Rattle.sheet.specs.Sheet.{schedules, entriesOf, entryCount, entryAt}
-use Rattle.sheet.specs.Passed.{Ranged}
+use Rattle.sheet.specs.Inner.Passed.{Ranged}
 use Rattle.sheet.proofs.PassedLaws.{entry-small}
 use Rattle.sheet.specs.Slots.{beginsAt, entryBeginning, slotLength, slotRoute}
 

@@ -8,7 +8,7 @@ use Rattle.words.proofs.TestLaws.{yes=, no=, yes≤, no≤}
 use Rattle.packet.specs.Header.{routeOf, firstCode, shiftedWord}
 use Rattle.torus.proofs.RouteLaws.{output-small as output-at-most}
 use Rattle.network.specs.Cycle.{outputFor}
-use Rattle.network.specs.Machine.{nextHeadWord, nextLatch}
+use Rattle.network.specs.Inner.Machine.{nextHeadWord, nextLatch}
 
 -- an output is one of five
 pub output-small : (input w o : ℕ) → o ≡ outputFor input w → o ≤ 4

@@ -7,7 +7,7 @@ use native.Mathlib.Omega.{arith}
 use lib.ListN.{length, length-append, length-drop}
 use Rattle.words.proofs.WordLaws.{length-tab}
 use Rattle.network.specs.Registers.{movingWords}
-use Rattle.network.specs.Machine.{nextState, nextMemory}
+use Rattle.network.specs.Inner.Machine.{nextState, nextMemory}
 
 pub state-length : (s m : List ℕ) → movingWords ≤ length s → length (nextState s m) ≡ length s
 unfolding nextState

@@ -18,9 +18,9 @@ use Rattle.sheet.specs.Sheet.{columns, rows, memoryWords, circuits, nodes}
 use Rattle.sheet.specs.Slots.{sourceOf}
 use Rattle.network.specs.View.{Cell, empty, payload, sourceInput, Sender, Receiver, View, noOrder, pending}
 use Rattle.network.specs.Cycle.{advance, choose, hold, goesTo, asks, join, gather, stepRouters, Move, rests, opens, sends, sentCell, moveNow, headNow, readNow, sentNow, sourceWire, landingOf, stepReceiver, storedBy, nextNumber, scheduleAfter, orderAfter, periodEnds, tick}
-use Rattle.network.specs.Registers.{reg, sheetIn, room, clockRow, numberPlace, schedulePlace, orderMarkPlace, orderSchedulePlace, orderPeriodPlace, linkMark, linkWord, headMark, headWord, choiceRow, latchRow, receiveMark, receiveKind, receiveAddress}
-use Rattle.network.specs.Machine.{at, firstMark, firstWord, senderIn, slotIn, markOf, wordOf, sentMark, sentWord, ownMark, sourceMark, sourceWord, nextLinkMark, nextLinkWord, nextHeadWord, nextChoice, nextLatch, askedMark, nextOutMark, nextOutWord, memoryMark, memoryWord, nextReceiveMark, nextReceiveKind, nextReceiveAddress, nextLandingMark, memoryAfter, turns, isDue, nextSender, nextState, nextMemory}
-use Rattle.network.specs.Seen.{cell, choiceIn, marked, landingIn, orderIn, view, Agree}
+use Rattle.network.specs.Registers.{reg, sheetIn, room, clockRow, numberPlace, inForcePlace, orderMarkPlace, orderSchedulePlace, orderPeriodPlace, linkMark, linkWord, headMark, headWord, choiceRow, latchRow, receiveMark, receiveKind, receiveAddress, at}
+use Rattle.network.specs.Seen.{seenSender, seenCell, seenChoice, marked, seenLanding, seenOrder, view, Agree}
+use Rattle.network.specs.Inner.Machine.{firstMark, firstWord, slotIn, markOf, wordOf, sentMark, sentWord, ownMark, sourceMark, sourceWord, nextLinkMark, nextLinkWord, nextHeadWord, nextChoice, nextLatch, askedMark, nextOutMark, nextOutWord, memoryMark, memoryWord, nextReceiveMark, nextReceiveKind, nextReceiveAddress, nextLandingMark, memoryAfter, turns, isDue, nextSender, nextState, nextMemory}
 pub use Rattle.network.proofs.RowLaws.{sheet-kept, next-row, next-clock, next-router-place, next-router, next-node, next-circuit, RouterAfter, router-after, NodeAfter, node-after, sender-same, sender-after, ClockAfter, clock-after}
 
 -- marks of 3 and more, tested
@@ -37,15 +37,15 @@ three-most : (x : ℕ) → (3 ≤? suc (suc (suc x))) ≡ true
 three-most x = yes≤ (omega arith)
 
 -- cells from marks and words
-cell-pick : (b : Bool) (x y u v : ℕ) → cell (pick b x u) (pick b y v) ≡ pick b (cell x y) (cell u v)
+cell-pick : (b : Bool) (x y u v : ℕ) → seenCell (pick b x u) (pick b y v) ≡ pick b (seenCell x y) (seenCell u v)
 cell-pick true x y u v = refl
 cell-pick false x y u v = refl
 
-pub cell-only : (b : Bool) (mark w : ℕ) → cell (pick b mark 0) w ≡ pick b (cell mark w) empty
+pub cell-only : (b : Bool) (mark w : ℕ) → seenCell (pick b mark 0) w ≡ pick b (seenCell mark w) empty
 cell-only true mark w = refl
 cell-only false mark w = refl
 
-cell-join : (x y u v : ℕ) → cell (pick (x =? 0) u x) (pick (x =? 0) v y) ≡ join (cell x y) (cell u v)
+cell-join : (x y u v : ℕ) → seenCell (pick (x =? 0) u x) (pick (x =? 0) v y) ≡ join (seenCell x y) (seenCell u v)
 unfolding _=?_
 cell-join zero y u v = refl
 cell-join (suc zero) y u v = refl
@@ -53,7 +53,7 @@ cell-join (suc (suc zero)) y u v = refl
 cell-join (suc (suc (suc x))) y u v = rw (not-zero x) refl
 
 -- no word beside an empty mark
-cell-word : (mark w : ℕ) → cell mark (pick (mark =? 0) 0 w) ≡ cell mark w
+cell-word : (mark w : ℕ) → seenCell mark (pick (mark =? 0) 0 w) ≡ seenCell mark w
 unfolding _=?_
 cell-word zero w = refl
 cell-word (suc zero) w = refl
@@ -61,7 +61,7 @@ cell-word (suc (suc zero)) w = refl
 cell-word (suc (suc (suc mark))) w = rw (not-zero mark) refl
 
 pub cell-first : (n : ℕ) (marks words : ℕ → ℕ)
-    → cell (firstMark n marks) (firstWord n marks words) ≡ gather n (λ i. cell (marks i) (words i))
+    → seenCell (firstMark n marks) (firstWord n marks words) ≡ gather n (λ i. seenCell (marks i) (words i))
 unfolding firstMark firstWord
 cell-first zero marks words = refl
 cell-first (suc n) marks words =
@@ -74,29 +74,29 @@ gather-same zero f g e = refl
 gather-same (suc n) f g e = ap₂ join (gather-same n f g (λ i l. e i (omega arith))) (e n (omega arith))
 
 -- the header stage
-head-law : (mark w : ℕ) → cell mark (nextHeadWord mark w) ≡ advance (cell mark w)
+head-law : (mark w : ℕ) → seenCell mark (nextHeadWord mark w) ≡ advance (seenCell mark w)
 unfolding nextHeadWord _=?_
 head-law zero w = refl
 head-law (suc zero) w = refl
 head-law (suc (suc zero)) w = refl
 head-law (suc (suc (suc mark))) w = rw (not-one mark) refl
 
-choice-law : (i latch mark w : ℕ) → choiceIn (nextChoice i latch mark w) ≡ choose i (choiceIn latch) (cell mark w)
+choice-law : (i latch mark w : ℕ) → seenChoice (nextChoice i latch mark w) ≡ choose i (seenChoice latch) (seenCell mark w)
 unfolding nextChoice _=?_
 choice-law i latch zero w = refl
-choice-law i latch (suc zero) w = ap choiceIn (add-one _)
+choice-law i latch (suc zero) w = ap seenChoice (add-one _)
 choice-law i latch (suc (suc zero)) w = refl
 choice-law i latch (suc (suc (suc mark))) w = rw (not-zero mark, not-one mark) refl
 
-latch-law : (i latch mark w : ℕ) → choiceIn (nextLatch i latch mark w) ≡ hold i (choiceIn latch) (cell mark w)
+latch-law : (i latch mark w : ℕ) → seenChoice (nextLatch i latch mark w) ≡ hold i (seenChoice latch) (seenCell mark w)
 unfolding nextLatch _=?_ _≤?_
 latch-law i latch zero w = refl
-latch-law i latch (suc zero) w = ap choiceIn (add-one _)
+latch-law i latch (suc zero) w = ap seenChoice (add-one _)
 latch-law i latch (suc (suc zero)) w = refl
 latch-law i latch (suc (suc (suc mark))) w = rw (not-one mark, three-most mark) refl
 
 -- a register asks for an output
-pub asks-test : (register o : ℕ) → (register =? o + 1) ≡ goesTo (choiceIn register) o
+pub asks-test : (register o : ℕ) → (register =? o + 1) ≡ goesTo (seenChoice register) o
 asks-test zero o = no= (λ e. omega arith)
 asks-test (suc h) o = same (h =? o) refl
   where
@@ -105,12 +105,12 @@ asks-test (suc h) o = same (h =? o) refl
     same false e = no= (λ q. false≢true (sym e ∙ yes= (omega arith)))
 
 -- a circuit's cell
-sent-cell : (d : Move) (head w : ℕ) (x : Sender) → cell (markOf d (x .toGo)) (wordOf d head w) ≡ sentCell d head w x
+sent-cell : (d : Move) (head w : ℕ) (x : Sender) → seenCell (markOf d (x .toGo)) (wordOf d head w) ≡ sentCell d head w x
 sent-cell rests head w x = refl
 sent-cell opens head w x = refl
 sent-cell sends head w x = go (x .toGo =? 1)
   where
-    go : (b : Bool) → cell (pick b 3 2) w ≡ payload w b
+    go : (b : Bool) → seenCell (pick b 3 2) w ≡ payload w b
     go true = refl
     go false = refl
 
@@ -121,7 +121,7 @@ receiver-law : (mark w address kind flag : ℕ)
       kind = pick (mark =? 1) (kindOf w) kind;
       address = pick (mark =? 1) (addressOf w) (pick (2 ≤? mark) (address + 1) address);
     })
-    (stepReceiver (record { arriving = marked flag; kind = kind; address = address }) (cell mark w))
+    (stepReceiver (record { arriving = marked flag; kind = kind; address = address }) (seenCell mark w))
 unfolding _=?_ _≤?_
 receiver-law zero w address kind flag = refl
 receiver-law (suc zero) w address kind flag = refl
@@ -129,8 +129,8 @@ receiver-law (suc (suc zero)) w address kind flag = refl
 receiver-law (suc (suc (suc mark))) w address kind flag = rw (not-one mark, two-most mark, three-most mark) refl
 
 landing-law : (mark w address kind : ℕ) (on : Bool)
-    → landingIn (pick (2 ≤? mark) 1 0) kind address w
-    ≡ landingOf (record { arriving = on; kind = kind; address = address }) (cell mark w)
+    → seenLanding (pick (2 ≤? mark) 1 0) kind address w
+    ≡ landingOf (record { arriving = on; kind = kind; address = address }) (seenCell mark w)
 unfolding _≤?_
 landing-law zero w address kind on = refl
 landing-law (suc zero) w address kind on = refl
@@ -139,7 +139,7 @@ landing-law (suc (suc (suc mark))) w address kind on = rw (two-most mark) refl
 
 memory-law : (mark w address kind place old : ℕ) (on : Bool)
     → pick (2 ≤? mark and address =? place) w old
-    ≡ storedBy (landingOf (record { arriving = on; kind = kind; address = address }) (cell mark w)) place old
+    ≡ storedBy (landingOf (record { arriving = on; kind = kind; address = address }) (seenCell mark w)) place old
 unfolding _≤?_ _and_
 memory-law zero w address kind place old on = refl
 memory-law (suc zero) w address kind place old on = refl
@@ -149,32 +149,32 @@ memory-law (suc (suc (suc mark))) w address kind place old on = rw (two-most mar
 -- the clock
 schedule-law : (ends : Bool) (mark ordered period schedule number : ℕ)
     → pick (ends and 1 ≤? mark and period =? number) ordered schedule
-    ≡ pick ends (scheduleAfter (orderIn mark ordered period) number schedule) schedule
+    ≡ pick ends (scheduleAfter (seenOrder mark ordered period) number schedule) schedule
 unfolding _≤?_ _and_
 schedule-law true zero ordered period schedule number = refl
 schedule-law true (suc mark) ordered period schedule number = rw (yes≤ {a = 1} {b = suc mark} (omega arith)) refl
 schedule-law false mark ordered period schedule number = refl
 
 order-law : (ends : Bool) (mark ordered period number : ℕ)
-    → orderIn (pick (ends and 1 ≤? mark and period =? number) 0 mark) ordered period
-    ≡ pick ends (orderAfter (orderIn mark ordered period) number) (orderIn mark ordered period)
+    → seenOrder (pick (ends and 1 ≤? mark and period =? number) 0 mark) ordered period
+    ≡ pick ends (orderAfter (seenOrder mark ordered period) number) (seenOrder mark ordered period)
 unfolding _≤?_ _and_
 order-law false mark ordered period number = refl
 order-law true zero ordered period number = refl
 order-law true (suc mark) ordered period number = rw (yes≤ {a = 1} {b = suc mark} (omega arith)) (go (period =? number))
   where
-    go : (b : Bool) → orderIn (pick b 0 (suc mark)) ordered period ≡ pick b noOrder (pending ordered period)
+    go : (b : Bool) → seenOrder (pick b 0 (suc mark)) ordered period ≡ pick b noOrder (pending ordered period)
     go true = refl
     go false = refl
 
 -- what a circuit puts on its wire, and what a node's source does
-pub sent-same : (s m : List ℕ) (circuit : ℕ) → cell (sentMark s circuit) (sentWord s m circuit) ≡ sentNow (sheetIn s) (view s m) circuit
+pub sent-same : (s m : List ℕ) (circuit : ℕ) → seenCell (sentMark s circuit) (sentWord s m circuit) ≡ sentNow (sheetIn s) (view s m) circuit
 unfolding sentMark sentWord slotIn
 sent-same s m circuit =
     sent-cell (moveNow (sheetIn s) (view s m) circuit) (headNow (sheetIn s) (view s m) circuit)
-    (readNow (sheetIn s) (view s m) circuit) (senderIn s circuit)
+    (readNow (sheetIn s) (view s m) circuit) (seenSender s circuit)
 
-pub wire-same : (s m : List ℕ) (node : ℕ) → cell (sourceMark s node) (sourceWord s m node) ≡ sourceWire (sheetIn s) (view s m) node
+pub wire-same : (s m : List ℕ) (node : ℕ) → seenCell (sourceMark s node) (sourceWord s m node) ≡ sourceWire (sheetIn s) (view s m) node
 unfolding sourceWire sourceMark sourceWord
 wire-same s m node =
     cell-first (circuits (sheetIn s)) (ownMark s node) (sentWord s m)
@@ -184,7 +184,7 @@ wire-same s m node =
 
 -- what an input asks of an output
 pub asked-same : (s m : List ℕ) (node o input : ℕ)
-    → cell (askedMark s node o input) (reg s headWord (at node input)) ≡ asks (view s m .routers) node o input
+    → seenCell (askedMark s node o input) (reg s headWord (at node input)) ≡ asks (view s m .routers) node o input
 unfolding asks askedMark
 asked-same s m node o input =
     cell-only (reg s choiceRow (at node input) =? o + 1) (reg s headMark (at node input)) (reg s headWord (at node input))
@@ -201,7 +201,7 @@ module _ (s m : List ℕ) where
   link-next : (node input : ℕ) → RouterAfter s m node input → after .routers .link node input ≡ next .routers .link node input
   unfolding stepRouters nextLinkMark nextLinkWord
   link-next node input r =
-      ap₂ cell (r .link-mark) (r .link-word)
+      ap₂ seenCell (r .link-mark) (r .link-word)
       ∙ cell-pick (input =? sourceInput) _ _ _ _
       ∙ ap (λ x. pick (input =? sourceInput) x
       (view s m .routers .out (neighbourOf (columns (sheetIn s)) (rows (sheetIn s)) node input) (oppositeOf input)))
@@ -210,28 +210,28 @@ module _ (s m : List ℕ) where
   head-next : (node input : ℕ) → RouterAfter s m node input → after .routers .head node input ≡ next .routers .head node input
   unfolding stepRouters
   head-next node input r =
-      ap₂ cell (r .head-mark) (r .head-word) ∙ head-law (reg s linkMark (at node input)) (reg s linkWord (at node input))
+      ap₂ seenCell (r .head-mark) (r .head-word) ∙ head-law (reg s linkMark (at node input)) (reg s linkWord (at node input))
 
   choice-next : (node input : ℕ) → RouterAfter s m node input → after .routers .choice node input ≡ next .routers .choice node input
   unfolding stepRouters
   choice-next node input r =
-      ap choiceIn (r .choice-register)
+      ap seenChoice (r .choice-register)
       ∙ choice-law input (reg s latchRow (at node input)) (reg s linkMark (at node input)) (reg s linkWord (at node input))
 
   latch-next : (node input : ℕ) → RouterAfter s m node input → after .routers .latch node input ≡ next .routers .latch node input
   unfolding stepRouters
   latch-next node input r =
-      ap choiceIn (r .latch-register)
+      ap seenChoice (r .latch-register)
       ∙ latch-law input (reg s latchRow (at node input)) (reg s linkMark (at node input)) (reg s linkWord (at node input))
 
   out-next : (node o : ℕ) → RouterAfter s m node o → after .routers .out node o ≡ next .routers .out node o
   unfolding stepRouters nextOutMark nextOutWord
   out-next node o r =
-      ap₂ cell (r .out-mark) (r .out-word)
+      ap₂ seenCell (r .out-mark) (r .out-word)
       ∙ cell-first 5 (askedMark s node o) (λ input. reg s headWord (at node input))
       ∙ gather-same 5 _ _ (λ input _. asked-same s m node o input)
 
-  sender-next : (circuit : ℕ) → senderIn (nextState s m) circuit ≡ nextSender s circuit → after .sender circuit ≡ next .sender circuit
+  sender-next : (circuit : ℕ) → seenSender (nextState s m) circuit ≡ nextSender s circuit → after .sender circuit ≡ next .sender circuit
   unfolding slotIn
   sender-next circuit e = e
 
@@ -244,7 +244,7 @@ module _ (s m : List ℕ) where
   landing-next : (node : ℕ) → NodeAfter s m node → after .landing node ≡ next .landing node
   unfolding nextLandingMark
   landing-next node r =
-      (λ i. landingIn (r .landing-mark i) (r .landing-kind i) (r .landing-address i) (r .landing-word i))
+      (λ i. seenLanding (r .landing-mark i) (r .landing-kind i) (r .landing-address i) (r .landing-word i))
       ∙ landing-law (memoryMark s node) (memoryWord s node) (reg s receiveAddress node) (reg s receiveKind node)
       (marked (reg s receiveMark node))
 
@@ -272,12 +272,12 @@ module _ (s m : List ℕ) where
   schedule-next =
       clock-after s m .schedule
       ∙ schedule-law (periodEnds (sheetIn s) (view s m)) (reg s clockRow orderMarkPlace) (reg s clockRow orderSchedulePlace)
-      (reg s clockRow orderPeriodPlace) (reg s clockRow schedulePlace) (nextNumber (reg s clockRow numberPlace))
+      (reg s clockRow orderPeriodPlace) (reg s clockRow inForcePlace) (nextNumber (reg s clockRow numberPlace))
 
   order-next : after .order ≡ next .order
   unfolding turns isDue
   order-next =
-      (λ i. orderIn (clock-after s m .order-mark i) (clock-after s m .order-schedule i) (clock-after s m .order-period i))
+      (λ i. seenOrder (clock-after s m .order-mark i) (clock-after s m .order-schedule i) (clock-after s m .order-period i))
       ∙ order-law (periodEnds (sheetIn s) (view s m)) (reg s clockRow orderMarkPlace) (reg s clockRow orderSchedulePlace)
       (reg s clockRow orderPeriodPlace) (nextNumber (reg s clockRow numberPlace))
 

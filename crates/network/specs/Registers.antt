@@ -31,8 +31,8 @@ cyclePlace = 0
 abbrev pub numberPlace : ℕ
 numberPlace = 1
 
-abbrev pub schedulePlace : ℕ
-schedulePlace = 2
+abbrev pub inForcePlace : ℕ
+inForcePlace = 2
 
 abbrev pub orderMarkPlace : ℕ
 orderMarkPlace = 3
@@ -106,6 +106,10 @@ kindRow = 19
 
 abbrev pub toGoRow : ℕ
 toGoRow = 20
+
+-- the place of a router's register, from its node and input or output
+abbrev pub at : ℕ → ℕ → ℕ
+at node k = node * 5 + k
 
 -- register k of a row
 unfoldable pub reg : List ℕ → ℕ → ℕ → ℕ

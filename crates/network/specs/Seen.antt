@@ -5,57 +5,66 @@ use mathlib.Core.List.{List}
 use mathlib.Core.Path.{_≡_}
 use Rattle.words.specs.Words.{word}
 use Rattle.sheet.specs.Sheet.{memoryWords, circuits, nodes}
-use Rattle.network.specs.View.{Cell, empty, header, payload, Choice, noOutput, toOutput, Landing, nothing, landed, Order, noOrder, pending, View}
-use Rattle.network.specs.Registers.{reg, room, clockRow, cyclePlace, numberPlace, schedulePlace, orderMarkPlace, orderSchedulePlace, orderPeriodPlace, linkMark, linkWord, headMark, headWord, choiceRow, latchRow, outMark, outWord, receiveMark, receiveKind, receiveAddress, landingMark, landingKind, landingAddress, landingWord}
-use Rattle.network.specs.Machine.{at, senderIn}
+use Rattle.network.specs.View.{Sender, Cell, empty, header, payload, Choice, noOutput, toOutput, Landing, nothing, landed, Order, noOrder, pending, View}
+use Rattle.network.specs.Registers.{at, reg, room, clockRow, cyclePlace, numberPlace, inForcePlace, orderMarkPlace, orderSchedulePlace, orderPeriodPlace, linkMark, linkWord, headMark, headWord, choiceRow, latchRow, outMark, outWord, receiveMark, receiveKind, receiveAddress, landingMark, landingKind, landingAddress, landingWord, leftRow, readRow, writeRow, kindRow, toGoRow}
 
 -- a cell, from its mark and word
-abbrev pub cell : ℕ → ℕ → Cell
-cell zero w = empty
-cell (suc zero) w = header w
-cell (suc (suc zero)) w = payload w false
-cell (suc (suc (suc mark))) w = payload w true
+abbrev pub seenCell : ℕ → ℕ → Cell
+seenCell zero w = empty
+seenCell (suc zero) w = header w
+seenCell (suc (suc zero)) w = payload w false
+seenCell (suc (suc (suc mark))) w = payload w true
 
 -- a choice, from its register or from the latch: one more than the output, 0 for none
-abbrev pub choiceIn : ℕ → Choice
-choiceIn zero = noOutput
-choiceIn (suc output) = toOutput output
+abbrev pub seenChoice : ℕ → Choice
+seenChoice zero = noOutput
+seenChoice (suc output) = toOutput output
 
 abbrev pub marked : ℕ → Bool
 marked zero = false
 marked (suc mark) = true
 
-abbrev pub landingIn : ℕ → ℕ → ℕ → ℕ → Landing
-landingIn zero kind address w = nothing
-landingIn (suc mark) kind address w = landed kind address w
+abbrev pub seenLanding : ℕ → ℕ → ℕ → ℕ → Landing
+seenLanding zero kind address w = nothing
+seenLanding (suc mark) kind address w = landed kind address w
 
-abbrev pub orderIn : ℕ → ℕ → ℕ → Order
-orderIn zero schedule period = noOrder
-orderIn (suc mark) schedule period = pending schedule period
+abbrev pub seenOrder : ℕ → ℕ → ℕ → Order
+seenOrder zero schedule period = noOrder
+seenOrder (suc mark) schedule period = pending schedule period
+
+-- a circuit's sender
+abbrev pub seenSender : List ℕ → ℕ → Sender
+seenSender s c = record {
+  left = reg s leftRow c;
+  readAddress = reg s readRow c;
+  writeAddress = reg s writeRow c;
+  kind = reg s kindRow c;
+  toGo = reg s toGoRow c;
+}
 
 -- the machine in a state's words and the memories
 abbrev pub view : List ℕ → List ℕ → View
 view s m = record {
   routers = record {
-    link = λ node input. cell (reg s linkMark (at node input)) (reg s linkWord (at node input));
-    head = λ node input. cell (reg s headMark (at node input)) (reg s headWord (at node input));
-    choice = λ node input. choiceIn (reg s choiceRow (at node input));
-    latch = λ node input. choiceIn (reg s latchRow (at node input));
-    out = λ node o. cell (reg s outMark (at node o)) (reg s outWord (at node o));
+    link = λ node input. seenCell (reg s linkMark (at node input)) (reg s linkWord (at node input));
+    head = λ node input. seenCell (reg s headMark (at node input)) (reg s headWord (at node input));
+    choice = λ node input. seenChoice (reg s choiceRow (at node input));
+    latch = λ node input. seenChoice (reg s latchRow (at node input));
+    out = λ node o. seenCell (reg s outMark (at node o)) (reg s outWord (at node o));
   };
   memory = λ node address. word m (node * room s + address);
   cycle = reg s clockRow cyclePlace;
   periodNumber = reg s clockRow numberPlace;
-  schedule = reg s clockRow schedulePlace;
-  order = orderIn (reg s clockRow orderMarkPlace) (reg s clockRow orderSchedulePlace) (reg s clockRow orderPeriodPlace);
-  sender = senderIn s;
+  schedule = reg s clockRow inForcePlace;
+  order = seenOrder (reg s clockRow orderMarkPlace) (reg s clockRow orderSchedulePlace) (reg s clockRow orderPeriodPlace);
+  sender = seenSender s;
   receiver = λ node. record {
     arriving = marked (reg s receiveMark node);
     kind = reg s receiveKind node;
     address = reg s receiveAddress node;
   };
   landing = λ node.
-      landingIn (reg s landingMark node) (reg s landingKind node) (reg s landingAddress node) (reg s landingWord node);
+      seenLanding (reg s landingMark node) (reg s landingKind node) (reg s landingAddress node) (reg s landingWord node);
 }
 
 -- two views agree on all registers, senders and memory words that a sheet has

@@ -3,7 +3,7 @@ ghost use mathlib.Core.Path.{_≡_};
 ghost use Prim.Native.Nat.{ℕ, _%_};
 ghost use Rattle.network.specs.Cycle.{outputFor};
 ghost use Rattle.network.specs.Registers.{reg as regOf, put, sheetIn, latchRow, linkMark, linkWord};
-ghost use Rattle.network.specs.Machine.{nextHeadWord, nextLatch};
+ghost use Rattle.network.specs.Inner.Machine.{nextHeadWord, nextLatch};
 use packet::Header;
 
 // The register map (docs/STATE.md): rows of 80 words, by their numbers, and the places in the clock's row.
@@ -24,7 +24,7 @@ pub const CYCLE_PLACE: u32 = 0;
 
 pub const NUMBER_PLACE: u32 = 1;
 
-pub const SCHEDULE_PLACE: u32 = 2;
+pub const IN_FORCE_PLACE: u32 = 2;
 
 pub const ORDER_MARK_PLACE: u32 = 3;
 

@@ -12,7 +12,7 @@ use lib.Bits.{bitOr, bitAnd, or-shr, or-mod, and-high}
 use lib.Pow.{field, pow-lt, shl-lt, mod-mod-pow, mod-pow-add, shr-shr, shl-shr, pow-add, pow-pos, pow-mono, ones-split, ones-lt, high, high-ones}
 use Rattle.words.specs.Tests.{_and_, _or_, _≤?_, _<?_, _=?_, _≠?_}
 use Rattle.words.proofs.TestLaws.{and-both, and-no, and-no-right, yes≤, no≤, yes<, no<, yes=, no=, yes≠, no≠}
-use Rattle.occupancy.specs.Occupancy.{bitAt, slotMask}
+use Rattle.occupancy.specs.Inner.Occupancy.{bitAt, slotMask}
 
 -- a bit below k is a bit of the low part
 pub bit-low : (v k i : ℕ) → i < k → bitAt (v % 2 ^ k) i ≡ bitAt v i

@@ -14,7 +14,7 @@ use lib.Seq.{getD-set-same, getD-set-other, set-getD}
 use Rattle.words.specs.Tests.{_and_, _or_, _≤?_, _<?_, _=?_}
 use Rattle.words.specs.Words.{word}
 use Rattle.words.proofs.TestLaws.{and-both, and-no, and-no-right, or-yes, or-on, yes≤, no≤, yes<, no<, yes=, no=}
-use Rattle.occupancy.specs.Occupancy.{bitAt, taken, run, listed, window, slotMask, takeRun, Takes}
+use Rattle.occupancy.specs.Inner.Occupancy.{bitAt, taken, run, listed, window, slotMask, takeRun, Takes}
 use Rattle.occupancy.proofs.BitLaws.{bit-or, bit-mask, mask-small}
 use Rattle.occupancy.proofs.WindowLaws.{window-low, window-high, window-bit}
 

@@ -10,7 +10,7 @@ use lib.Bits.{bitAnd}
 use lib.Pow.{high, low}
 use Rattle.words.specs.Tests.{_or_, _=?_, _≠?_}
 use Rattle.words.specs.Words.{word}
-use Rattle.occupancy.specs.Occupancy.{bitAt, taken, run, anyTaken, window, slotMask}
+use Rattle.occupancy.specs.Inner.Occupancy.{bitAt, taken, run, anyTaken, window, slotMask}
 use Rattle.occupancy.proofs.BitLaws.{bit-low, bit-high, and-mask-none, low-none, low-more}
 
 module _ (table : List ℕ) (q : ℕ) (small : word table q < 2 ^ 32) where

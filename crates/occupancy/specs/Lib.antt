@@ -1,1 +1,1 @@
-pub mod Occupancy
+pub mod Inner

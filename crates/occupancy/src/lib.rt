@@ -3,7 +3,7 @@
 ghost use mathlib.Core.Path.{_≡_};
 ghost use Prim.Native.Nat.{ℕ, _+_, _*_, _/_, _%_, _<_, _≤_};
 ghost use lib.ListN.{length};
-ghost use Rattle.occupancy.specs.Occupancy.{run, anyTaken, window as windowOf, slotMask, takeRun};
+ghost use Rattle.occupancy.specs.Inner.Occupancy.{run, anyTaken, window as windowOf, slotMask, takeRun};
 
 // The sixty-four places from word q on.
 fn window(table: &[u32], q: usize) -> u64

@@ -10,26 +10,26 @@ use Rattle.words.specs.Tests.{_=?_}
 use Rattle.words.specs.Words.{pick}
 use Rattle.words.proofs.TestLaws.{and-no, and-on, yes≤, no≤}
 use Rattle.sheet.specs.Sheet.{schedules, period}
-use Rattle.sheet.specs.Passed.{Framed}
+use Rattle.sheet.specs.Inner.Passed.{Framed}
 use Rattle.network.specs.Cycle.{nextNumber}
-use Rattle.network.specs.Registers.{reg, put, sheetIn, movingWords, clockRow, cyclePlace, numberPlace, schedulePlace, orderMarkPlace, orderSchedulePlace, orderPeriodPlace}
-use Rattle.network.specs.Machine.{turns, isDue, nextClock, nextRows, nextInRow}
-use Rattle.network.specs.Stages.{stage}
+use Rattle.network.specs.Registers.{reg, put, sheetIn, movingWords, clockRow, cyclePlace, numberPlace, inForcePlace, orderMarkPlace, orderSchedulePlace, orderPeriodPlace}
+use Rattle.network.specs.Inner.Machine.{turns, isDue, nextClock, nextRows, nextInRow}
+use Rattle.network.specs.Inner.Stages.{stage}
 use Rattle.network.proofs.FillLaws.{Staged, wrote-one, wrote-nothing, stage-start, stage-more, staged-is}
-use Rattle.receivers.specs.Required.{Clocked}
-use Rattle.receivers.specs.Written.{clockPut}
+use Rattle.receivers.specs.Inner.Required.{Clocked}
+use Rattle.receivers.specs.Inner.Written.{clockPut}
 
 -- the period of the schedule in force
-module _ (s z : List ℕ) (g : Clocked s) (own : z ≡ sheetIn s) (j : ℕ) (p : j ≡ reg s clockRow schedulePlace) where
+module _ (s z : List ℕ) (g : Clocked s) (own : z ≡ sheetIn s) (j : ℕ) (p : j ≡ reg s clockRow inForcePlace) where
   pub period-asked : Framed z × (j < schedules z)
   period-asked =
       (subst Framed (sym own) (g .framed), (let h : schedules z ≡ schedules (sheetIn s) = ap schedules own in omega (arith, g .in-force)))
 
-  pub period-read : (size : ℕ) → size ≡ period z j → size ≡ period (sheetIn s) (reg s clockRow schedulePlace)
+  pub period-read : (size : ℕ) → size ≡ period z j → size ≡ period (sheetIn s) (reg s clockRow inForcePlace)
   period-read size e = e ∙ ap₂ period own p
 
 -- the period turns
-pub turns-is : (s : List ℕ) (cycle size : ℕ) → cycle ≡ reg s clockRow cyclePlace → size ≡ period (sheetIn s) (reg s clockRow schedulePlace)
+pub turns-is : (s : List ℕ) (cycle size : ℕ) → cycle ≡ reg s clockRow cyclePlace → size ≡ period (sheetIn s) (reg s clockRow inForcePlace)
     → (cycle + 1 =? size) ≡ turns s
 unfolding turns
 turns-is s cycle size p q = ap₂ (λ (c n : ℕ). c + 1 =? n) p q
@@ -56,7 +56,7 @@ module _ (s : List ℕ) (turning : Bool) (e : turning ≡ turns s) where
 pub clock-is : (s : List ℕ) (cycle number schedule mark : ℕ) {a b d after : List ℕ}
     → a ≡ put s clockRow cyclePlace cycle
     → b ≡ put a clockRow numberPlace number
-    → d ≡ put b clockRow schedulePlace schedule
+    → d ≡ put b clockRow inForcePlace schedule
     → after ≡ put d clockRow orderMarkPlace mark
     → after ≡ clockPut s cycle number schedule mark
 unfolding clockPut
@@ -64,7 +64,7 @@ clock-is s cycle number schedule mark e f g h =
     h
     ∙ ap (λ (x : List ℕ). put x clockRow orderMarkPlace mark)
     (g
-    ∙ ap (λ (x : List ℕ). put x clockRow schedulePlace schedule) (f ∙ ap (λ (x : List ℕ). put x clockRow numberPlace number) e))
+    ∙ ap (λ (x : List ℕ). put x clockRow inForcePlace schedule) (f ∙ ap (λ (x : List ℕ). put x clockRow numberPlace number) e))
 
 -- what the stage wants of the clock's row
 abbrev wanted : List ℕ → ℕ → ℕ → ℕ
@@ -92,7 +92,7 @@ module _ (s : List ℕ) (long : movingWords ≤ length s) where
   pub clock-staged : (cycle number schedule mark : ℕ)
       → cycle ≡ pick (turns s) 0 (reg s clockRow cyclePlace + 1)
       → number ≡ pick (turns s) (nextNumber (reg s clockRow numberPlace)) (reg s clockRow numberPlace)
-      → schedule ≡ pick (isDue s) (reg s clockRow orderSchedulePlace) (reg s clockRow schedulePlace)
+      → schedule ≡ pick (isDue s) (reg s clockRow orderSchedulePlace) (reg s clockRow inForcePlace)
       → mark ≡ pick (isDue s) 0 (reg s clockRow orderMarkPlace)
       → clockPut s cycle number schedule mark ≡ stage 0 0 6 (wanted s) s
   unfolding clockPut nextInRow nextRows nextClock _=?_
@@ -109,7 +109,7 @@ module _ (s : List ℕ) (long : movingWords ≤ length s) where
 -- the stage, from what was read and picked
 module _ (s : List ℕ) (g : Clocked s) (turning due : Bool) (t : turning ≡ turns s) (d : due ≡ isDue s)
     (cycle number next ordered schedule mark : ℕ) (p : cycle ≡ reg s clockRow cyclePlace) (q : number ≡ reg s clockRow numberPlace)
-    (r : next ≡ nextNumber number) (o : ordered ≡ reg s clockRow orderSchedulePlace) (j : schedule ≡ reg s clockRow schedulePlace)
+    (r : next ≡ nextNumber number) (o : ordered ≡ reg s clockRow orderSchedulePlace) (j : schedule ≡ reg s clockRow inForcePlace)
     (k : mark ≡ reg s clockRow orderMarkPlace) where
   pub clock-done : {a b x y : ℕ} {after : List ℕ}
       → a ≡ pick turning 0 (cycle + 1)

@@ -10,10 +10,10 @@ use Rattle.words.specs.Tests.{_≤?_, _=?_}
 use Rattle.words.specs.Words.{pick}
 use Rattle.packet.specs.Header.{kindOf, addressOf}
 use Rattle.network.specs.Registers.{reg, put, movingWords, receiveMark, receiveKind, receiveAddress, landingMark, landingKind, landingAddress, landingWord, outMark, outWord}
-use Rattle.network.specs.Machine.{memoryMark, memoryWord, nextReceiveMark, nextReceiveKind, nextReceiveAddress, nextLandingMark, nextRows, nextInRow}
+use Rattle.network.specs.Inner.Machine.{memoryMark, memoryWord, nextReceiveMark, nextReceiveKind, nextReceiveAddress, nextLandingMark, nextRows, nextInRow}
 use Rattle.network.proofs.FillLaws.{Wrote, wrote-one, wrote-then}
-use Rattle.receivers.specs.Required.{Landing}
-use Rattle.receivers.specs.Written.{landingPut, receivePut}
+use Rattle.receivers.specs.Inner.Required.{LandingFits}
+use Rattle.receivers.specs.Inner.Written.{landingPut, receivePut}
 
 -- what a node's part reads is in t as it is in s
 pub record SameAt (s t : List ℕ) (node : ℕ) : Type 0 where
@@ -124,11 +124,11 @@ module _ (s t : List ℕ) (node : ℕ) (e : SameAt s t node) (inside : node < 16
       (receive-wrote s (landingPut t node) node landing-same inside (omega (arith, w .same-length)))
 
 -- so the address of a word that lands is as small behind it
-pub landing-kept : (s t : List ℕ) (node size : ℕ) → Landing s node size → t ≡ landingPut s node → Landing t node size
+pub landing-kept : (s t : List ℕ) (node size : ℕ) → LandingFits s node size → t ≡ landingPut s node → LandingFits t node size
 landing-kept s t node size g e =
     let w = landing-wrote s s node (same-here s node) (g .inside) (g .long) in
     let same = landing-same s s node (same-here s node) (g .inside) (g .long) in
-    subst (λ (x : List ℕ). Landing x node size) (sym e)
+    subst (λ (x : List ℕ). LandingFits x node size) (sym e)
     (record {
       inside = g .inside;
       long = omega (arith, w .same-length, g .long);

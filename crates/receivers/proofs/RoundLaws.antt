@@ -15,11 +15,11 @@ use Rattle.words.proofs.TestLaws.{and-no, and-both, and-no-right, yes≤, yes=,
 use Rattle.words.proofs.WordLaws.{tab-is}
 use Rattle.sheet.specs.Sheet.{nodes}
 use Rattle.network.specs.Registers.{reg, sheetIn, room, movingWords, outMark, outWord, receiveMark, receiveKind, receiveAddress}
-use Rattle.network.specs.Machine.{memoryMark, memoryWord, memoryAfter, nextInRow, nextMemory, straysIn}
-use Rattle.network.specs.Stages.{stage}
+use Rattle.network.specs.Inner.Machine.{memoryMark, memoryWord, memoryAfter, nextInRow, nextMemory, straysIn}
+use Rattle.network.specs.Inner.Stages.{stage}
 use Rattle.network.proofs.FillLaws.{Staged, stage-start, stage-more, still, beside, staged-is}
-use Rattle.receivers.specs.Required.{Receivable, Landing}
-use Rattle.receivers.specs.Written.{landingPut, receivePut, memoryPut}
+use Rattle.receivers.specs.Inner.Required.{Receivable, LandingFits}
+use Rattle.receivers.specs.Inner.Written.{landingPut, receivePut, memoryPut}
 use Rattle.receivers.proofs.NodeLaws.{SameAt, node-wrote}
 
 -- a payload word that does not stray has an address within the memory
@@ -95,7 +95,7 @@ module _ (s m : List ℕ) (count size : ℕ) (g : Receivable s m count size) whe
     lands-now : 2 ≤ memoryMark s n → reg s receiveAddress n < size
     lands-now h = omega (arith, not-stray s n (g .calm n l) h, g .counted .own-room)
 
-    pub landing-now : Landing now n size
+    pub landing-now : LandingFits now n size
     landing-now =
         let e = same-now in
         record {

@@ -11,8 +11,8 @@ use Rattle.words.proofs.TestLaws.{and-no, and-on, or-yes, or-on, yes≤, no≤,
 use Rattle.words.proofs.AllLaws.{any-at}
 use Rattle.sheet.specs.Sheet.{nodes}
 use Rattle.network.specs.Registers.{reg, sheetIn, room, receiveMark, receiveAddress}
-use Rattle.network.specs.Machine.{memoryMark, straysIn}
-use Rattle.receivers.specs.Required.{Counted}
+use Rattle.network.specs.Inner.Machine.{memoryMark, straysIn}
+use Rattle.receivers.specs.Inner.Required.{Counted}
 
 -- one node
 module _ (s : List ℕ) (node mark : ℕ) (e : mark ≡ memoryMark s node) where

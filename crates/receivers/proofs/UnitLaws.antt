@@ -9,9 +9,9 @@ use lib.ListN.{set}
 use Rattle.words.proofs.TestLaws.{yes=, no=, yes≤, no≤}
 use Rattle.packet.specs.Header.{kindOf, addressOf}
 use Rattle.network.specs.Registers.{reg, put, receiveMark, receiveKind, receiveAddress, landingMark, landingKind, landingAddress, landingWord}
-use Rattle.network.specs.Machine.{memoryMark, memoryWord, nextReceiveMark, nextReceiveKind, nextReceiveAddress, nextLandingMark}
-use Rattle.receivers.specs.Required.{Landing}
-use Rattle.receivers.specs.Written.{landingPut, receivePut, memoryPut}
+use Rattle.network.specs.Inner.Machine.{memoryMark, memoryWord, nextReceiveMark, nextReceiveKind, nextReceiveAddress, nextLandingMark}
+use Rattle.receivers.specs.Inner.Required.{LandingFits}
+use Rattle.receivers.specs.Inner.Written.{landingPut, receivePut, memoryPut}
 
 module _ (s : List ℕ) (node mark : ℕ) (e : mark ≡ memoryMark s node) where
   -- what the mark is and is not
@@ -60,7 +60,7 @@ module _ (s : List ℕ) (node mark : ℕ) (e : mark ≡ memoryMark s node) where
   address-held v q ne l = rw (no= (other ne), no≤ (low 2 l)) q
 
   -- a word that lands has a small address
-  pub address-small : (size v : ℕ) → Landing s node size → v ≡ reg s receiveAddress node → 2 ≤ mark → v < 16384
+  pub address-small : (size v : ℕ) → LandingFits s node size → v ≡ reg s receiveAddress node → 2 ≤ mark → v < 16384
   address-small size v g q l = omega (arith, g .lands (high 2 l), g .small-room)
 
   -- the landing's mark

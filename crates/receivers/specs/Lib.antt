@@ -1,2 +1,1 @@
-pub mod Required
-pub mod Written
+pub mod Inner

@@ -4,18 +4,18 @@ ghost use mathlib.Core.List.{[]};
 ghost use Rattle.words.specs.Words.{pick};
 ghost use Rattle.sheet.specs.Sheet.{period};
 ghost use Rattle.network.specs.Cycle.{nextNumber};
-ghost use Rattle.network.specs.Registers.{reg as regOf, sheetIn, clockRow, numberPlace, schedulePlace};
-ghost use Rattle.network.specs.Machine.{turns, isDue, nextInRow};
-ghost use Rattle.network.specs.Stages.{stage};
-ghost use Rattle.receivers.specs.Required.{Clocked};
-ghost use Rattle.receivers.specs.Written.{clockPut};
+ghost use Rattle.network.specs.Registers.{reg as regOf, sheetIn, clockRow, numberPlace, inForcePlace};
+ghost use Rattle.network.specs.Inner.Machine.{turns, isDue, nextInRow};
+ghost use Rattle.network.specs.Inner.Stages.{stage};
+ghost use Rattle.receivers.specs.Inner.Required.{Clocked};
+ghost use Rattle.receivers.specs.Inner.Written.{clockPut};
 use network::CLOCK_ROW;
 use network::CYCLE_PLACE;
+use network::IN_FORCE_PLACE;
 use network::NUMBER_PLACE;
 use network::ORDER_MARK_PLACE;
 use network::ORDER_PERIOD_PLACE;
 use network::ORDER_SCHEDULE_PLACE;
-use network::SCHEDULE_PLACE;
 use network::put_reg;
 use network::reg;
 
@@ -32,10 +32,10 @@ fn picked(test: bool, a: u32, b: u32) -> u32
 // The period of the schedule in force. A sound state meets the requires, here and below.
 fn period_now(s: &[u32]) -> u32
     requires { ⌜ Clocked (now s) ⌝ }
-    ensures { λ r. ⌜ r ≡ period (sheetIn (now (s .entry))) (regOf (now (s .entry)) clockRow schedulePlace) ⌝ }
+    ensures { λ r. ⌜ r ≡ period (sheetIn (now (s .entry))) (regOf (now (s .entry)) clockRow inForcePlace) ⌝ }
 {
     let z = network::sheet_of(s);
-    sheet::schedule_period(z, reg(s, CLOCK_ROW, SCHEDULE_PLACE))
+    sheet::schedule_period(z, reg(s, CLOCK_ROW, IN_FORCE_PLACE))
 }
 
 // The order is due: the period turns, and the order is for the new one. step_clock hands on what it has worked out.
@@ -58,7 +58,7 @@ fn put_clock(s: &mut [u32], cycle: u32, number: u32, schedule: u32, mark: u32)
 {
     put_reg(s, CLOCK_ROW, CYCLE_PLACE, cycle);
     put_reg(s, CLOCK_ROW, NUMBER_PLACE, number);
-    put_reg(s, CLOCK_ROW, SCHEDULE_PLACE, schedule);
+    put_reg(s, CLOCK_ROW, IN_FORCE_PLACE, schedule);
     put_reg(s, CLOCK_ROW, ORDER_MARK_PLACE, mark);
 }
 
@@ -75,7 +75,7 @@ pub fn step_clock(s: &mut [u32])
     let after = std::num::wrapping_add_u32(number, 1);
     let due = is_due(s, turning, after);
     let ordered = reg(s, CLOCK_ROW, ORDER_SCHEDULE_PLACE);
-    let schedule = picked(due, ordered, reg(s, CLOCK_ROW, SCHEDULE_PLACE));
+    let schedule = picked(due, ordered, reg(s, CLOCK_ROW, IN_FORCE_PLACE));
     let mark = picked(due, 0, reg(s, CLOCK_ROW, ORDER_MARK_PLACE));
     put_clock(
         s,

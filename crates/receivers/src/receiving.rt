@@ -5,10 +5,10 @@ ghost use Prim.Native.Nat.{ℕ, _+_, _*_, _<_, _≤_};
 ghost use Rattle.words.specs.Tests.{any};
 ghost use Rattle.sheet.specs.Sheet.{nodes as nodesOf};
 ghost use Rattle.network.specs.Registers.{reg as regOf, sheetIn, room as roomOf};
-ghost use Rattle.network.specs.Machine.{memoryMark, memoryWord, straysIn, nextReceiveMark, nextReceiveKind, nextReceiveAddress, nextLandingMark, nextInRow, nextMemory};
-ghost use Rattle.network.specs.Stages.{stage};
-ghost use Rattle.receivers.specs.Required.{Counted, Receivable, Landing};
-ghost use Rattle.receivers.specs.Written.{landingPut, receivePut, memoryPut};
+ghost use Rattle.network.specs.Inner.Machine.{memoryMark, memoryWord, straysIn, nextReceiveMark, nextReceiveKind, nextReceiveAddress, nextLandingMark, nextInRow, nextMemory};
+ghost use Rattle.network.specs.Inner.Stages.{stage};
+ghost use Rattle.receivers.specs.Inner.Required.{Counted, Receivable, LandingFits};
+ghost use Rattle.receivers.specs.Inner.Written.{landingPut, receivePut, memoryPut};
 use network::LANDING_ADDRESS;
 use network::LANDING_KIND;
 use network::LANDING_MARK;
@@ -97,7 +97,7 @@ fn next_receive_kind(s: &[u32], node: u32) -> u32
 
 // Its address: a header's, and one more behind each payload word. No word strays, so it cannot wrap.
 fn next_receive_address(s: &[u32], node: u32, room: u32) -> u32
-    requires { ⌜ Landing (now s) node room ⌝ }
+    requires { ⌜ LandingFits (now s) node room ⌝ }
     ensures { λ r. ⌜ r ≡ nextReceiveAddress (now (s .entry)) node ⌝ }
 {
     let mark = memory_mark(s, node);
@@ -155,7 +155,7 @@ fn put_landing(s: &mut [u32], node: u32)
 
 // Sets the three registers of a node's receive unit.
 fn put_receive(s: &mut [u32], node: u32, room: u32)
-    requires { ⌜ Landing (now s) node room ⌝ }
+    requires { ⌜ LandingFits (now s) node room ⌝ }
     ensures { λ _. ⌜ now (s .exit) ≡ receivePut (now (s .entry)) node ⌝ }
 {
     let mark = next_receive_mark(s, node);
@@ -168,7 +168,7 @@ fn put_receive(s: &mut [u32], node: u32, room: u32)
 
 // Steps one node: its landing is put before its receive unit goes on.
 fn step_receiver(s: &mut [u32], m: &mut [u32], node: u32, room: u32)
-    requires { ⌜ Landing (now s) node room ⌝ }
+    requires { ⌜ LandingFits (now s) node room ⌝ }
     ensures state { λ _. ⌜ now (s .exit) ≡ receivePut (landingPut (now (s .entry)) node) node ⌝ }
     ensures memory { λ _. ⌜ now (m .exit) ≡ memoryPut (now (s .entry)) (now (m .entry)) node room ⌝ }
 {

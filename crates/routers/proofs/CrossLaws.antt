@@ -15,10 +15,10 @@ use Rattle.words.proofs.AllLaws.{any-none, any-same}
 use Rattle.words.proofs.TestLaws.{and-no-right, or-on, is=, no=, yes=, yes≤, no≤}
 use Rattle.words.proofs.WordLaws.{countOf-more, length-tab, tab-at, tab-is}
 use Rattle.sheet.specs.Sheet.{nodes}
-use Rattle.network.specs.Registers.{reg, sheetIn, headMark, headWord, choiceRow}
-use Rattle.network.specs.Machine.{at, firstMark, firstWord, askedMark, nextOutMark, nextOutWord, collidesIn, unchosenIn}
+use Rattle.network.specs.Registers.{reg, sheetIn, headMark, headWord, choiceRow, at}
+use Rattle.network.specs.Inner.Machine.{firstMark, firstWord, askedMark, nextOutMark, nextOutWord, collidesIn, unchosenIn}
 use Rattle.network.proofs.FirstLaws.{word-empty}
-use Rattle.routers.specs.Crossing.{asking, unchosenAt, Crossed}
+use Rattle.routers.specs.Inner.Crossing.{asking, unchosenAt, Crossed}
 use Rattle.routers.proofs.OrderLaws.{passed, passed-some, passed-own, passed-other, passed-start, passed-end, passed-over}
 use Rattle.routers.proofs.PlaceLaws.{any-by-node, or-swap, any-or, same-pick, zero-pick, some-sum, two-more, or-no, and-yes}
 

@@ -9,10 +9,10 @@ use lib.Seq.{set-getD}
 use Rattle.words.proofs.TestLaws.{yes=, no=, no≤}
 use Rattle.network.specs.Cycle.{outputFor}
 use Rattle.network.specs.Registers.{reg, put, movingWords, linkMark, linkWord, headMark, headWord, choiceRow, latchRow}
-use Rattle.network.specs.Machine.{nextHeadWord, nextChoice, nextLatch, nextRows, nextInRow}
+use Rattle.network.specs.Inner.Machine.{nextHeadWord, nextChoice, nextLatch, nextRows, nextInRow}
 use Rattle.network.proofs.PutLaws.{put-other, put-length}
 use Rattle.network.proofs.FillLaws.{Wrote, wrote-one, wrote-then, Staged, stage-more, still, beside}
-use Rattle.routers.specs.Stepping.{headed}
+use Rattle.routers.specs.Inner.Stepping.{headed}
 
 -- the output chosen, from the mark m that was read
 module _ (input latch mark w m : ℕ) (e : m ≡ mark) where

@@ -13,7 +13,7 @@ use Rattle.words.specs.Words.{word, pick}
 use Rattle.words.proofs.AllLaws.{any-at, any-none}
 use Rattle.words.proofs.TestLaws.{and-no, and-both, and-no-right, or-yes, or-on, is=, yes=, no=, yes≤, no≤}
 use Rattle.network.specs.Registers.{reg, headMark, headWord, choiceRow}
-use Rattle.routers.specs.Crossing.{asking, unchosenAt, Crossed}
+use Rattle.routers.specs.Inner.Crossing.{asking, unchosenAt, Crossed}
 use Rattle.routers.proofs.PlaceLaws.{same-pick, zero-pick}
 
 -- what becomes of an output's mark and word where nothing is asked of it

@@ -13,13 +13,13 @@ use Rattle.words.proofs.TestLaws.{yes=, no=}
 use Rattle.torus.specs.Torus.{InGrid, neighbourOf}
 use Rattle.torus.proofs.NeighbourLaws.{bounds, neighbour-inside}
 use Rattle.sheet.specs.Sheet.{columns, rows, nodes}
-use Rattle.sheet.specs.Passed.{Headed}
-use Rattle.network.specs.Registers.{reg, put, sheetIn, movingWords, linkMark, linkWord, outMark, outWord}
+use Rattle.sheet.specs.Inner.Passed.{Headed}
+use Rattle.network.specs.Registers.{reg, put, sheetIn, movingWords, linkMark, linkWord, outMark, outWord, at}
 use Rattle.network.specs.View.{sourceInput}
-use Rattle.network.specs.Machine.{at, neighbourPlace}
-use Rattle.network.specs.Stages.{stage, linkFrom}
+use Rattle.network.specs.Inner.Machine.{neighbourPlace}
+use Rattle.network.specs.Inner.Stages.{stage, linkFrom}
 use Rattle.network.proofs.FillLaws.{Staged, stage-start, stage-more, beside}
-use Rattle.routers.specs.Stepping.{linked, placeBy, linkedBy}
+use Rattle.routers.specs.Inner.Stepping.{linked, placeBy, linkedBy}
 use Rattle.routers.proofs.OutLaws.{pair-wrote, filled}
 
 -- a link register is set, its mark and then its word

@@ -8,7 +8,7 @@ use lib.ListN.{length}
 use Rattle.words.specs.Words.{word, pick}
 use Rattle.words.proofs.TestLaws.{yes=, no=}
 use Rattle.network.specs.Registers.{put, movingWords, outMark, outWord}
-use Rattle.network.specs.Stages.{stage, outFrom}
+use Rattle.network.specs.Inner.Stages.{stage, outFrom}
 use Rattle.network.proofs.PutLaws.{put-length}
 use Rattle.network.proofs.FillLaws.{Wrote, wrote-one, wrote-then, Staged, stage-more, staged-is}
 

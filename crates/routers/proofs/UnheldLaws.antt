@@ -11,7 +11,7 @@ use Rattle.words.proofs.AllLaws.{any-at}
 use Rattle.words.proofs.TestLaws.{and-no, and-on, or-on, yes≤, no≤}
 use Rattle.sheet.specs.Sheet.{nodes}
 use Rattle.network.specs.Registers.{reg, sheetIn, linkMark, latchRow}
-use Rattle.network.specs.Machine.{unheldIn}
+use Rattle.network.specs.Inner.Machine.{unheldIn}
 use Rattle.routers.proofs.PlaceLaws.{any-by-node}
 
 -- none so far, one more

@@ -8,12 +8,12 @@ ghost use Rattle.words.specs.Tests.{any, _and_, _or_, _≤?_, _<?_, _=?_};
 ghost use Rattle.words.specs.Words.{pick, tab};
 ghost use Rattle.torus.specs.Torus.{InGrid};
 ghost use Rattle.sheet.specs.Sheet.{nodes as nodeCount};
-ghost use Rattle.sheet.specs.Passed.{Headed};
+ghost use Rattle.sheet.specs.Inner.Passed.{Headed};
 ghost use Rattle.network.specs.Registers.{reg as regOf, sheetIn, movingWords, linkMark, linkWord, latchRow};
-ghost use Rattle.network.specs.Machine.{nextChoice, nextOutMark, nextOutWord, collidesIn, unheldIn, unchosenIn, nextInRow};
-ghost use Rattle.network.specs.Stages.{stage, linkFrom, outFrom};
-ghost use Rattle.routers.specs.Crossing.{Crossed};
-ghost use Rattle.routers.specs.Stepping.{linked, linkedBy, headed};
+ghost use Rattle.network.specs.Inner.Machine.{nextChoice, nextOutMark, nextOutWord, collidesIn, unheldIn, unchosenIn, nextInRow};
+ghost use Rattle.network.specs.Inner.Stages.{stage, linkFrom, outFrom};
+ghost use Rattle.routers.specs.Inner.Crossing.{Crossed};
+ghost use Rattle.routers.specs.Inner.Stepping.{linked, linkedBy, headed};
 use network::put_reg;
 use network::reg;
 

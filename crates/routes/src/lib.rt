@@ -4,48 +4,48 @@ ghost use mathlib.Core.Bool.{true};
 ghost use Prim.Native.Nat.{ℕ, _+_, _*_, _<_, _≤_};
 ghost use Rattle.sheet.specs.Sheet.{circuits, schedules, period};
 ghost use Rattle.sheet.specs.Rules.{eachEntry, entryLeads, entryEnds, rule4, rule9, rule10};
-ghost use Rattle.sheet.specs.Passed.{Framed, Ranged};
-ghost use Rattle.routes.specs.Joined.{Joined, Timed, Leading, circuitDistance, circuitDistances};
+ghost use Rattle.sheet.specs.Inner.Passed.{Framed, Ranged};
+ghost use Rattle.routes.specs.Inner.Joined.{Joined, Timed, Leading, circuitDistance, circuitDistances};
 use sheet::Circuit;
 use sheet::Entry;
 
 // The distance of circuit k's nodes.
-fn circuit_distance(s: &[u32], k: u32) -> u32
-    requires { ⌜ (Framed (now s)) × (rule4 (now s) ≡ true) × (k < circuits (now s)) ⌝ }
-    ensures { λ r. ⌜ r ≡ circuitDistance (now (s .entry)) k ⌝ }
+fn circuit_distance(z: &[u32], k: u32) -> u32
+    requires { ⌜ (Framed (now z)) × (rule4 (now z) ≡ true) × (k < circuits (now z)) ⌝ }
+    ensures { λ r. ⌜ r ≡ circuitDistance (now (z .entry)) k ⌝ }
 {
-    let circuit = Circuit::at(s, k);
+    let circuit = Circuit::at(z, k);
     let read = circuit.read;
     let receive = circuit.receive;
-    torus::distance(words::get(s, 0), words::get(s, 1), read.node, receive.node)
+    torus::distance(words::get(z, 0), words::get(z, 1), read.node, receive.node)
 }
 
 // The distances of all circuits, so that each is read once from the table. The checker calls it and the rules in their order,
 // and so meets the requires, here and below.
-pub fn circuit_distances(s: &[u32]) -> [u32; 64]
-    requires { ⌜ (Framed (now s)) × (rule4 (now s) ≡ true) ⌝ }
-    ensures { λ r. ⌜ r ≡ circuitDistances (now (s .entry)) ⌝ }
+pub fn circuit_distances(z: &[u32]) -> [u32; 64]
+    requires { ⌜ (Framed (now z)) × (rule4 (now z) ≡ true) ⌝ }
+    ensures { λ r. ⌜ r ≡ circuitDistances (now (z .entry)) ⌝ }
 {
-    let count = words::get(s, 3);
+    let count = words::get(z, 3);
     let mut distances = [0u32; 64];
     let mut k: u32 = 0;
     while k < count {
         let at = k as usize;
-        distances[at] = circuit_distance(s, k);
+        distances[at] = circuit_distance(z, k);
         k += 1;
     }
     distances
 }
 
 // Number 9 at one entry: its route leads to the destination in no more hops than the distance.
-fn entry_leads(s: &[u32], distances: &[u32], e: Entry) -> bool
-    requires { ⌜ (Joined (now s) e) × (now distances ≡ circuitDistances (now s)) ⌝ }
-    ensures { λ r. ⌜ r ≡ entryLeads (now (s .entry)) e ⌝ }
+fn entry_leads(z: &[u32], distances: &[u32], e: Entry) -> bool
+    requires { ⌜ (Joined (now z) e) × (now distances ≡ circuitDistances (now z)) ⌝ }
+    ensures { λ r. ⌜ r ≡ entryLeads (now (z .entry)) e ⌝ }
 {
-    let circuit = Circuit::at(s, e.circuit);
+    let circuit = Circuit::at(z, e.circuit);
     let read = circuit.read;
     let receive = circuit.receive;
-    let path = torus::follow_route(words::get(s, 0), words::get(s, 1), read.node, e.route);
+    let path = torus::follow_route(words::get(z, 0), words::get(z, 1), read.node, e.route);
     if path.leads {
         if path.node == receive.node {
             return path.hops <= words::get(distances, e.circuit as usize);
@@ -55,15 +55,15 @@ fn entry_leads(s: &[u32], distances: &[u32], e: Entry) -> bool
 }
 
 // Number 9 at schedule j.
-fn entries_lead(s: &[u32], distances: &[u32], j: u32) -> bool
-    requires { ⌜ (Ranged (now s)) × (j < schedules (now s)) × (now distances ≡ circuitDistances (now s)) ⌝ }
-    ensures { λ r. ⌜ r ≡ eachEntry (now (s .entry)) j (entryLeads (now (s .entry))) ⌝ }
+fn entries_lead(z: &[u32], distances: &[u32], j: u32) -> bool
+    requires { ⌜ (Ranged (now z)) × (j < schedules (now z)) × (now distances ≡ circuitDistances (now z)) ⌝ }
+    ensures { λ r. ⌜ r ≡ eachEntry (now (z .entry)) j (entryLeads (now (z .entry))) ⌝ }
 {
-    let entries = sheet::entries_of(s, j);
+    let entries = sheet::entries_of(z, j);
     let count = entries.len() / 4;
     let mut i = 0;
     while i < count {
-        if entry_leads(s, distances, Entry::at(entries, i)) {
+        if entry_leads(z, distances, Entry::at(entries, i)) {
             i += 1;
         } else {
             return false;
@@ -73,14 +73,14 @@ fn entries_lead(s: &[u32], distances: &[u32], j: u32) -> bool
 }
 
 // Number 9: each route leads from its circuit's source to its destination in no more hops than their distance.
-pub fn keeps_rule9(s: &[u32], distances: &[u32]) -> bool
-    requires { ⌜ (Ranged (now s)) × (now distances ≡ circuitDistances (now s)) ⌝ }
-    ensures { λ r. ⌜ r ≡ rule9 (now (s .entry)) ⌝ }
+pub fn keeps_rule9(z: &[u32], distances: &[u32]) -> bool
+    requires { ⌜ (Ranged (now z)) × (now distances ≡ circuitDistances (now z)) ⌝ }
+    ensures { λ r. ⌜ r ≡ rule9 (now (z .entry)) ⌝ }
 {
-    let count = words::get(s, 4);
+    let count = words::get(z, 4);
     let mut j: u32 = 0;
     while j < count {
-        if entries_lead(s, distances, j) {
+        if entries_lead(z, distances, j) {
             j += 1;
         } else {
             return false;
@@ -90,25 +90,25 @@ pub fn keeps_rule9(s: &[u32], distances: &[u32]) -> bool
 }
 
 // Number 10 at one entry whose route leads to the destination: its hops are then the distance.
-fn entry_ends(s: &[u32], distances: &[u32], period: u32, e: Entry) -> bool
-    requires { ⌜ (Timed (now s) period e) × (entryLeads (now s) e ≡ true) × (now distances ≡ circuitDistances (now s)) ⌝ }
-    ensures { λ r. ⌜ r ≡ entryEnds (now (s .entry)) period e ⌝ }
+fn entry_ends(z: &[u32], distances: &[u32], period: u32, e: Entry) -> bool
+    requires { ⌜ (Timed (now z) period e) × (entryLeads (now z) e ≡ true) × (now distances ≡ circuitDistances (now z)) ⌝ }
+    ensures { λ r. ⌜ r ≡ entryEnds (now (z .entry)) period e ⌝ }
 {
     let hops = words::get(distances, e.circuit as usize);
     e.offset + e.size - 1 + torus::ROUTER_CYCLES * hops <= period + 2
 }
 
 // Number 10 at schedule j.
-fn entries_end(s: &[u32], distances: &[u32], j: u32) -> bool
-    requires { ⌜ (Leading (now s)) × (j < schedules (now s)) × (now distances ≡ circuitDistances (now s)) ⌝ }
-    ensures { λ r. ⌜ r ≡ eachEntry (now (s .entry)) j (entryEnds (now (s .entry)) (period (now (s .entry)) j)) ⌝ }
+fn entries_end(z: &[u32], distances: &[u32], j: u32) -> bool
+    requires { ⌜ (Leading (now z)) × (j < schedules (now z)) × (now distances ≡ circuitDistances (now z)) ⌝ }
+    ensures { λ r. ⌜ r ≡ eachEntry (now (z .entry)) j (entryEnds (now (z .entry)) (period (now (z .entry)) j)) ⌝ }
 {
-    let period = sheet::schedule_period(s, j);
-    let entries = sheet::entries_of(s, j);
+    let period = sheet::schedule_period(z, j);
+    let entries = sheet::entries_of(z, j);
     let count = entries.len() / 4;
     let mut i = 0;
     while i < count {
-        if entry_ends(s, distances, period, Entry::at(entries, i)) {
+        if entry_ends(z, distances, period, Entry::at(entries, i)) {
             i += 1;
         } else {
             return false;
@@ -118,14 +118,14 @@ fn entries_end(s: &[u32], distances: &[u32], j: u32) -> bool
 }
 
 // Number 10: each packet's last word is on its last wire before the next period's packets can be.
-pub fn keeps_rule10(s: &[u32], distances: &[u32]) -> bool
-    requires { ⌜ (Leading (now s)) × (now distances ≡ circuitDistances (now s)) ⌝ }
-    ensures { λ r. ⌜ r ≡ rule10 (now (s .entry)) ⌝ }
+pub fn keeps_rule10(z: &[u32], distances: &[u32]) -> bool
+    requires { ⌜ (Leading (now z)) × (now distances ≡ circuitDistances (now z)) ⌝ }
+    ensures { λ r. ⌜ r ≡ rule10 (now (z .entry)) ⌝ }
 {
-    let count = words::get(s, 4);
+    let count = words::get(z, 4);
     let mut j: u32 = 0;
     while j < count {
-        if entries_end(s, distances, j) {
+        if entries_end(z, distances, j) {
             j += 1;
         } else {
             return false;

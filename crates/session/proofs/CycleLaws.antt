@@ -20,8 +20,9 @@ use Rattle.sheet.proofs.PassedLaws.{in-grid}
 use Rattle.sheet.specs.Slots.{slotRoute, sourceOf}
 use Rattle.network.specs.View.{sourceInput, memoryOutput}
 use Rattle.network.specs.Cycle.{outputFor, Move, rests, opens, sends}
-use Rattle.network.specs.Registers.{reg, sheetIn, sheetLength, room, movingWords, clockRow, cyclePlace, schedulePlace, orderMarkPlace, orderSchedulePlace, headWord, choiceRow, receiveMark, receiveKind, leftRow, readRow, writeRow, kindRow, toGoRow}
-use Rattle.network.specs.Machine.{at, firstMark, firstWord, senderIn, slotIn, moveIn, markOf, wordOf, sentMark, sentWord, ownMark, sourceMark, sourceWord, neighbourPlace, nextLinkMark, nextLinkWord, nextHeadWord, nextChoice, nextLatch, askedMark, nextOutMark, nextOutWord, memoryMark, memoryWord, nextReceiveMark, nextReceiveKind, nextLandingMark, turns, isDue, nextWord, nextState}
+use Rattle.network.specs.Registers.{reg, sheetIn, sheetLength, room, movingWords, clockRow, cyclePlace, inForcePlace, orderMarkPlace, orderSchedulePlace, headWord, choiceRow, receiveMark, receiveKind, leftRow, readRow, writeRow, kindRow, toGoRow, at}
+use Rattle.network.specs.Seen.{seenSender}
+use Rattle.network.specs.Inner.Machine.{firstMark, firstWord, slotIn, moveIn, markOf, wordOf, sentMark, sentWord, ownMark, sourceMark, sourceWord, neighbourPlace, nextLinkMark, nextLinkWord, nextHeadWord, nextChoice, nextLatch, askedMark, nextOutMark, nextOutWord, memoryMark, memoryWord, nextReceiveMark, nextReceiveKind, nextLandingMark, turns, isDue, nextWord, nextState}
 use Rattle.network.proofs.RowLaws.{router-after, node-after, sender-after, clock-after}
 use Rattle.soundness.specs.Sound.{kindTravels}
 use Rattle.soundness.proofs.SoundLaws.{travels-small, CellParts, cell-none, TransferParts, RouterParts, NodeParts, SoundParts}
@@ -108,16 +109,16 @@ module _ (s m : List ℕ) (b : SheetBounds (sheetIn s)) (x : SoundParts (sheetIn
 
   -- the header that a circuit would send
   abbrev headOf : ℕ → ℕ
-  headOf c = headerWord (reg s kindRow c) (reg s writeRow c) (slotRoute sheet (reg s clockRow schedulePlace) (reg s clockRow cyclePlace) c)
+  headOf c = headerWord (reg s kindRow c) (reg s writeRow c) (slotRoute sheet (reg s clockRow inForcePlace) (reg s clockRow cyclePlace) c)
 
   -- the parts of a header that is sent fit their fields
   header-fits : (c : ℕ) → c < circuits sheet → 1 ≤ reg s leftRow c
-      → (reg s writeRow c < 16384) × (slotRoute sheet (reg s clockRow schedulePlace) (reg s clockRow cyclePlace) c < 65536)
+      → (reg s writeRow c < 16384) × (slotRoute sheet (reg s clockRow inForcePlace) (reg s clockRow cyclePlace) c < 65536)
   header-fits c l live =
       let rest = x .transfers c l .writes live in
       let memory = circuit-bounds sheet b c l .receive-ends in (
         omega (arith, rest .high, b .small-memory),
-        route-small sheet (b .ranged) (reg s clockRow schedulePlace) (x .schedule-inside) (reg s clockRow cyclePlace) c,
+        route-small sheet (b .ranged) (reg s clockRow inForcePlace) (x .schedule-inside) (reg s clockRow cyclePlace) c,
       )
 
   header-travels : (c : ℕ) → c < circuits sheet → 1 ≤ reg s leftRow c → kindTravels (kindOf (headOf c)) ≡ true
@@ -140,7 +141,7 @@ module _ (s m : List ℕ) (b : SheetBounds (sheetIn s)) (x : SoundParts (sheetIn
           → CellParts (markOf d (reg s toGoRow c))
           (wordOf d (headOf c) (word m (sourceOf sheet c * room s + reg s readRow c)))
       go rests e = cell-none 0
-      go opens e = cell-header _ (header-travels c l (move-opens (slotIn s c) (senderIn s c) e .1))
+      go opens e = cell-header _ (header-travels c l (move-opens (slotIn s c) (seenSender s c) e .1))
       go sends e = body (reg s toGoRow c =? 1) _
 
   -- so the words that a source sends are below 2^32, where the memory's are
@@ -151,7 +152,7 @@ module _ (s m : List ℕ) (b : SheetBounds (sheetIn s)) (x : SoundParts (sheetIn
       go : (d : Move) → moveIn s c ≡ d → wordOf d (headOf c) (word m (sourceOf sheet c * room s + reg s readRow c)) < 4294967296
       go rests e = omega arith
       go opens e =
-          let live = move-opens (slotIn s c) (senderIn s c) e .1 in
+          let live = move-opens (slotIn s c) (seenSender s c) e .1 in
           let fits = header-fits c l live in
           omega (arith, fits .0, fits .1, travels-small _ (x .transfers c l .travels live))
       go sends e = small _
@@ -211,24 +212,24 @@ module _ (s m : List ℕ) (b : SheetBounds (sheetIn s)) (x : SoundParts (sheetIn
         landing = rw (r .landing-mark) (pick-high (2 ≤? memoryMark s n) 1 (omega arith) (omega arith));
       }
 
-  transfer-next : (c : ℕ) → c < circuits sheet → TransferParts (circuitAt sheet c) (senderIn next c)
+  transfer-next : (c : ℕ) → c < circuits sheet → TransferParts (circuitAt sheet c) (seenSender next c)
   transfer-next c l =
       subst (TransferParts (circuitAt sheet c)) (sym (sender-after s m (b .few-circuits) c l))
-      (transfer-step (circuitAt sheet c) (slotIn s c) (senderIn s c) (moveIn s c) refl (x .transfers c l))
+      (transfer-step (circuitAt sheet c) (slotIn s c) (seenSender s c) (moveIn s c) refl (x .transfers c l))
 
   -- the clock: an order that is due has a schedule that exists, and the cycle stays below the period
   due-inside : isDue s ≡ true → (turns s ≡ true) × (reg s clockRow orderSchedulePlace < schedules sheet)
   unfolding isDue
   due-inside e = (and-left _ _ e, x .order-inside (is≤ 1 _ (and-left _ _ (and-right _ _ e))))
 
-  schedule-next : pick (isDue s) (reg s clockRow orderSchedulePlace) (reg s clockRow schedulePlace) < schedules sheet
+  schedule-next : pick (isDue s) (reg s clockRow orderSchedulePlace) (reg s clockRow inForcePlace) < schedules sheet
   schedule-next = go (isDue s) refl
     where
-      go : (d : Bool) → isDue s ≡ d → pick d (reg s clockRow orderSchedulePlace) (reg s clockRow schedulePlace) < schedules sheet
+      go : (d : Bool) → isDue s ≡ d → pick d (reg s clockRow orderSchedulePlace) (reg s clockRow inForcePlace) < schedules sheet
       go true e = due-inside e .1
       go false e = x .schedule-inside
 
-  within : turns s ≡ false → reg s clockRow cyclePlace + 1 < period sheet (reg s clockRow schedulePlace)
+  within : turns s ≡ false → reg s clockRow cyclePlace + 1 < period sheet (reg s clockRow inForcePlace)
   unfolding turns
   within e = not-last _ _ (x .cycle-inside) (λ q. false≢true (sym e ∙ yes= q))
     where
@@ -236,12 +237,12 @@ module _ (s m : List ℕ) (b : SheetBounds (sheetIn s)) (x : SoundParts (sheetIn
       not-last cycle last l n = omega (arith, n)
 
   cycle-next : pick (turns s) 0 (reg s clockRow cyclePlace + 1)
-      < period sheet (pick (isDue s) (reg s clockRow orderSchedulePlace) (reg s clockRow schedulePlace))
+      < period sheet (pick (isDue s) (reg s clockRow orderSchedulePlace) (reg s clockRow inForcePlace))
   cycle-next = go (turns s) (isDue s) refl refl
     where
       go : (a d : Bool) → turns s ≡ a → isDue s ≡ d
           → pick a 0 (reg s clockRow cyclePlace + 1)
-          < period sheet (pick d (reg s clockRow orderSchedulePlace) (reg s clockRow schedulePlace))
+          < period sheet (pick d (reg s clockRow orderSchedulePlace) (reg s clockRow inForcePlace))
       go true true e f = period-some sheet b _ (due-inside f .1)
       go true false e f = period-some sheet b _ (x .schedule-inside)
       go false true e f = absurd (false≢true (sym e ∙ due-inside f .0))

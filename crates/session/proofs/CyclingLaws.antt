@@ -11,13 +11,14 @@ use Rattle.words.proofs.TestLaws.{yes=, no=}
 use Rattle.sheet.specs.Sheet.{circuits}
 use Rattle.sheet.proofs.VerdictLaws.{passed as passed-rules}
 use Rattle.network.specs.Registers.{sheetIn}
-use Rattle.network.specs.Machine.{faultyIn}
-use Rattle.sources.specs.Steps.{Sending}
-use Rattle.machine.specs.Ready.{Ready}
+use Rattle.network.specs.Inner.Machine.{faultyIn}
+use Rattle.sources.specs.Inner.Steps.{Sending}
+use Rattle.machine.specs.Inner.Ready.{Ready}
 use Rattle.soundness.proofs.SheetLaws.{SheetBounds, sheet-bounds, circuit-bounds}
 use Rattle.soundness.proofs.SoundLaws.{SoundParts, sound-parts}
 use Rattle.soundness.proofs.PairedLaws.{sound-sendable}
-use Rattle.session.specs.Calls.{unless, _then_, memoryNumber, cycleNumber}
+use Rattle.words.specs.Numbers.{unless, _then_}
+use Rattle.session.specs.Calls.{memoryNumber, cycleNumber}
 use Rattle.session.proofs.NumberLaws.{MemoryPassed, memory-passed}
 use Rattle.session.proofs.ReadingLaws.{then-first}
 

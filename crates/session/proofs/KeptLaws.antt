@@ -13,12 +13,13 @@ use Rattle.words.proofs.TestLaws.{is=}
 use Rattle.sheet.specs.declared.circuits.Circuit.{Circuit}
 use Rattle.sheet.specs.Sheet.{circuits, nodes, circuitAt}
 use Rattle.sheet.specs.Rules.{verdict}
-use Rattle.network.specs.Registers.{reg, sheetIn, clockRow, cyclePlace, schedulePlace, orderMarkPlace, orderSchedulePlace, linkMark, linkWord, headMark, headWord, choiceRow, latchRow, outMark, outWord, receiveMark, receiveKind, landingMark, leftRow, readRow, writeRow, kindRow, toGoRow}
-use Rattle.network.specs.Machine.{senderIn, nextState}
+use Rattle.network.specs.Registers.{reg, sheetIn, clockRow, cyclePlace, inForcePlace, orderMarkPlace, orderSchedulePlace, linkMark, linkWord, headMark, headWord, choiceRow, latchRow, outMark, outWord, receiveMark, receiveKind, landingMark, leftRow, readRow, writeRow, kindRow, toGoRow}
+use Rattle.network.specs.Seen.{seenSender}
+use Rattle.network.specs.Inner.Machine.{nextState}
 use Rattle.network.proofs.RowLaws.{sender-same, sheet-kept}
 use Rattle.network.proofs.StepLaws.{state-length, memory-length}
 use Rattle.soundness.specs.Sound.{sound}
-use Rattle.session.specs.Calls.{loadNumber, startNumber, orderNumber, cycleNumber, loaded, started, ordered, stored, Lent, Call, load, start, store, fetch, left, periodNumber, landed, order, cycle, number, does, after, isLoad}
+use Rattle.session.specs.Calls.{loadNumber, startNumber, orderNumber, cycleNumber, loaded, started, ordered, stored, Lent, Call, load, start, store, fetch, left, periodNumber, landed, order, cycle, number, does, after, isLoad, Question, ask, questionNumber}
 use Rattle.session.proofs.NumberLaws.{state-passed, load-passed, StartPassed, start-passed, place-passed, left-passed, landed-passed, OrderPassed, order-passed, cycle-passed}
 use Rattle.soundness.proofs.SoundLaws.{beside, cell-none, TransferParts, RouterParts, NodeParts, SoundParts, sound-parts, sound-on}
 use Rattle.soundness.proofs.SheetLaws.{SheetBounds, sheet-bounds, period-some}
@@ -31,7 +32,7 @@ module _ (z s : List ℕ) (b : SheetBounds z) where
   zero-at : (row k : ℕ) → row < 21 → k < 80 → reg (loaded z s) row k ≡ 0
   zero-at = loaded-register z s
 
-  load-transfer : (c : ℕ) → c < circuits z → TransferParts (circuitAt z c) (senderIn (loaded z s) c)
+  load-transfer : (c : ℕ) → c < circuits z → TransferParts (circuitAt z c) (seenSender (loaded z s) c)
   load-transfer c l =
       let none-left = zero-at leftRow c (omega arith) (omega arith) in
       let none-to-go = zero-at toGoRow c (omega arith) (omega arith) in
@@ -65,7 +66,7 @@ module _ (z s : List ℕ) (b : SheetBounds z) where
   load-parts : verdict z ≡ 0 → SoundParts z (loaded z s)
   load-parts e =
       let same-cycle = zero-at clockRow cyclePlace (omega arith) (omega arith) in
-      let same-schedule = zero-at clockRow schedulePlace (omega arith) (omega arith) in
+      let same-schedule = zero-at clockRow inForcePlace (omega arith) (omega arith) in
       let no-order = zero-at clockRow orderMarkPlace (omega arith) (omega arith) in
       record {
         sheet-fits = omega (arith, loaded-sheet-length z s);
@@ -115,10 +116,10 @@ module _ (s t : List ℕ) where
       }
 
   transfer-same : (c : ℕ) (circuit : Circuit) → ((row : ℕ) → 16 ≤ row → row ≤ 20 → reg t row c ≡ reg s row c)
-      → TransferParts circuit (senderIn s c) → TransferParts circuit (senderIn t c)
+      → TransferParts circuit (seenSender s c) → TransferParts circuit (seenSender t c)
   transfer-same c circuit same x =
       subst (TransferParts circuit)
-      (sym (sender-same (senderIn t c) (senderIn s c) (same leftRow (omega arith) (omega arith)) (same readRow (omega arith) (omega arith))
+      (sym (sender-same (seenSender t c) (seenSender s c) (same leftRow (omega arith) (omega arith)) (same readRow (omega arith) (omega arith))
       (same writeRow (omega arith) (omega arith)) (same kindRow (omega arith) (omega arith)) (same toGoRow (omega arith) (omega arith))))
       x
 
@@ -131,7 +132,7 @@ module _ (s : List ℕ) (circuit readAddress writeAddress count kind : ℕ)
   abbrev begun : List ℕ
   begun = started s circuit readAddress writeAddress count kind
 
-  start-new : TransferParts (circuitAt sheet circuit) (senderIn s circuit)
+  start-new : TransferParts (circuitAt sheet circuit) (seenSender s circuit)
       → TransferParts (circuitAt sheet circuit)
       (record { left = count; readAddress = readAddress; writeAddress = writeAddress; kind = kind; toGo = reg s toGoRow circuit })
   start-new x = record {
@@ -143,12 +144,12 @@ module _ (s : List ℕ) (circuit readAddress writeAddress count kind : ℕ)
   }
 
   start-transfer : circuit < 80 → (c : ℕ) → c < 80 → Dec (c ≡ circuit)
-      → TransferParts (circuitAt sheet c) (senderIn s c) → TransferParts (circuitAt sheet c) (senderIn begun c)
+      → TransferParts (circuitAt sheet c) (seenSender s c) → TransferParts (circuitAt sheet c) (seenSender begun c)
   start-transfer few c inside (yes q) x =
-      subst (λ k. TransferParts (circuitAt sheet k) (senderIn begun k)) (sym q)
+      subst (λ k. TransferParts (circuitAt sheet k) (seenSender begun k)) (sym q)
       (subst (TransferParts (circuitAt sheet circuit))
       (sym (started-sender s circuit readAddress writeAddress count kind few (omega (arith, p .state .long))))
-      (start-new (subst (λ k. TransferParts (circuitAt sheet k) (senderIn s k)) q x)))
+      (start-new (subst (λ k. TransferParts (circuitAt sheet k) (seenSender s k)) q x)))
   start-transfer few c inside (no q) x =
       transfer-same s begun c (circuitAt sheet c)
       (λ row low high. started-other s circuit readAddress writeAddress count kind few row c inside (λ a b e. q e)) x
@@ -158,7 +159,7 @@ module _ (s : List ℕ) (circuit readAddress writeAddress count kind : ℕ)
       let few : circuit < 80 = omega (arith, p .circuit-inside) in
       let other = started-other s circuit readAddress writeAddress count kind few in
       let same-cycle = other clockRow cyclePlace (omega arith) (λ a b e. omega arith) in
-      let same-schedule = other clockRow schedulePlace (omega arith) (λ a b e. omega arith) in
+      let same-schedule = other clockRow inForcePlace (omega arith) (λ a b e. omega arith) in
       let same-mark = other clockRow orderMarkPlace (omega arith) (λ a b e. omega arith) in
       let same-order = other clockRow orderSchedulePlace (omega arith) (λ a b e. omega arith) in
       record {
@@ -192,7 +193,7 @@ order-parts s schedule period p b x =
     let other = ordered-other s schedule period in
     let long = p .state .long in
     let same-cycle = other clockRow cyclePlace (omega arith) (λ a b e. omega arith) in
-    let same-schedule = other clockRow schedulePlace (omega arith) (λ a b e. omega arith) in
+    let same-schedule = other clockRow inForcePlace (omega arith) (λ a b e. omega arith) in
     let new-mark = ordered-mark s schedule period (omega arith) in
     let new-order = ordered-schedule s schedule period (omega arith) in
     record {
@@ -223,17 +224,21 @@ sound-next s m e =
 pub cycle-kept : (s m : List ℕ) → cycleNumber s m ≡ 0 → sound (nextState s m) ≡ true
 cycle-kept s m e = sound-next s m (cycle-passed s m e .memory .state .is-sound)
 
+-- a question that is answered was asked of a sound state
+asked-sound : (question : Question) (w : Lent) → questionNumber question w ≡ 0 → sound (w .state) ≡ true
+asked-sound (fetch node address) w e = place-passed (w .state) (w .memory) node address e .memory .state .is-sound
+asked-sound (left circuit) w e = left-passed (w .state) circuit e .state .is-sound
+asked-sound periodNumber w e = state-passed (w .state) e .is-sound
+asked-sound (landed node) w e = landed-passed (w .state) node e .state .is-sound
+
 -- every call that is carried out leaves a sound state
 pub sound-kept : (x : Call) (w : Lent) → number x w ≡ 0 → sound (does x w .state) ≡ true
 sound-kept (load z) w e = load-sound z (w .state) (w .memory) e
 sound-kept (start circuit readAddress writeAddress count kind) w e = start-kept (w .state) circuit readAddress writeAddress count kind e
 sound-kept (store node address new) w e = place-passed (w .state) (w .memory) node address e .memory .state .is-sound
-sound-kept (fetch node address) w e = place-passed (w .state) (w .memory) node address e .memory .state .is-sound
-sound-kept (left circuit) w e = left-passed (w .state) circuit e .state .is-sound
-sound-kept periodNumber w e = state-passed (w .state) e .is-sound
-sound-kept (landed node) w e = landed-passed (w .state) node e .state .is-sound
 sound-kept (order schedule period) w e = order-kept (w .state) schedule period e
 sound-kept cycle w e = cycle-kept (w .state) (w .memory) e
+sound-kept (ask question) w e = asked-sound question w e
 
 -- so a call leaves a sound state sound, whether it is carried out or refused
 pub sound-after : (x : Call) (w : Lent) → sound (w .state) ≡ true → sound (after x w .state) ≡ true
@@ -250,10 +255,7 @@ state-length-kept (load z) w e = load-length z (w .state) (w .memory) e
 state-length-kept (start circuit readAddress writeAddress count kind) w e =
     started-length (w .state) circuit readAddress writeAddress count kind
 state-length-kept (store node address new) w e = refl
-state-length-kept (fetch node address) w e = refl
-state-length-kept (left circuit) w e = refl
-state-length-kept periodNumber w e = refl
-state-length-kept (landed node) w e = refl
+state-length-kept (ask question) w e = refl
 state-length-kept (order schedule period) w e = ordered-length (w .state) schedule period
 state-length-kept cycle w e = state-length (w .state) (w .memory) (omega (arith, cycle-passed (w .state) (w .memory) e .memory .state .long))
 
@@ -262,10 +264,7 @@ unfolding stored
 memory-length-kept (load z) w = refl
 memory-length-kept (start circuit readAddress writeAddress count kind) w = refl
 memory-length-kept (store node address new) w = length-set (w .memory) _ new
-memory-length-kept (fetch node address) w = refl
-memory-length-kept (left circuit) w = refl
-memory-length-kept periodNumber w = refl
-memory-length-kept (landed node) w = refl
+memory-length-kept (ask question) w = refl
 memory-length-kept (order schedule period) w = refl
 memory-length-kept cycle w = memory-length (w .state) (w .memory)
 
@@ -278,9 +277,6 @@ sheet-same (start circuit readAddress writeAddress count kind) w n e =
     let b = sheet-bounds (sheetIn (w .state)) (x .sheet-passes) in
     started-sheet (w .state) circuit readAddress writeAddress count kind (omega (arith, p .circuit-inside, b .few-circuits))
 sheet-same (store node address new) w n e = refl
-sheet-same (fetch node address) w n e = refl
-sheet-same (left circuit) w n e = refl
-sheet-same periodNumber w n e = refl
-sheet-same (landed node) w n e = refl
+sheet-same (ask question) w n e = refl
 sheet-same (order schedule period) w n e = ordered-sheet (w .state) schedule period
 sheet-same cycle w n e = sheet-kept (w .state) (w .memory)

@@ -14,34 +14,12 @@ use Rattle.packet.specs.Header.{dataKind}
 use Rattle.sheet.specs.Sheet.{memoryWords, circuits, schedules, nodes, circuitAt}
 use Rattle.sheet.specs.Rules.{verdict}
 use Rattle.network.specs.Registers.{reg, sheetIn, room, stateWords, clockRow, orderMarkPlace, leftRow}
-use Rattle.network.specs.Machine.{faultyIn}
+use Rattle.network.specs.Inner.Machine.{faultyIn}
 use Rattle.soundness.specs.Sound.{sound, kindTravels}
 use Rattle.soundness.proofs.SoundLaws.{Lies, lies}
-use Rattle.session.specs.Calls.{unless, _then_, stateNumber, memoryNumber, loadNumber, startNamed, startFits, isBusy, startNumber, placeNumber, leftNumber, landedNumber, isPending, ahead, orderNumber, cycleNumber}
-
--- no number of two applies
-pub then-zero : (a b : ℕ) → (a then b) ≡ 0 → (a ≡ 0) × (b ≡ 0)
-unfolding _then_
-then-zero a b e = go (a =? 0) refl e
-  where
-    go : (t : Bool) → (a =? 0) ≡ t → pick t b a ≡ 0 → (a ≡ 0) × (b ≡ 0)
-    go true q r = (is= a 0 q, r)
-    go false q r = absurd (false≢true (sym q ∙ yes= r))
-
--- a number does not apply: its test holds
-pub unless-zero : (number : ℕ) (test : Bool) → 0 < number → unless number test ≡ 0 → test ≡ true
-unfolding unless
-unless-zero number true l e = refl
-unless-zero number false l e = absurd (let z : ⊥ = omega arith in z)
-
--- and back
-pub zero-then : {a b : ℕ} → a ≡ 0 → b ≡ 0 → (a then b) ≡ 0
-unfolding _then_
-zero-then {a} {b} e f = ap (λ (t : Bool). pick t b a) (yes= e) ∙ f
-
-pub zero-unless : (number : ℕ) {test : Bool} → test ≡ true → unless number test ≡ 0
-unfolding unless
-zero-unless number {test} e = ap (λ (t : Bool). pick t 0 number) e
+use Rattle.words.specs.Numbers.{unless, _then_}
+use Rattle.words.proofs.NumberLaws.{then-zero, unless-zero, zero-then, zero-unless}
+use Rattle.session.specs.Calls.{stateNumber, memoryNumber, loadNumber, startNamed, startFits, isBusy, startNumber, placeNumber, leftNumber, landedNumber, isPending, ahead, orderNumber, cycleNumber}
 
 -- a test that must not hold
 pub not-holds : (b : Bool) → not b ≡ true → b ≡ false

@@ -10,14 +10,16 @@ use Rattle.words.specs.Words.{word, pick}
 use Rattle.words.proofs.TestLaws.{yes=, no=}
 use Rattle.sheet.specs.Sheet.{columns, rows, memoryWords, nodes}
 use Rattle.network.specs.Registers.{sheetIn, room}
-use Rattle.network.specs.Seen.{landingIn}
+use Rattle.network.specs.Seen.{seenLanding}
 use Rattle.network.specs.View.{Landing}
 use Rattle.session.specs.declared.Found.the-variants.{Word as FoundWord, Refused as FoundRefused}
 use Rattle.session.specs.declared.Landed.{Landed}
 use Rattle.session.specs.declared.Landed.the-variants.{Nothing, Word as LandedWord, Refused as LandedRefused}
-use Rattle.session.specs.Calls.{unless, _then_, stateNumber, memoryNumber, fetched}
+use Rattle.words.specs.Numbers.{unless, _then_}
+use Rattle.session.specs.Calls.{stateNumber, memoryNumber, fetched}
 use Rattle.session.specs.Answers.{foundOf, landedOf}
-use Rattle.session.proofs.NumberLaws.{then-zero, zero-unless, state-passed}
+use Rattle.words.proofs.NumberLaws.{then-zero, zero-unless}
+use Rattle.session.proofs.NumberLaws.{state-passed}
 use Rattle.soundness.proofs.SoundLaws.{sound-parts}
 use Rattle.soundness.proofs.SheetLaws.{SheetBounds, sheet-bounds}
 
@@ -90,7 +92,7 @@ unfolding fetched
 fetched-is s m node address e f = e ∙ ap (λ x. word m (node * x + address)) f
 
 -- what a landing's registers hold
-pub landing-nothing : (mark kind address w : ℕ) → mark ≡ 0 → Nothing ≡ landedOf 0 (landingIn mark kind address w)
+pub landing-nothing : (mark kind address w : ℕ) → mark ≡ 0 → Nothing ≡ landedOf 0 (seenLanding mark kind address w)
 landing-nothing zero kind address w e = refl
 landing-nothing (suc mark) kind address w e = absurd (let z : ⊥ = omega arith in z)
 
@@ -99,7 +101,7 @@ pub landing-word : (mark : ℕ) {k a w : ℕ} (kind address payload : ℕ)
     → k ≡ kind
     → a ≡ address
     → w ≡ payload
-    → LandedWord k a w ≡ landedOf 0 (landingIn mark kind address payload)
+    → LandedWord k a w ≡ landedOf 0 (seenLanding mark kind address payload)
 landing-word zero kind address payload ne e f g = absurd (ne refl)
 landing-word (suc mark) {k} {a} {w} kind address payload ne e f g =
     ap (λ x. LandedWord x a w) e ∙ ap (λ x. LandedWord kind x w) f ∙ ap (λ x. LandedWord kind address x) g

@@ -9,7 +9,7 @@ use lib.Seq.{getD-at, drop-at, take-append-seam}
 use Rattle.words.specs.Words.{word, tab}
 use Rattle.words.proofs.WordLaws.{length-tab, tab-at}
 use Rattle.network.specs.Registers.{reg, put, sheetIn, sheetLength, movingWords, stateWords, clockRow, orderMarkPlace, orderSchedulePlace, orderPeriodPlace, leftRow, readRow, writeRow, kindRow, toGoRow}
-use Rattle.network.specs.Machine.{senderIn}
+use Rattle.network.specs.Seen.{seenSender}
 use Rattle.network.proofs.RowLaws.{sender-same}
 use Rattle.network.proofs.PutLaws.{put-same, put-other, put-sheet, put-sheet-length}
 use Rattle.session.specs.Calls.{loaded, started, ordered}
@@ -66,7 +66,7 @@ module _ (s : List ℕ) (circuit readAddress writeAddress count kind : ℕ) (few
       no changed low high e = h (omega arith) (omega arith) (omega arith)
 
   pub started-sender : movingWords ≤ length s
-      → senderIn begun circuit
+      → seenSender begun circuit
       ≡ record { left = count; readAddress = readAddress; writeAddress = writeAddress; kind = kind; toGo = reg s toGoRow circuit }
   unfolding started
   started-sender l = sender-same _ _

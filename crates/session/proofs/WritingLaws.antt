@@ -14,9 +14,10 @@ use Rattle.sheet.specs.Sheet.{circuitAt}
 use Rattle.network.specs.Registers.{reg, put, sheetIn, room, clockRow, numberPlace, orderMarkPlace, orderSchedulePlace, orderPeriodPlace, leftRow, readRow, writeRow, kindRow}
 use Rattle.session.specs.declared.Answer.the-variants.{Done, Refused}
 use Rattle.soundness.specs.Sound.{liesIn}
-use Rattle.session.specs.Calls.{unless, _then_, ahead, started, ordered, stored}
+use Rattle.words.specs.Numbers.{unless, _then_}
+use Rattle.session.specs.Calls.{ahead, started, ordered, stored}
 use Rattle.session.specs.Answers.{answerOf}
-use Rattle.session.proofs.NumberLaws.{zero-unless}
+use Rattle.words.proofs.NumberLaws.{zero-unless}
 use Rattle.session.proofs.ReadingLaws.{then-first, then-next, unless-no}
 
 -- the answers, from a number

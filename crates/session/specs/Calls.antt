@@ -6,22 +6,15 @@ use mathlib.Core.List.{List, _∷_, _++_}
 use lib.ListN.{length, drop, set}
 use Rattle.words.specs.Tests.{_and_, _or_, _≤?_, _<?_, _=?_}
 use Rattle.words.specs.Words.{word, pick, tab}
+use Rattle.words.specs.Numbers.{unless, _then_}
 use Rattle.packet.specs.Header.{dataKind}
 use Rattle.sheet.specs.Sheet.{memoryWords, circuits, schedules, nodes, circuitAt}
 use Rattle.sheet.specs.Rules.{verdict}
 use Rattle.network.specs.View.{Landing}
 use Rattle.network.specs.Registers.{reg, put, sheetIn, room, movingWords, stateWords, clockRow, numberPlace, orderMarkPlace, orderSchedulePlace, orderPeriodPlace, landingMark, landingKind, landingAddress, landingWord, leftRow, readRow, writeRow, kindRow}
-use Rattle.network.specs.Machine.{faultyIn, nextState, nextMemory}
-use Rattle.network.specs.Seen.{landingIn}
+use Rattle.network.specs.Inner.Machine.{faultyIn, nextState, nextMemory}
+use Rattle.network.specs.Seen.{seenLanding}
 use Rattle.soundness.specs.Sound.{sound, kindTravels, liesIn}
-
-infixr 30 _then_
--- a number unless the test holds, and the first number of two that applies
-unfoldable pub unless : ℕ → Bool → ℕ
-unless number test = pick test 0 number
-
-unfoldable pub _then_ : ℕ → ℕ → ℕ
-first then second = pick (first =? 0) second first
 
 -- 12 and 13, which every call but load tests first; with 14 where memory is lent
 unfoldable pub stateNumber : List ℕ → ℕ
@@ -113,47 +106,52 @@ periodNumberIn s = reg s clockRow numberPlace
 
 unfoldable pub lastLanding : List ℕ → ℕ → Landing
 lastLanding s node =
-    landingIn (reg s landingMark node) (reg s landingKind node) (reg s landingAddress node) (reg s landingWord node)
+    seenLanding (reg s landingMark node) (reg s landingKind node) (reg s landingAddress node) (reg s landingWord node)
 
 -- what is lent to a session's calls
 pub record Lent : Type 0 where
   pub state : List ℕ
   pub memory : List ℕ
 
+-- a call that only asks: the word at a node's address, words left of a circuit, the period number, what landed at a node
+pub data Question : Type 0 where
+  fetch : ℕ → ℕ → Question
+  left : ℕ → Question
+  periodNumber : Question
+  landed : ℕ → Question
+
+-- the number that a question answers
+abbrev pub questionNumber : Question → Lent → ℕ
+questionNumber (fetch node address) w = placeNumber (w .state) (w .memory) node address
+questionNumber (left circuit) w = leftNumber (w .state) circuit
+questionNumber periodNumber w = stateNumber (w .state)
+questionNumber (landed node) w = landedNumber (w .state) node
+
 pub data Call : Type 0 where
   load : List ℕ → Call
   start : ℕ → ℕ → ℕ → ℕ → ℕ → Call
   store : ℕ → ℕ → ℕ → Call
-  fetch : ℕ → ℕ → Call
-  left : ℕ → Call
-  periodNumber : Call
-  landed : ℕ → Call
   order : ℕ → ℕ → Call
   cycle : Call
+  ask : Question → Call
 
 -- a load gives the session another sheet; no other call does
 abbrev pub isLoad : Call → Bool
 isLoad (load z) = true
 isLoad (start circuit readAddress writeAddress count kind) = false
 isLoad (store node address new) = false
-isLoad (fetch node address) = false
-isLoad (left circuit) = false
-isLoad periodNumber = false
-isLoad (landed node) = false
 isLoad (order schedule period) = false
 isLoad cycle = false
+isLoad (ask question) = false
 
 -- the number that a call answers: 0 where it is carried out
 abbrev pub number : Call → Lent → ℕ
 number (load z) w = loadNumber z (w .state) (w .memory)
 number (start circuit readAddress writeAddress count kind) w = startNumber (w .state) circuit readAddress writeAddress count kind
 number (store node address new) w = placeNumber (w .state) (w .memory) node address
-number (fetch node address) w = placeNumber (w .state) (w .memory) node address
-number (left circuit) w = leftNumber (w .state) circuit
-number periodNumber w = stateNumber (w .state)
-number (landed node) w = landedNumber (w .state) node
 number (order schedule period) w = orderNumber (w .state) schedule period
 number cycle w = cycleNumber (w .state) (w .memory)
+number (ask question) w = questionNumber question w
 
 -- the lent words after a call that is carried out
 abbrev pub does : Call → Lent → Lent
@@ -161,12 +159,9 @@ does (load z) w = record { state = loaded z (w .state); memory = w .memory }
 does (start circuit readAddress writeAddress count kind) w =
     record { state = started (w .state) circuit readAddress writeAddress count kind; memory = w .memory }
 does (store node address new) w = record { state = w .state; memory = stored (w .state) (w .memory) node address new }
-does (fetch node address) w = w
-does (left circuit) w = w
-does periodNumber w = w
-does (landed node) w = w
 does (order schedule period) w = record { state = ordered (w .state) schedule period; memory = w .memory }
 does cycle w = record { state = nextState (w .state) (w .memory); memory = nextMemory (w .state) (w .memory) }
+does (ask question) w = w
 
 -- the lent words after a call: a refusal changes nothing
 unfoldable pub after : Call → Lent → Lent

@@ -2,7 +2,7 @@
 ghost use mathlib.Core.Path.{_≡_};
 ghost use Rattle.words.specs.Tests.{_=?_};
 ghost use Rattle.words.specs.Words.{pick};
-ghost use Rattle.network.specs.Machine.{nextState, nextMemory};
+ghost use Rattle.network.specs.Inner.Machine.{nextState, nextMemory};
 ghost use Rattle.session.specs.Calls.{memoryNumber, cycleNumber};
 ghost use Rattle.session.specs.Answers.{answerOf};
 use crate::Answer;

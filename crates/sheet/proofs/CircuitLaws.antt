@@ -13,33 +13,33 @@ use Rattle.sheet.specs.declared.circuits.Region.{Region}
 use Rattle.sheet.specs.declared.circuits.Circuit.{Circuit}
 use Rattle.sheet.specs.Sheet.{columns, rows, circuits, nodes, memoryWords, circuitAt}
 use Rattle.sheet.specs.Rules.{regionFits, circuitFits, precedes, apart, receiveApart, rule4}
-use Rattle.sheet.specs.Passed.{Headed, Framed, CircuitSmall}
+use Rattle.sheet.specs.Inner.Passed.{Headed, Framed, CircuitSmall}
 use Rattle.sheet.proofs.PassedLaws.{circuit-small}
 
 -- a grid has at most sixteen nodes
-pub nodes-few : (s : List ℕ) → Headed s → (a b : ℕ) → a ≡ columns s → b ≡ rows s → a * b ≤ 16
-nodes-few s h a b p q =
+pub nodes-few : (z : List ℕ) → Headed z → (a b : ℕ) → a ≡ columns z → b ≡ rows z → a * b ≤ 16
+nodes-few z h a b p q =
     let wide : a ≤ 4 = omega arith in
     let high : b ≤ 4 = omega arith in
     mul-le-mul wide high
 
 -- a circuit, from its six words
-pub circuit-is : (s : List ℕ) (k : ℕ) {source readOffset readSize destination receiveOffset receiveSize : ℕ}
-    → source ≡ word s (5 + 6 * k) → readOffset ≡ word s (5 + 6 * k + 2) → readSize ≡ word s (5 + 6 * k + 3)
-    → destination ≡ word s (5 + 6 * k + 1) → receiveOffset ≡ word s (5 + 6 * k + 4) → receiveSize ≡ word s (5 + 6 * k + 5)
+pub circuit-is : (z : List ℕ) (k : ℕ) {source readOffset readSize destination receiveOffset receiveSize : ℕ}
+    → source ≡ word z (5 + 6 * k) → readOffset ≡ word z (5 + 6 * k + 2) → readSize ≡ word z (5 + 6 * k + 3)
+    → destination ≡ word z (5 + 6 * k + 1) → receiveOffset ≡ word z (5 + 6 * k + 4) → receiveSize ≡ word z (5 + 6 * k + 5)
     → _≡_ {A = Circuit}
     record {
       read = record { node = source; offset = readOffset; size = readSize };
       receive = record { node = destination; offset = receiveOffset; size = receiveSize };
     }
-    (circuitAt s k)
+    (circuitAt z k)
 unfolding circuitAt
-circuit-is s k p q r t u v = cc
+circuit-is z k p q r t u v = cc
 
 -- number 4 at a circuit, in terms of what was read
-pub fits-read : (s : List ℕ) (k n m : ℕ) (c : Circuit) {w v : Bool} → n ≡ nodes s → m ≡ memoryWords s → c ≡ circuitAt s k
-    → w ≡ circuitFits n m c → w ≡ v → circuitFits (nodes s) (memoryWords s) (circuitAt s k) ≡ v
-fits-read s k n m c p q r e f = cc
+pub fits-read : (z : List ℕ) (k n m : ℕ) (c : Circuit) {w v : Bool} → n ≡ nodes z → m ≡ memoryWords z → c ≡ circuitAt z k
+    → w ≡ circuitFits n m c → w ≡ v → circuitFits (nodes z) (memoryWords z) (circuitAt z k) ≡ v
+fits-read z k n m c p q r e f = cc
 
 -- both nodes are in the grid and differ, and the regions decide
 pub circuit-rest : (count memory : ℕ) (c : Circuit) {v : Bool} → c .read .node < count → c .receive .node < count
@@ -75,49 +75,49 @@ unfolding apart
 apart-second a b e h = or-on (no≠ e) (or-on (no≤ h) refl)
 
 -- one pair of circuits of rule 6, in terms of the circuits that were read
-module _ (s : List ℕ) (j k : ℕ) (own : Region) (other : Circuit)
-    (p : own ≡ circuitAt s j .receive) (q : other ≡ circuitAt s k) where
-  read-is : apart own (other .read) ≡ apart (circuitAt s j .receive) (circuitAt s k .read)
+module _ (z : List ℕ) (j k : ℕ) (own : Region) (other : Circuit)
+    (p : own ≡ circuitAt z j .receive) (q : other ≡ circuitAt z k) where
+  read-is : apart own (other .read) ≡ apart (circuitAt z j .receive) (circuitAt z k .read)
   read-is = ap₂ apart p (ap (λ (c : Circuit). c .read) q)
 
-  receive-is : apart own (other .receive) ≡ apart (circuitAt s j .receive) (circuitAt s k .receive)
+  receive-is : apart own (other .receive) ≡ apart (circuitAt z j .receive) (circuitAt z k .receive)
   receive-is = ap₂ apart p (ap (λ (c : Circuit). c .receive) q)
 
   -- a circuit with itself
-  pub pair-same : {v : Bool} → j ≡ k → v ≡ apart own (other .read) → v ≡ receiveApart s j k
+  pub pair-same : {v : Bool} → j ≡ k → v ≡ apart own (other .read) → v ≡ receiveApart z j k
   unfolding receiveApart
   pair-same e r = and-on (sym (or-yes _ (yes= e))) (r ∙ read-is)
 
   -- the receive regions are apart, and the read region decides
   pub pair-other : {v w : Bool} → w ≡ true → w ≡ apart own (other .receive) → v ≡ apart own (other .read)
-      → v ≡ receiveApart s j k
+      → v ≡ receiveApart z j k
   unfolding receiveApart
   pair-other e f r = and-on (sym (or-skip _ (sym e ∙ f ∙ receive-is))) (r ∙ read-is)
 
   -- the receive regions of two circuits share a word
-  pub pair-no : {w : Bool} → (j ≡ k → ⊥) → w ≡ false → w ≡ apart own (other .receive) → false ≡ receiveApart s j k
+  pub pair-no : {w : Bool} → (j ≡ k → ⊥) → w ≡ false → w ≡ apart own (other .receive) → false ≡ receiveApart z j k
   unfolding receiveApart
   pair-no ne e f = and-no _ (sym (or-on (no= ne) (sym e ∙ f ∙ receive-is)))
 
 -- a pair of circuits of rule 6, of which the second has no node in common with the first one's receive region
-pub pair-nodes : (s : List ℕ) (j k : ℕ) (own : Region) (source destination : ℕ) → own ≡ circuitAt s j .receive
-    → source ≡ circuitAt s k .read .node → destination ≡ circuitAt s k .receive .node
-    → (source ≡ own .node → ⊥) → (destination ≡ own .node → ⊥) → true ≡ receiveApart s j k
+pub pair-nodes : (z : List ℕ) (j k : ℕ) (own : Region) (source destination : ℕ) → own ≡ circuitAt z j .receive
+    → source ≡ circuitAt z k .read .node → destination ≡ circuitAt z k .receive .node
+    → (source ≡ own .node → ⊥) → (destination ≡ own .node → ⊥) → true ≡ receiveApart z j k
 unfolding receiveApart
-pair-nodes s j k own source destination p q r a b =
+pair-nodes z j k own source destination p q r a b =
     let same = ap (λ (x : Region). x .node) p in
     and-on
     (sym (or-skip _ (apart-nodes _ _ (λ e. b (r ∙ sym e ∙ sym same)))))
     (apart-nodes _ _ (λ e. a (q ∙ sym e ∙ sym same)))
 
 -- the regions of a circuit end so low that no sum wraps
-module _ (s : List ℕ) (f : Framed s) (r : rule4 s ≡ true) (k : ℕ) (h : k < circuits s) where
-  pub circuit-ends : (c : Circuit) → c ≡ circuitAt s k
+module _ (z : List ℕ) (f : Framed z) (r : rule4 z ≡ true) (k : ℕ) (h : k < circuits z) where
+  pub circuit-ends : (c : Circuit) → c ≡ circuitAt z k
       → (c .read .offset + c .read .size < 65536) × (c .receive .offset + c .receive .size < 65536)
   circuit-ends c e =
-      let q = subst (CircuitSmall (nodes s) (memoryWords s)) (sym e) (circuit-small s r k h) in
+      let q = subst (CircuitSmall (nodes z) (memoryWords z)) (sym e) (circuit-small z r k h) in
       (omega arith, omega arith)
 
   -- and so does its receive region by itself
-  pub receive-ends : (t : Region) → t ≡ circuitAt s k .receive → t .offset + t .size < 65536
-  receive-ends t e = subst (λ (x : Region). x .offset + x .size < 65536) (sym e) (circuit-ends (circuitAt s k) refl .1)
+  pub receive-ends : (t : Region) → t ≡ circuitAt z k .receive → t .offset + t .size < 65536
+  receive-ends t e = subst (λ (x : Region). x .offset + x .size < 65536) (sym e) (circuit-ends (circuitAt z k) refl .1)

@@ -18,30 +18,30 @@ unfolding entryFits
 entry-rest count P e a b c = and-on (yes< a) (and-on b (and-on (yes< c) refl))
 
 -- rule 7 at one schedule, in terms of the period and the entries that were read
-module _ (s : List ℕ) (j P : ℕ) (p : P ≡ period s j) where
+module _ (z : List ℕ) (j P : ℕ) (p : P ≡ period z j) where
   -- the period is out of its range
-  pub schedule-no : {w : Bool} → w ≡ between 9 1024 P → w ≡ false → false ≡ rule7At s j
+  pub schedule-no : {w : Bool} → w ≡ between 9 1024 P → w ≡ false → false ≡ rule7At z j
   unfolding rule7At
   schedule-no e f = and-no _ (range-read 9 1024 p e f)
 
   -- the period is in its range, and the entries decide
   pub schedule-rest : (entries : List ℕ) (count : ℕ) {w v : Bool} → w ≡ between 9 1024 P → w ≡ true
-      → entries ≡ entriesOf s j → count ≡ circuits s
-      → v ≡ all (entryCount entries) (λ i. entryFits count P (entryAt entries i)) → v ≡ rule7At s j
+      → entries ≡ entriesOf z j → count ≡ circuits z
+      → v ≡ all (entryCount entries) (λ i. entryFits count P (entryAt entries i)) → v ≡ rule7At z j
   unfolding rule7At eachEntry
   schedule-rest entries count e f q r g =
       and-on (range-read 9 1024 p e f) (g ∙ parts)
     where
       parts : all (entryCount entries) (λ i. entryFits count P (entryAt entries i))
-          ≡ all (entryCount (entriesOf s j)) (λ i. entryFits (circuits s) (period s j) (entryAt (entriesOf s j) i))
+          ≡ all (entryCount (entriesOf z j)) (λ i. entryFits (circuits z) (period z j) (entryAt (entriesOf z j) i))
       parts =
           ap (λ (l : List ℕ). all (entryCount l) (λ i. entryFits count P (entryAt l i))) q
-          ∙ ap (λ (n : ℕ). all (entryCount (entriesOf s j)) (λ i. entryFits n P (entryAt (entriesOf s j) i))) r
-          ∙ ap (λ (n : ℕ). all (entryCount (entriesOf s j)) (λ i. entryFits (circuits s) n (entryAt (entriesOf s j) i))) p
+          ∙ ap (λ (n : ℕ). all (entryCount (entriesOf z j)) (λ i. entryFits n P (entryAt (entriesOf z j) i))) r
+          ∙ ap (λ (n : ℕ). all (entryCount (entriesOf z j)) (λ i. entryFits (circuits z) n (entryAt (entriesOf z j) i))) p
 
 -- rule 8 at one schedule, in terms of the entries that were read
-pub schedule-ascends : (s : List ℕ) (j : ℕ) (entries : List ℕ) {v : Bool} → entries ≡ entriesOf s j
-    → v ≡ all (entryCount entries - 1) (λ i. entryPrecedes (entryAt entries i) (entryAt entries (i + 1))) → rule8At s j ≡ v
+pub schedule-ascends : (z : List ℕ) (j : ℕ) (entries : List ℕ) {v : Bool} → entries ≡ entriesOf z j
+    → v ≡ all (entryCount entries - 1) (λ i. entryPrecedes (entryAt entries i) (entryAt entries (i + 1))) → rule8At z j ≡ v
 unfolding rule8At
-schedule-ascends s j entries q e =
+schedule-ascends z j entries q e =
     sym (e ∙ ap (λ (l : List ℕ). all (entryCount l - 1) (λ i. entryPrecedes (entryAt l i) (entryAt l (i + 1)))) q)

@@ -16,115 +16,115 @@ use Rattle.words.proofs.AllLaws.{all-at}
 use Rattle.sheet.specs.declared.frame.Place.{Place}
 use Rattle.sheet.specs.declared.frame.Place.the-variants.{At, Nowhere}
 use Rattle.sheet.specs.Sheet.{circuits, schedules, statedEntries, schedulePlace, nextPlace, period, entriesAt, entriesOf}
-use Rattle.sheet.specs.Frame.{placeAfter}
+use Rattle.sheet.specs.Inner.Frame.{placeAfter}
 use Rattle.sheet.specs.Rules.{scheduleFits, rule3}
-use Rattle.sheet.specs.Passed.{Placed}
+use Rattle.sheet.specs.Inner.Passed.{Placed}
 
 -- the range test of a number, in terms of the number that was read
 pub range-read : (low high : ℕ) {x y : ℕ} {w v : Bool} → x ≡ y → w ≡ between low high x → w ≡ v → between low high y ≡ v
 range-read low high p e f = ap (between low high) (sym p) ∙ sym e ∙ f
 
 -- the answer of `place_after`, from the facts in numbers
-module _ (s : List ℕ) (at : ℕ) where
+module _ (z : List ℕ) (at : ℕ) where
   -- a place, where a test holds
   abbrev choice : Bool → Place
-  choice test = pick test (At (nextPlace s at)) Nowhere
+  choice test = pick test (At (nextPlace z at)) Nowhere
 
   choice-by : {a b : Bool} → a ≡ b → choice a ≡ choice b
   choice-by e = ap choice e
 
   -- the schedule fits
-  pub after-yes : (next : ℕ) → next ≡ nextPlace s at → at + 2 ≤ length s → statedEntries s at ≤ 256
-      → At next ≡ placeAfter s at
+  pub after-yes : (next : ℕ) → next ≡ nextPlace z at → at + 2 ≤ length z → statedEntries z at ≤ 256
+      → At next ≡ placeAfter z at
   unfolding placeAfter
   after-yes next e a b = ap At e ∙ sym (choice-by (and-both (yes≤ a) (yes≤ b)))
 
   -- the schedule begins too late
-  pub after-short : length s < at + 2 → Nowhere ≡ placeAfter s at
+  pub after-short : length z < at + 2 → Nowhere ≡ placeAfter z at
   unfolding placeAfter
   after-short h = choice-by (and-no _ (no≤ h))
 
   -- the schedule states too many entries
-  pub after-many : 256 < statedEntries s at → Nowhere ≡ placeAfter s at
+  pub after-many : 256 < statedEntries z at → Nowhere ≡ placeAfter z at
   unfolding placeAfter
   after-many h = choice-by (and-skip _ (sym (no≤ h)))
 
 -- the first schedule is behind the circuits
-pub first-place : (s : List ℕ) (n : ℕ) → n ≡ circuits s → 5 + 6 * n ≡ schedulePlace s 0
+pub first-place : (z : List ℕ) (n : ℕ) → n ≡ circuits z → 5 + 6 * n ≡ schedulePlace z 0
 unfolding schedulePlace
-first-place s n e = ap (λ (k : ℕ). 5 + 6 * k) e
+first-place z n e = ap (λ (k : ℕ). 5 + 6 * k) e
 
 -- one more schedule fits
-pub record Stepped (s : List ℕ) (j at next : ℕ) : Type 0 where
-  pub fits : scheduleFits s j ≡ true
-  pub place : next ≡ schedulePlace s (j + 1)
+pub record Stepped (z : List ℕ) (j at next : ℕ) : Type 0 where
+  pub fits : scheduleFits z j ≡ true
+  pub place : next ≡ schedulePlace z (j + 1)
   pub near : next ≤ at + 1026
 
-module _ (s : List ℕ) (j at : ℕ) (e : at ≡ schedulePlace s j) where
-  fits-at : scheduleFits s j ≡ (at + 2 ≤? length s and statedEntries s at ≤? 256)
+module _ (z : List ℕ) (j at : ℕ) (e : at ≡ schedulePlace z j) where
+  fits-at : scheduleFits z j ≡ (at + 2 ≤? length z and statedEntries z at ≤? 256)
   unfolding scheduleFits
-  fits-at = ap (λ (p : ℕ). p + 2 ≤? length s and statedEntries s p ≤? 256) (sym e)
+  fits-at = ap (λ (p : ℕ). p + 2 ≤? length z and statedEntries z p ≤? 256) (sym e)
 
   -- the schedule does not fit
-  pub step-no : placeAfter s at ≡ Nowhere → scheduleFits s j ≡ false
+  pub step-no : placeAfter z at ≡ Nowhere → scheduleFits z j ≡ false
   unfolding placeAfter
-  step-no h = go (at + 2 ≤? length s and statedEntries s at ≤? 256) fits-at h
+  step-no h = go (at + 2 ≤? length z and statedEntries z at ≤? 256) fits-at h
     where
-      go : (t : Bool) → scheduleFits s j ≡ t → choice s at t ≡ Nowhere → scheduleFits s j ≡ false
-      go true f q = let z : _≡_ {A = ℕ} 0 1 = cc in absurd (omega arith)
+      go : (t : Bool) → scheduleFits z j ≡ t → choice z at t ≡ Nowhere → scheduleFits z j ≡ false
+      go true f q = let e₀ : _≡_ {A = ℕ} 0 1 = cc in absurd (omega arith)
       go false f q = f
 
   -- the next schedule is at the next place
-  place-more : nextPlace s at ≡ schedulePlace s (j + 1)
+  place-more : nextPlace z at ≡ schedulePlace z (j + 1)
   unfolding schedulePlace
-  place-more = rw (add-one j) (ap (nextPlace s) e)
+  place-more = rw (add-one j) (ap (nextPlace z) e)
 
   -- the same, with the number of entries that was read
-  pub place-next : (n : ℕ) → n ≡ statedEntries s at → at + 2 + 4 * n ≡ schedulePlace s (j + 1)
+  pub place-next : (n : ℕ) → n ≡ statedEntries z at → at + 2 + 4 * n ≡ schedulePlace z (j + 1)
   place-next n q = ap (λ (k : ℕ). at + 2 + 4 * k) q ∙ place-more
 
   -- the schedule fits
-  pub step-on : (next : ℕ) → placeAfter s at ≡ At next → Stepped s j at next
+  pub step-on : (next : ℕ) → placeAfter z at ≡ At next → Stepped z j at next
   unfolding placeAfter
-  step-on next h = go (at + 2 ≤? length s and statedEntries s at ≤? 256) refl h
+  step-on next h = go (at + 2 ≤? length z and statedEntries z at ≤? 256) refl h
     where
-      go : (t : Bool) → (at + 2 ≤? length s and statedEntries s at ≤? 256) ≡ t → choice s at t ≡ At next → Stepped s j at next
+      go : (t : Bool) → (at + 2 ≤? length z and statedEntries z at ≤? 256) ≡ t → choice z at t ≡ At next → Stepped z j at next
       go true f q =
-          let n : nextPlace s at ≡ next = cc in
-          let few = is≤ (statedEntries s at) 256 (and-right _ _ f) in
+          let n : nextPlace z at ≡ next = cc in
+          let few = is≤ (statedEntries z at) 256 (and-right _ _ f) in
           record { fits = fits-at ∙ f; place = sym n ∙ place-more; near = omega arith }
-      go false f q = let z : _≡_ {A = ℕ} 0 1 = cc in absurd (omega arith)
+      go false f q = let e₀ : _≡_ {A = ℕ} 0 1 = cc in absurd (omega arith)
 
 -- each schedule of a sheet that keeps rule 3 lies within it
-pub rule3-placed : (s : List ℕ) → rule3 s ≡ true → (j : ℕ) → j < schedules s → Placed s (schedulePlace s j)
+pub rule3-placed : (z : List ℕ) → rule3 z ≡ true → (j : ℕ) → j < schedules z → Placed z (schedulePlace z j)
 unfolding rule3 scheduleFits schedulePlace
-rule3-placed s r j h = record { few = is≤ _ _ (and-right _ _ (fits j h)); ends = go (ℕ-discrete (j + 1) (schedules s)) }
+rule3-placed z r j h = record { few = is≤ _ _ (and-right _ _ (fits j h)); ends = go (ℕ-discrete (j + 1) (schedules z)) }
   where
-    fits : (i : ℕ) → i < schedules s → scheduleFits s i ≡ true
-    fits i l = all-at (scheduleFits s) (schedules s) (and-left _ _ r) i l
+    fits : (i : ℕ) → i < schedules z → scheduleFits z i ≡ true
+    fits i l = all-at (scheduleFits z) (schedules z) (and-left _ _ r) i l
 
-    behind : schedulePlace s (j + 1) ≡ nextPlace s (schedulePlace s j)
+    behind : schedulePlace z (j + 1) ≡ nextPlace z (schedulePlace z j)
     behind = rw (add-one j) refl
 
-    go : Dec (j + 1 ≡ schedules s) → schedulePlace s j + 2 + 4 * statedEntries s (schedulePlace s j) ≤ length s
+    go : Dec (j + 1 ≡ schedules z) → schedulePlace z j + 2 + 4 * statedEntries z (schedulePlace z j) ≤ length z
     go (yes e) =
         let q = is= _ _ (and-right _ _ r) in
-        omega (arith, ap (schedulePlace s) e, behind, q)
+        omega (arith, ap (schedulePlace z) e, behind, q)
     go (no ne) =
         let f = is≤ _ _ (and-left _ _ (fits (j + 1) (omega (arith, ne)))) in
         omega (arith, behind, f)
 
 -- the schedules end at the place behind the last one
-pub end-at : (s : List ℕ) (j m at : ℕ) → at ≡ schedulePlace s j → j ≡ m → (at =? length s) ≡ (schedulePlace s m =? length s)
-end-at s j m at e q = ap (λ (p : ℕ). p =? length s) (e ∙ ap (schedulePlace s) q)
+pub end-at : (z : List ℕ) (j m at : ℕ) → at ≡ schedulePlace z j → j ≡ m → (at =? length z) ≡ (schedulePlace z m =? length z)
+end-at z j m at e q = ap (λ (p : ℕ). p =? length z) (e ∙ ap (schedulePlace z) q)
 
 -- the word at a schedule's place is its period
-pub period-is : (s : List ℕ) (j at v : ℕ) → at ≡ schedulePlace s j → v ≡ word s at → v ≡ period s j
-period-is s j at v e q = q ∙ ap (word s) e
+pub period-is : (z : List ℕ) (j at v : ℕ) → at ≡ schedulePlace z j → v ≡ word z at → v ≡ period z j
+period-is z j at v e q = q ∙ ap (word z) e
 
 -- the part of the sheet from the entries' start to their end
-pub part-is : (s : List ℕ) (j at n : ℕ) → at ≡ schedulePlace s j → n ≡ statedEntries s at
-    → take (at + 2 + 4 * n - (at + 2)) (drop (at + 2) s) ≡ entriesOf s j
+pub part-is : (z : List ℕ) (j at n : ℕ) → at ≡ schedulePlace z j → n ≡ statedEntries z at
+    → take (at + 2 + 4 * n - (at + 2)) (drop (at + 2) z) ≡ entriesOf z j
 unfolding entriesOf
-part-is s j at n e q =
-    ap (λ (k : ℕ). take k (drop (at + 2) s)) (add-sub-cancel-left (at + 2) (4 * n) ∙ ap (λ (k : ℕ). 4 * k) q) ∙ ap (entriesAt s) e
+part-is z j at n e q =
+    ap (λ (k : ℕ). take k (drop (at + 2) z)) (add-sub-cancel-left (at + 2) (4 * n) ∙ ap (λ (k : ℕ). 4 * k) q) ∙ ap (entriesAt z) e

@@ -13,13 +13,13 @@ use Rattle.torus.specs.Torus.{InGrid}
 use Rattle.sheet.specs.Sheet.{columns, rows, memoryWords, circuits, schedules, nodes, circuitAt}
 use Rattle.sheet.specs.Sheet.{statedEntries, schedulePlace, period, entriesOf, entryCount, entryAt}
 use Rattle.sheet.specs.Rules.{rule1, rule2, rule3, regionFits, circuitFits, rule4, eachEntry, entryFits, rule7At, rule7}
-use Rattle.sheet.specs.Passed.{Headed, Framed, Placed, Ranged, CircuitSmall, EntrySmall}
+use Rattle.sheet.specs.Inner.Passed.{Headed, Framed, Placed, Ranged, CircuitSmall, EntrySmall}
 use Rattle.sheet.proofs.FrameLaws.{rule3-placed}
 
 -- rules 1 and 2: the head's numbers are in their ranges
-pub headed : (s : List ℕ) → rule1 s ≡ true → rule2 s ≡ true → Headed s
+pub headed : (z : List ℕ) → rule1 z ≡ true → rule2 z ≡ true → Headed z
 unfolding rule1 rule2 between
-headed s h r =
+headed z h r =
     let r₁ = and-right _ _ r in
     let r₂ = and-right _ _ r₁ in
     let r₃ = and-right _ _ r₂ in
@@ -38,40 +38,40 @@ headed s h r =
     }
 
 -- rule 3: the circuits lie within the sheet, since the first schedule begins behind them
-pub framed : (s : List ℕ) → Headed s → rule3 s ≡ true → Framed s
+pub framed : (z : List ℕ) → Headed z → rule3 z ≡ true → Framed z
 unfolding schedulePlace
-framed s h r =
-    let p = rule3-placed s r 0 (h .schedules-low) in
+framed z h r =
+    let p = rule3-placed z r 0 (h .schedules-low) in
     record { headed = h; circuits-end = omega arith; divided = r }
 
 -- rule 3: each schedule lies within the sheet
-pub placed : (s : List ℕ) → Framed s → (j : ℕ) → j < schedules s → Placed s (schedulePlace s j)
-placed s f = rule3-placed s (f .divided)
+pub placed : (z : List ℕ) → Framed z → (j : ℕ) → j < schedules z → Placed z (schedulePlace z j)
+placed z f = rule3-placed z (f .divided)
 
 -- the same of the place that was worked out
-pub placed-at : (s : List ℕ) → Framed s → (j at : ℕ) → at ≡ schedulePlace s j → j < schedules s → Placed s at
-placed-at s f j at e h = subst (Placed s) (sym e) (placed s f j h)
+pub placed-at : (z : List ℕ) → Framed z → (j at : ℕ) → at ≡ schedulePlace z j → j < schedules z → Placed z at
+placed-at z f j at e h = subst (Placed z) (sym e) (placed z f j h)
 
 -- a schedule's entries have four words for each stated entry
-pub entries-length : (s : List ℕ) → Framed s → (j : ℕ) → j < schedules s
-    → length (entriesOf s j) ≡ 4 * statedEntries s (schedulePlace s j)
+pub entries-length : (z : List ℕ) → Framed z → (j : ℕ) → j < schedules z
+    → length (entriesOf z j) ≡ 4 * statedEntries z (schedulePlace z j)
 unfolding entriesOf
-entries-length s f j h =
-    let p = placed s f j h in
+entries-length z f j h =
+    let p = placed z f j h in
     simp (length-take, length-drop) (omega arith)
 
 -- a schedule has few entries
-pub entries-few : (s : List ℕ) → Framed s → (j : ℕ) → j < schedules s → entryCount (entriesOf s j) ≤ 256
-entries-few s f j h =
-    let p = placed s f j h in
-    omega (arith, entries-length s f j h)
+pub entries-few : (z : List ℕ) → Framed z → (j : ℕ) → j < schedules z → entryCount (entriesOf z j) ≤ 256
+entries-few z f j h =
+    let p = placed z f j h in
+    omega (arith, entries-length z f j h)
 
 -- rule 4 at one circuit: its nodes are in the grid, and its regions end within the memory
-pub circuit-small : (s : List ℕ) → rule4 s ≡ true → (k : ℕ) → k < circuits s
-    → CircuitSmall (nodes s) (memoryWords s) (circuitAt s k)
+pub circuit-small : (z : List ℕ) → rule4 z ≡ true → (k : ℕ) → k < circuits z
+    → CircuitSmall (nodes z) (memoryWords z) (circuitAt z k)
 unfolding rule4 circuitFits regionFits
-circuit-small s r k h =
-    let h₀ = all-at _ (circuits s) r k h in
+circuit-small z r k h =
+    let h₀ = all-at _ (circuits z) r k h in
     let h₁ = and-right _ _ h₀ in
     let h₂ = and-right _ _ h₁ in
     let h₃ = and-right _ _ h₂ in
@@ -83,15 +83,15 @@ circuit-small s r k h =
     }
 
 -- rule 7 at one schedule: its period is in its range
-pub period-range : (s : List ℕ) → Ranged s → (j : ℕ) → j < schedules s → (9 ≤ period s j) × (period s j ≤ 1024)
+pub period-range : (z : List ℕ) → Ranged z → (j : ℕ) → j < schedules z → (9 ≤ period z j) × (period z j ≤ 1024)
 unfolding rule7 rule7At between
-period-range s g j h =
-    let r = and-left _ _ (all-at _ (schedules s) (g .entries-fit) j h) in
+period-range z g j h =
+    let r = and-left _ _ (all-at _ (schedules z) (g .entries-fit) j h) in
     (is≤ _ _ (and-left _ _ r), is≤ _ _ (and-right _ _ r))
 
 -- a node of the grid, as the torus wants it
-pub in-grid : (s : List ℕ) → Headed s → (node : ℕ) → node < nodes s → InGrid (columns s) (rows s) node
-in-grid s h node l =
+pub in-grid : (z : List ℕ) → Headed z → (node : ℕ) → node < nodes z → InGrid (columns z) (rows z) node
+in-grid z h node l =
     record {
       cols-low = h .columns-low;
       cols-high = h .columns-high;
@@ -101,23 +101,23 @@ in-grid s h node l =
     }
 
 -- rules 4 and 7 at one entry: its numbers are in their ranges, and its circuit joins nodes of the grid
-pub entry-small : (s : List ℕ) → Ranged s → (j : ℕ) → j < schedules s → (i : ℕ) → i < entryCount (entriesOf s j)
-    → EntrySmall s j (entryAt (entriesOf s j) i)
+pub entry-small : (z : List ℕ) → Ranged z → (j : ℕ) → j < schedules z → (i : ℕ) → i < entryCount (entriesOf z j)
+    → EntrySmall z j (entryAt (entriesOf z j) i)
 unfolding rule7 rule7At eachEntry entryFits between
-entry-small s g j h i l =
-    let e = entryAt (entriesOf s j) i in
-    let r = and-right _ _ (all-at _ (schedules s) (g .entries-fit) j h) in
-    let f = all-at _ (entryCount (entriesOf s j)) r i l in
+entry-small z g j h i l =
+    let e = entryAt (entriesOf z j) i in
+    let r = and-right _ _ (all-at _ (schedules z) (g .entries-fit) j h) in
+    let f = all-at _ (entryCount (entriesOf z j)) r i l in
     let f₁ = and-right _ _ f in
     let f₂ = and-right _ _ f₁ in
     let inside = is< _ _ (and-left _ _ f₂) in
-    let c = circuit-small s (g .circuits-fit) (e .circuit) inside in
+    let c = circuit-small z (g .circuits-fit) (e .circuit) inside in
     record {
       offset-low = is< _ _ (and-left _ _ f);
       size-low = is≤ _ _ (and-left _ _ (and-left _ _ f₁));
       size-high = is≤ _ _ (and-right _ _ (and-left _ _ f₁));
       circuit-inside = inside;
       route-high = is≤ _ _ (and-right _ _ f₂);
-      source-inside = in-grid s (g .framed .headed) _ (c .source-inside);
-      destination-inside = in-grid s (g .framed .headed) _ (c .destination-inside);
+      source-inside = in-grid z (g .framed .headed) _ (c .source-inside);
+      destination-inside = in-grid z (g .framed .headed) _ (c .destination-inside);
     }

@@ -1,6 +1,5 @@
 pub mod Sheet
-pub mod Frame
 pub mod Wires
 pub mod Slots
 pub mod Rules
-pub mod Passed
+pub mod Inner

@@ -15,23 +15,23 @@ use Rattle.sheet.specs.Wires.{WireCycle, occupied, meet}
 
 -- Number 1: the sheet has its five head words.
 unfoldable pub rule1 : List ℕ → Bool
-rule1 s = 5 ≤? length s
+rule1 z = 5 ≤? length z
 
 -- Number 2: each head number is in its range.
 unfoldable pub rule2 : List ℕ → Bool
-rule2 s =
-    between 2 4 (columns s)
-    and between 2 4 (rows s)
-    and between 1 16384 (memoryWords s)
-    and between 0 64 (circuits s)
-    and between 1 8 (schedules s)
+rule2 z =
+    between 2 4 (columns z)
+    and between 2 4 (rows z)
+    and between 1 16384 (memoryWords z)
+    and between 0 64 (circuits z)
+    and between 1 8 (schedules z)
 
 -- Number 3: each schedule begins within the sheet and states at most 256 entries, and the last one ends where the sheet ends.
 unfoldable pub scheduleFits : List ℕ → ℕ → Bool
-scheduleFits s j = schedulePlace s j + 2 ≤? length s and statedEntries s (schedulePlace s j) ≤? 256
+scheduleFits z j = schedulePlace z j + 2 ≤? length z and statedEntries z (schedulePlace z j) ≤? 256
 
 unfoldable pub rule3 : List ℕ → Bool
-rule3 s = all (schedules s) (scheduleFits s) and schedulePlace s (schedules s) =? length s
+rule3 z = all (schedules z) (scheduleFits z) and schedulePlace z (schedules z) =? length z
 
 -- a region has a word, and ends within the memory
 unfoldable pub regionFits : ℕ → Region → Bool
@@ -47,7 +47,7 @@ circuitFits count memory c =
     and regionFits memory (c .receive)
 
 unfoldable pub rule4 : List ℕ → Bool
-rule4 s = all (circuits s) (λ k. circuitFits (nodes s) (memoryWords s) (circuitAt s k))
+rule4 z = all (circuits z) (λ k. circuitFits (nodes z) (memoryWords z) (circuitAt z k))
 
 -- (a, b) comes before (c, d): by the first, and by the second where the first are equal
 unfoldable pub precedes : ℕ → ℕ → ℕ → ℕ → Bool
@@ -58,7 +58,7 @@ unfoldable pub circuitPrecedes : Circuit → Circuit → Bool
 circuitPrecedes a b = precedes (a .receive .node) (a .receive .offset) (b .receive .node) (b .receive .offset)
 
 unfoldable pub rule5 : List ℕ → Bool
-rule5 s = all (circuits s - 1) (λ k. circuitPrecedes (circuitAt s k) (circuitAt s (k + 1)))
+rule5 z = all (circuits z - 1) (λ k. circuitPrecedes (circuitAt z k) (circuitAt z (k + 1)))
 
 -- two regions share no word: they are at different nodes, or one ends before the other begins
 unfoldable pub apart : Region → Region → Bool
@@ -66,40 +66,40 @@ apart a b = a .node ≠? b .node or a .offset + a .size ≤? b .offset or b .off
 
 -- Number 6: each circuit's receive region is apart from every other circuit's receive region and from every read region.
 unfoldable pub receiveApart : List ℕ → ℕ → ℕ → Bool
-receiveApart s j k =
-    (j =? k or apart (circuitAt s j .receive) (circuitAt s k .receive)) and apart (circuitAt s j .receive) (circuitAt s k .read)
+receiveApart z j k =
+    (j =? k or apart (circuitAt z j .receive) (circuitAt z k .receive)) and apart (circuitAt z j .receive) (circuitAt z k .read)
 
 unfoldable pub rule6 : List ℕ → Bool
-rule6 s = all (circuits s) (λ j. all (circuits s) (receiveApart s j))
+rule6 z = all (circuits z) (λ j. all (circuits z) (receiveApart z j))
 
 -- a test of each entry of schedule j
 unfoldable pub eachEntry : List ℕ → ℕ → (Entry → Bool) → Bool
-eachEntry s j test = all (entryCount (entriesOf s j)) (λ i. test (entryAt (entriesOf s j) i))
+eachEntry z j test = all (entryCount (entriesOf z j)) (λ i. test (entryAt (entriesOf z j) i))
 
 -- Number 7: each period is in its range, each offset is below its period, and each length, circuit and route is in its range.
 unfoldable pub entryFits : ℕ → ℕ → Entry → Bool
 entryFits count P e = e .offset <? P and between 2 16 (e .size) and e .circuit <? count and e .route ≤? 65535
 
 unfoldable pub rule7At : List ℕ → ℕ → Bool
-rule7At s j = between 9 1024 (period s j) and eachEntry s j (entryFits (circuits s) (period s j))
+rule7At z j = between 9 1024 (period z j) and eachEntry z j (entryFits (circuits z) (period z j))
 
 unfoldable pub rule7 : List ℕ → Bool
-rule7 s = all (schedules s) (rule7At s)
+rule7 z = all (schedules z) (rule7At z)
 
 -- Number 8: each entry comes before the next one of its schedule, by offset and circuit.
 unfoldable pub entryPrecedes : Entry → Entry → Bool
 entryPrecedes a b = precedes (a .offset) (a .circuit) (b .offset) (b .circuit)
 
 unfoldable pub rule8At : List ℕ → ℕ → Bool
-rule8At s j =
-    all (entryCount (entriesOf s j) - 1) (λ i. entryPrecedes (entryAt (entriesOf s j) i) (entryAt (entriesOf s j) (i + 1)))
+rule8At z j =
+    all (entryCount (entriesOf z j) - 1) (λ i. entryPrecedes (entryAt (entriesOf z j) i) (entryAt (entriesOf z j) (i + 1)))
 
 unfoldable pub rule8 : List ℕ → Bool
-rule8 s = all (schedules s) (rule8At s)
+rule8 z = all (schedules z) (rule8At z)
 
 -- where an entry's route leads from its circuit's source
 unfoldable pub entryRoute : List ℕ → Entry → Route
-entryRoute s e = routeFrom (columns s) (rows s) (circuitAt s (e .circuit) .read .node) (e .route)
+entryRoute z e = routeFrom (columns z) (rows z) (circuitAt z (e .circuit) .read .node) (e .route)
 
 -- a route leads to a node in at most so many hops
 abbrev pub reaches : Route → ℕ → ℕ → Bool
@@ -108,24 +108,24 @@ reaches nowhere to most = false
 
 -- Number 9: each route leads to its circuit's destination with no bits left, in no more hops than the distance.
 unfoldable pub entryLeads : List ℕ → Entry → Bool
-entryLeads s e =
-    reaches (entryRoute s e) (circuitAt s (e .circuit) .receive .node)
-    (distanceOf (columns s) (rows s) (circuitAt s (e .circuit) .read .node) (circuitAt s (e .circuit) .receive .node))
+entryLeads z e =
+    reaches (entryRoute z e) (circuitAt z (e .circuit) .receive .node)
+    (distanceOf (columns z) (rows z) (circuitAt z (e .circuit) .read .node) (circuitAt z (e .circuit) .receive .node))
 
 unfoldable pub rule9 : List ℕ → Bool
-rule9 s = all (schedules s) (λ j. eachEntry s j (entryLeads s))
+rule9 z = all (schedules z) (λ j. eachEntry z j (entryLeads z))
 
 -- the hops of a route: document 01's word for its side outputs
-abbrev pub hopsOf : Route → ℕ
-hopsOf (leads uses node hops) = hops
-hopsOf nowhere = 0
+abbrev pub routeHops : Route → ℕ
+routeHops (leads uses node hops) = hops
+routeHops nowhere = 0
 
 -- Number 10: offset + length − 1 + 3 × hops is at most the period + 2.
 unfoldable pub entryEnds : List ℕ → ℕ → Entry → Bool
-entryEnds s P e = e .offset + e .size - 1 + routerCycles * hopsOf (entryRoute s e) ≤? P + 2
+entryEnds z P e = e .offset + e .size - 1 + routerCycles * routeHops (entryRoute z e) ≤? P + 2
 
 unfoldable pub rule10 : List ℕ → Bool
-rule10 s = all (schedules s) (λ j. eachEntry s j (entryEnds s (period s j)))
+rule10 z = all (schedules z) (λ j. eachEntry z j (entryEnds z (period z j)))
 
 abbrev pub usesOf : Route → List Use
 usesOf (leads uses node hops) = uses
@@ -133,16 +133,16 @@ usesOf nowhere = []
 
 -- the wires that an entry occupies, each in which cycles, whether its slot is filled or not
 unfoldable pub entryOccupied : List ℕ → Entry → List WireCycle
-entryOccupied s e = occupied (usesOf (entryRoute s e)) (e .size) (e .offset)
+entryOccupied z e = occupied (usesOf (entryRoute z e)) (e .size) (e .offset)
 
 -- Number 11: no two entries of one schedule occupy one wire in one cycle.
 unfoldable pub rule11At : List ℕ → ℕ → Bool
-rule11At s j =
-    all (entryCount (entriesOf s j))
-    (λ i. all i (λ k. not (meet (entryOccupied s (entryAt (entriesOf s j) i)) (entryOccupied s (entryAt (entriesOf s j) k)))))
+rule11At z j =
+    all (entryCount (entriesOf z j))
+    (λ i. all i (λ k. not (meet (entryOccupied z (entryAt (entriesOf z j) i)) (entryOccupied z (entryAt (entriesOf z j) k)))))
 
 unfoldable pub rule11 : List ℕ → Bool
-rule11 s = all (schedules s) (rule11At s)
+rule11 z = all (schedules z) (rule11At z)
 
 -- a rule: the number of its refusal, and the test that a sheet keeps it
 pub record Rule : Type 0 where
@@ -172,9 +172,9 @@ sheetRules = frameRules ++ (circuitRules ++ entryRules)
 
 -- the number of the first rule of a list that a sheet does not keep, 0 where it keeps them all
 unfoldable pub firstBroken : List Rule → List ℕ → ℕ
-firstBroken [] s = 0
-firstBroken (r ∷ rules) s = elim (r .keeps s) [ true ↦ firstBroken rules s | false ↦ r .number ]
+firstBroken [] z = 0
+firstBroken (r ∷ rules) z = elim (r .keeps z) [ true ↦ firstBroken rules z | false ↦ r .number ]
 
 -- the verdict upon a sheet: 0 where it passes, else the number of its refusal
 unfoldable pub verdict : List ℕ → ℕ
-verdict s = firstBroken sheetRules s
+verdict z = firstBroken sheetRules z

@@ -9,53 +9,53 @@ use Rattle.sheet.specs.declared.entries.Entry.{Entry}
 
 -- the head of five words: columns, rows, memory words per node, number of circuits, number of schedules
 abbrev pub columns : List ℕ → ℕ
-columns s = word s 0
+columns z = word z 0
 
 abbrev pub rows : List ℕ → ℕ
-rows s = word s 1
+rows z = word z 1
 
 abbrev pub memoryWords : List ℕ → ℕ
-memoryWords s = word s 2
+memoryWords z = word z 2
 
 abbrev pub circuits : List ℕ → ℕ
-circuits s = word s 3
+circuits z = word z 3
 
 abbrev pub schedules : List ℕ → ℕ
-schedules s = word s 4
+schedules z = word z 4
 
 abbrev pub nodes : List ℕ → ℕ
-nodes s = columns s * rows s
+nodes z = columns z * rows z
 
 -- circuit k, six words behind the head: source, destination, read offset, read length, receive offset, receive length
 unfoldable pub circuitAt : List ℕ → ℕ → Circuit
-circuitAt s k = record {
-  read = record { node = word s (5 + 6 * k); offset = word s (5 + 6 * k + 2); size = word s (5 + 6 * k + 3) };
-  receive = record { node = word s (5 + 6 * k + 1); offset = word s (5 + 6 * k + 4); size = word s (5 + 6 * k + 5) };
+circuitAt z k = record {
+  read = record { node = word z (5 + 6 * k); offset = word z (5 + 6 * k + 2); size = word z (5 + 6 * k + 3) };
+  receive = record { node = word z (5 + 6 * k + 1); offset = word z (5 + 6 * k + 4); size = word z (5 + 6 * k + 5) };
 }
 
 -- a schedule, by its place in the sheet: its period, its number of entries, then four words an entry
 abbrev pub statedEntries : List ℕ → ℕ → ℕ
-statedEntries s place = word s (place + 1)
+statedEntries z place = word z (place + 1)
 
 -- the place of the schedule behind the one at a place
 abbrev pub nextPlace : List ℕ → ℕ → ℕ
-nextPlace s place = place + 2 + 4 * statedEntries s place
+nextPlace z place = place + 2 + 4 * statedEntries z place
 
 -- the place of schedule j, behind the circuits
 unfoldable pub schedulePlace : List ℕ → ℕ → ℕ
-schedulePlace s zero = 5 + 6 * circuits s
-schedulePlace s (suc j) = nextPlace s (schedulePlace s j)
+schedulePlace z zero = 5 + 6 * circuits z
+schedulePlace z (suc j) = nextPlace z (schedulePlace z j)
 
 -- the period of schedule j
 abbrev pub period : List ℕ → ℕ → ℕ
-period s j = word s (schedulePlace s j)
+period z j = word z (schedulePlace z j)
 
 -- the entries at a place, and those of schedule j: a part of the sheet
 abbrev pub entriesAt : List ℕ → ℕ → List ℕ
-entriesAt s place = take (4 * statedEntries s place) (drop (place + 2) s)
+entriesAt z place = take (4 * statedEntries z place) (drop (place + 2) z)
 
 unfoldable pub entriesOf : List ℕ → ℕ → List ℕ
-entriesOf s j = entriesAt s (schedulePlace s j)
+entriesOf z j = entriesAt z (schedulePlace z j)
 
 -- how many entries such a part has
 abbrev pub entryCount : List ℕ → ℕ

@@ -5,7 +5,7 @@ ghost use Prim.Native.Nat.{ℕ, _+_, _-_, _*_, _<_, _≤_};
 ghost use Rattle.words.specs.Tests.{all};
 ghost use Rattle.sheet.specs.Sheet.{circuits, circuitAt};
 ghost use Rattle.sheet.specs.Rules.{regionFits, circuitFits, circuitPrecedes, precedes, apart, receiveApart, rule4, rule5, rule6};
-ghost use Rattle.sheet.specs.Passed.{Headed, Framed};
+ghost use Rattle.sheet.specs.Inner.Passed.{Headed, Framed};
 
 // A region of a node's memory.
 pub struct Region {
@@ -49,20 +49,20 @@ impl Region {
 
 impl Circuit {
     // Circuit k of a sheet; a word past the sheet's end is 0.
-    pub fn at(s: &[u32], k: u32) -> Circuit
-        ensures { λ r. ⌜ r ≡ circuitAt (now (s .entry)) k ⌝ }
+    pub fn at(z: &[u32], k: u32) -> Circuit
+        ensures { λ r. ⌜ r ≡ circuitAt (now (z .entry)) k ⌝ }
     {
         let at = 5 + 6 * (k as usize);
         Circuit {
             read: Region {
-                node: words::get(s, at),
-                offset: words::get(s, at + 2),
-                size: words::get(s, at + 3),
+                node: words::get(z, at),
+                offset: words::get(z, at + 2),
+                size: words::get(z, at + 3),
             },
             receive: Region {
-                node: words::get(s, at + 1),
-                offset: words::get(s, at + 4),
-                size: words::get(s, at + 5),
+                node: words::get(z, at + 1),
+                offset: words::get(z, at + 4),
+                size: words::get(z, at + 5),
             },
         }
     }
@@ -113,16 +113,16 @@ pub fn is_ordered(a: u32, b: u32, c: u32, d: u32) -> bool
 
 // Number 4: each circuit joins two different nodes of the grid, and its two regions fit. The checker calls the rules in their
 // order, and so meets the requires, here and below.
-pub fn keeps_rule4(s: &[u32]) -> bool
-    requires { ⌜ Framed (now s) ⌝ }
-    ensures { λ r. ⌜ r ≡ rule4 (now (s .entry)) ⌝ }
+pub fn keeps_rule4(z: &[u32]) -> bool
+    requires { ⌜ Framed (now z) ⌝ }
+    ensures { λ r. ⌜ r ≡ rule4 (now (z .entry)) ⌝ }
 {
-    let nodes = words::get(s, 0) * words::get(s, 1);
-    let memory = words::get(s, 2);
-    let count = words::get(s, 3);
+    let nodes = words::get(z, 0) * words::get(z, 1);
+    let memory = words::get(z, 2);
+    let count = words::get(z, 3);
     let mut k: u32 = 0;
     while k < count {
-        if Circuit::at(s, k).fits(nodes, memory) {
+        if Circuit::at(z, k).fits(nodes, memory) {
             k += 1;
         } else {
             return false;
@@ -132,14 +132,14 @@ pub fn keeps_rule4(s: &[u32]) -> bool
 }
 
 // Number 5: the circuits strictly ascend by destination and receive offset.
-pub fn keeps_rule5(s: &[u32]) -> bool
-    requires { ⌜ Framed (now s) ⌝ }
-    ensures { λ r. ⌜ r ≡ rule5 (now (s .entry)) ⌝ }
+pub fn keeps_rule5(z: &[u32]) -> bool
+    requires { ⌜ Framed (now z) ⌝ }
+    ensures { λ r. ⌜ r ≡ rule5 (now (z .entry)) ⌝ }
 {
-    let count = words::get(s, 3);
+    let count = words::get(z, 3);
     let mut k: u32 = 0;
     while k + 1 < count {
-        if Circuit::at(s, k).is_before(Circuit::at(s, k + 1)) {
+        if Circuit::at(z, k).is_before(Circuit::at(z, k + 1)) {
             k += 1;
         } else {
             return false;
@@ -149,11 +149,11 @@ pub fn keeps_rule5(s: &[u32]) -> bool
 }
 
 // Number 6 at circuit j's receive region and circuit k: apart from k's read region, and from another k's receive region.
-fn pair_apart_by_regions(s: &[u32], receive: Region, j: u32, k: u32) -> bool
-    requires { ⌜ (Framed (now s)) × (rule4 (now s) ≡ true) × (j < circuits (now s)) × (k < circuits (now s)) × (receive ≡ circuitAt (now s) j .receive) ⌝ }
-    ensures { λ r. ⌜ r ≡ receiveApart (now (s .entry)) j k ⌝ }
+fn pair_apart_by_regions(z: &[u32], receive: Region, j: u32, k: u32) -> bool
+    requires { ⌜ (Framed (now z)) × (rule4 (now z) ≡ true) × (j < circuits (now z)) × (k < circuits (now z)) × (receive ≡ circuitAt (now z) j .receive) ⌝ }
+    ensures { λ r. ⌜ r ≡ receiveApart (now (z .entry)) j k ⌝ }
 {
-    let other = Circuit::at(s, k);
+    let other = Circuit::at(z, k);
     let read = other.read;
     let second = other.receive;
     if j == k {
@@ -166,31 +166,31 @@ fn pair_apart_by_regions(s: &[u32], receive: Region, j: u32, k: u32) -> bool
 }
 
 // The same, first by the nodes: most pairs have none in common, which circuit k's first two words tell.
-fn pair_apart(s: &[u32], receive: Region, j: u32, k: u32) -> bool
-    requires { ⌜ (Framed (now s)) × (rule4 (now s) ≡ true) × (j < circuits (now s)) × (k < circuits (now s)) × (receive ≡ circuitAt (now s) j .receive) ⌝ }
-    ensures { λ r. ⌜ r ≡ receiveApart (now (s .entry)) j k ⌝ }
+fn pair_apart(z: &[u32], receive: Region, j: u32, k: u32) -> bool
+    requires { ⌜ (Framed (now z)) × (rule4 (now z) ≡ true) × (j < circuits (now z)) × (k < circuits (now z)) × (receive ≡ circuitAt (now z) j .receive) ⌝ }
+    ensures { λ r. ⌜ r ≡ receiveApart (now (z .entry)) j k ⌝ }
 {
     let at = 5 + 6 * (k as usize);
-    if words::get(s, at) == receive.node {
-        return pair_apart_by_regions(s, receive, j, k);
+    if words::get(z, at) == receive.node {
+        return pair_apart_by_regions(z, receive, j, k);
     }
-    if words::get(s, at + 1) == receive.node {
-        return pair_apart_by_regions(s, receive, j, k);
+    if words::get(z, at + 1) == receive.node {
+        return pair_apart_by_regions(z, receive, j, k);
     }
     true
 }
 
 // Number 6 at circuit j's receive region.
-fn receive_apart(s: &[u32], j: u32) -> bool
-    requires { ⌜ (Framed (now s)) × (rule4 (now s) ≡ true) × (j < circuits (now s)) ⌝ }
-    ensures { λ r. ⌜ r ≡ all (circuits (now (s .entry))) (receiveApart (now (s .entry)) j) ⌝ }
+fn receive_apart(z: &[u32], j: u32) -> bool
+    requires { ⌜ (Framed (now z)) × (rule4 (now z) ≡ true) × (j < circuits (now z)) ⌝ }
+    ensures { λ r. ⌜ r ≡ all (circuits (now (z .entry))) (receiveApart (now (z .entry)) j) ⌝ }
 {
-    let count = words::get(s, 3);
-    let own = Circuit::at(s, j);
+    let count = words::get(z, 3);
+    let own = Circuit::at(z, j);
     let receive = own.receive;
     let mut k: u32 = 0;
     while k < count {
-        if pair_apart(s, receive, j, k) {
+        if pair_apart(z, receive, j, k) {
             k += 1;
         } else {
             return false;
@@ -200,14 +200,14 @@ fn receive_apart(s: &[u32], j: u32) -> bool
 }
 
 // Number 6: no receive region shares a word with another receive region or with a read region.
-pub fn keeps_rule6(s: &[u32]) -> bool
-    requires { ⌜ (Framed (now s)) × (rule4 (now s) ≡ true) ⌝ }
-    ensures { λ r. ⌜ r ≡ rule6 (now (s .entry)) ⌝ }
+pub fn keeps_rule6(z: &[u32]) -> bool
+    requires { ⌜ (Framed (now z)) × (rule4 (now z) ≡ true) ⌝ }
+    ensures { λ r. ⌜ r ≡ rule6 (now (z .entry)) ⌝ }
 {
-    let count = words::get(s, 3);
+    let count = words::get(z, 3);
     let mut j: u32 = 0;
     while j < count {
-        if receive_apart(s, j) {
+        if receive_apart(z, j) {
             j += 1;
         } else {
             return false;

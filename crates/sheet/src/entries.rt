@@ -5,7 +5,7 @@ ghost use lib.ListN.{length};
 ghost use Rattle.words.specs.Tests.{all};
 ghost use Rattle.sheet.specs.Sheet.{schedules, entryCount, entryAt};
 ghost use Rattle.sheet.specs.Rules.{entryFits, entryPrecedes, rule7At, rule7, rule8At, rule8};
-ghost use Rattle.sheet.specs.Passed.{Headed, Framed};
+ghost use Rattle.sheet.specs.Inner.Passed.{Headed, Framed};
 use super::circuits::is_ordered;
 use super::frame::entries_of;
 use super::frame::schedule_period;
@@ -74,27 +74,27 @@ fn entries_fit(entries: &[u32], circuits: u32, period: u32) -> bool
 }
 
 // Number 7 at schedule j.
-fn schedule_fits(s: &[u32], j: u32) -> bool
-    requires { ⌜ (Framed (now s)) × (j < schedules (now s)) ⌝ }
-    ensures { λ r. ⌜ r ≡ rule7At (now (s .entry)) j ⌝ }
+fn schedule_fits(z: &[u32], j: u32) -> bool
+    requires { ⌜ (Framed (now z)) × (j < schedules (now z)) ⌝ }
+    ensures { λ r. ⌜ r ≡ rule7At (now (z .entry)) j ⌝ }
 {
-    let period = schedule_period(s, j);
+    let period = schedule_period(z, j);
     if words::is_between(9, 1024, period) {
-        return entries_fit(entries_of(s, j), words::get(s, 3), period);
+        return entries_fit(entries_of(z, j), words::get(z, 3), period);
     }
     false
 }
 
 // Number 7: each period and each entry's offset, length, circuit and route is in its range. The checker calls the rules in
 // their order, and so meets the requires, here and below.
-pub fn keeps_rule7(s: &[u32]) -> bool
-    requires { ⌜ Framed (now s) ⌝ }
-    ensures { λ r. ⌜ r ≡ rule7 (now (s .entry)) ⌝ }
+pub fn keeps_rule7(z: &[u32]) -> bool
+    requires { ⌜ Framed (now z) ⌝ }
+    ensures { λ r. ⌜ r ≡ rule7 (now (z .entry)) ⌝ }
 {
-    let count = words::get(s, 4);
+    let count = words::get(z, 4);
     let mut j: u32 = 0;
     while j < count {
-        if schedule_fits(s, j) {
+        if schedule_fits(z, j) {
             j += 1;
         } else {
             return false;
@@ -120,14 +120,14 @@ fn entries_ascend(entries: &[u32]) -> bool
 }
 
 // Number 8: the entries of each schedule strictly ascend by offset and circuit.
-pub fn keeps_rule8(s: &[u32]) -> bool
-    requires { ⌜ Framed (now s) ⌝ }
-    ensures { λ r. ⌜ r ≡ rule8 (now (s .entry)) ⌝ }
+pub fn keeps_rule8(z: &[u32]) -> bool
+    requires { ⌜ Framed (now z) ⌝ }
+    ensures { λ r. ⌜ r ≡ rule8 (now (z .entry)) ⌝ }
 {
-    let count = words::get(s, 4);
+    let count = words::get(z, 4);
     let mut j: u32 = 0;
     while j < count {
-        if entries_ascend(entries_of(s, j)) {
+        if entries_ascend(entries_of(z, j)) {
             j += 1;
         } else {
             return false;

@@ -4,8 +4,8 @@ ghost use Prim.Native.Nat.{ℕ, _+_, _*_, _<_, _≤_};
 ghost use lib.ListN.{length};
 ghost use Rattle.sheet.specs.Sheet.{schedules, schedulePlace, period, entriesOf};
 ghost use Rattle.sheet.specs.Rules.{rule1, rule2, rule3};
-ghost use Rattle.sheet.specs.Passed.{Headed, Framed, Placed};
-ghost use Rattle.sheet.specs.Frame.{placeAfter};
+ghost use Rattle.sheet.specs.Inner.Passed.{Headed, Framed, Placed};
+ghost use Rattle.sheet.specs.Inner.Frame.{placeAfter};
 
 // Where a schedule may begin.
 pub enum Place {
@@ -14,21 +14,21 @@ pub enum Place {
 }
 
 // Number 1: the sheet has its five head words.
-pub fn keeps_rule1(s: &[u32]) -> bool
-    ensures { λ r. ⌜ r ≡ rule1 (now (s .entry)) ⌝ }
+pub fn keeps_rule1(z: &[u32]) -> bool
+    ensures { λ r. ⌜ r ≡ rule1 (now (z .entry)) ⌝ }
 {
-    5 <= s.len()
+    5 <= z.len()
 }
 
 // Number 2: each head number is in its range.
-pub fn keeps_rule2(s: &[u32]) -> bool
-    ensures { λ r. ⌜ r ≡ rule2 (now (s .entry)) ⌝ }
+pub fn keeps_rule2(z: &[u32]) -> bool
+    ensures { λ r. ⌜ r ≡ rule2 (now (z .entry)) ⌝ }
 {
-    if words::is_between(2, 4, words::get(s, 0)) {
-        if words::is_between(2, 4, words::get(s, 1)) {
-            if words::is_between(1, 16384, words::get(s, 2)) {
-                if words::is_between(0, 64, words::get(s, 3)) {
-                    return words::is_between(1, 8, words::get(s, 4));
+    if words::is_between(2, 4, words::get(z, 0)) {
+        if words::is_between(2, 4, words::get(z, 1)) {
+            if words::is_between(1, 16384, words::get(z, 2)) {
+                if words::is_between(0, 64, words::get(z, 3)) {
+                    return words::is_between(1, 8, words::get(z, 4));
                 }
             }
         }
@@ -37,14 +37,14 @@ pub fn keeps_rule2(s: &[u32]) -> bool
 }
 
 // The place behind the schedule at a place, where that begins within the sheet and states few enough entries.
-fn place_after(s: &[u32], at: usize) -> Place
+fn place_after(z: &[u32], at: usize) -> Place
     requires { ⌜ at < 65536 ⌝ }
-    ensures { λ r. ⌜ r ≡ placeAfter (now (s .entry)) at ⌝ }
+    ensures { λ r. ⌜ r ≡ placeAfter (now (z .entry)) at ⌝ }
 {
-    if s.len() < at + 2 {
+    if z.len() < at + 2 {
         return Place::Nowhere;
     }
-    let count = words::get(s, at + 1);
+    let count = words::get(z, at + 1);
     if count > 256 {
         return Place::Nowhere;
     }
@@ -52,15 +52,15 @@ fn place_after(s: &[u32], at: usize) -> Place
 }
 
 // Number 3: the schedules fill the sheet to its end. The checker calls it once the rules 1 and 2 are kept.
-pub fn keeps_rule3(s: &[u32]) -> bool
-    requires { ⌜ Headed (now s) ⌝ }
-    ensures { λ r. ⌜ r ≡ rule3 (now (s .entry)) ⌝ }
+pub fn keeps_rule3(z: &[u32]) -> bool
+    requires { ⌜ Headed (now z) ⌝ }
+    ensures { λ r. ⌜ r ≡ rule3 (now (z .entry)) ⌝ }
 {
-    let count = words::get(s, 4);
-    let mut at = 5 + 6 * (words::get(s, 3) as usize);
+    let count = words::get(z, 4);
+    let mut at = 5 + 6 * (words::get(z, 3) as usize);
     let mut j: u32 = 0;
     while j < count {
-        let after = place_after(s, at);
+        let after = place_after(z, at);
         match after {
             Place::Nowhere => {
                 return false;
@@ -71,39 +71,39 @@ pub fn keeps_rule3(s: &[u32]) -> bool
         }
         j += 1;
     }
-    at == s.len()
+    at == z.len()
 }
 
 // The place of schedule j. Whoever has checked the rules 1 to 3 meets the requires, here and below.
-pub fn schedule_place(s: &[u32], j: u32) -> usize
-    requires { ⌜ (Framed (now s)) × (j < schedules (now s)) ⌝ }
-    ensures { λ r. ⌜ (r ≡ schedulePlace (now (s .entry)) j) × Placed (now (s .entry)) r ⌝ }
+pub fn schedule_place(z: &[u32], j: u32) -> usize
+    requires { ⌜ (Framed (now z)) × (j < schedules (now z)) ⌝ }
+    ensures { λ r. ⌜ (r ≡ schedulePlace (now (z .entry)) j) × Placed (now (z .entry)) r ⌝ }
 {
-    let mut at = 5 + 6 * (words::get(s, 3) as usize);
+    let mut at = 5 + 6 * (words::get(z, 3) as usize);
     let mut i: u32 = 0;
     while i < j {
-        at = at + 2 + 4 * (words::get(s, at + 1) as usize);
+        at = at + 2 + 4 * (words::get(z, at + 1) as usize);
         i += 1;
     }
     at
 }
 
 // The period of schedule j.
-pub fn schedule_period(s: &[u32], j: u32) -> u32
-    requires { ⌜ (Framed (now s)) × (j < schedules (now s)) ⌝ }
-    ensures { λ r. ⌜ r ≡ period (now (s .entry)) j ⌝ }
+pub fn schedule_period(z: &[u32], j: u32) -> u32
+    requires { ⌜ (Framed (now z)) × (j < schedules (now z)) ⌝ }
+    ensures { λ r. ⌜ r ≡ period (now (z .entry)) j ⌝ }
 {
-    let at = schedule_place(s, j);
-    words::get(s, at)
+    let at = schedule_place(z, j);
+    words::get(z, at)
 }
 
 // The entries of schedule j, as that part of the sheet.
-pub fn entries_of(s: &[u32], j: u32) -> &[u32]
-    requires { ⌜ (Framed (now s)) × (j < schedules (now s)) ⌝ }
-    ensures { λ r. ⌜ now r ≡ entriesOf (now (s .entry)) j ⌝ }
+pub fn entries_of(z: &[u32], j: u32) -> &[u32]
+    requires { ⌜ (Framed (now z)) × (j < schedules (now z)) ⌝ }
+    ensures { λ r. ⌜ now r ≡ entriesOf (now (z .entry)) j ⌝ }
 {
-    let at = schedule_place(s, j);
+    let at = schedule_place(z, j);
     let from = at + 2;
-    let to = at + 2 + 4 * (words::get(s, at + 1) as usize);
-    &s[from..to]
+    let to = at + 2 + 4 * (words::get(z, at + 1) as usize);
+    &z[from..to]
 }

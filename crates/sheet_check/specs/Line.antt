@@ -16,8 +16,8 @@ abbrev pub mostWords : ℕ
 mostWords = 8597
 
 -- the sheet that follows its length
-abbrev pub sheetIn : List ℕ → List ℕ
-sheetIn bytes = tab (wordIn bytes 0) (λ k. wordIn bytes (1 + k))
+abbrev pub sheetOf : List ℕ → List ℕ
+sheetOf bytes = tab (wordIn bytes 0) (λ k. wordIn bytes (1 + k))
 
 abbrev pub verdictLine : ℕ → Line
 verdictLine zero = Passes
@@ -27,7 +27,7 @@ unfoldable pub lineOf : List ℕ → Line
 lineOf bytes =
     pick (length bytes <? 4) InputEnds
     (pick (mostWords <? wordIn bytes 0) TooLarge
-    (pick (length bytes <? 4 * (1 + wordIn bytes 0)) InputEnds (verdictLine (verdict (sheetIn bytes)))))
+    (pick (length bytes <? 4 * (1 + wordIn bytes 0)) InputEnds (verdictLine (verdict (sheetOf bytes)))))
 
 -- `passes`, and a line end
 unfoldable pub passes : List ℕ

@@ -6,7 +6,7 @@ ghost use mathlib.Core.Path.{_≡_};
 ghost use Prim.Native.Nat.{ℕ, _+_, _*_, _<_, _≤_};
 ghost use lib.ListN.{length, take};
 ghost use Rattle.octets.specs.Octets.{wordIn};
-ghost use Rattle.sheet_check.specs.Line.{lineOf, sheetIn, verdictLine, textOf};
+ghost use Rattle.sheet_check.specs.Line.{lineOf, sheetOf, verdictLine, textOf};
 ghost use Rattle.sheet.specs.Rules.{verdict};
 
 const LINE_END: u8 = 10;
@@ -22,7 +22,7 @@ pub enum Line {
 // The line for a sheet whose words are all there.
 fn judged(bytes: &[u8], sheet: &mut [u32]) -> Line
     requires { ⌜ (4 * (1 + length (now sheet)) ≤ length (now bytes)) × (length (now sheet) ≡ wordIn (now bytes) 0) ⌝ }
-    ensures { λ r. ⌜ r ≡ verdictLine (verdict (sheetIn (now (bytes .entry)))) ⌝ }
+    ensures { λ r. ⌜ r ≡ verdictLine (verdict (sheetOf (now (bytes .entry)))) ⌝ }
 {
     octets::read_words(bytes, 1, sheet);
     let outcome = checker::verdict(sheet);

@@ -6,7 +6,7 @@ use mathlib.Core.List.{List}
 use mathlib.Core.Path.{_≡_, refl}
 use native.Mathlib.Omega.{arith}
 use Rattle.network.specs.Registers.{reg, sheetIn, kindRow}
-use Rattle.network.specs.Paired.{Paired, Sendable}
+use Rattle.network.specs.Inner.Paired.{Paired, Sendable}
 use Rattle.soundness.specs.Sound.{sound}
 use Rattle.soundness.proofs.SheetLaws.{SheetBounds, sheet-bounds, circuit-bounds}
 use Rattle.soundness.proofs.SoundLaws.{SoundParts, sound-parts, travels-small}

@@ -9,7 +9,7 @@ use lib.ListN.{length}
 use Rattle.words.proofs.TestLaws.{and-right, is=}
 use Rattle.sheet.specs.Sheet.{memoryWords, circuits, schedules, nodes, circuitAt, schedulePlace, period}
 use Rattle.sheet.specs.Rules.{rule3, verdict}
-use Rattle.sheet.specs.Passed.{Framed, Ranged, CircuitSmall}
+use Rattle.sheet.specs.Inner.Passed.{Framed, Ranged, CircuitSmall}
 use Rattle.sheet.proofs.PassedLaws.{placed, circuit-small, period-range}
 use Rattle.sheet.proofs.VerdictLaws.{routed}
 

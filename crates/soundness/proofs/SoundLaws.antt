@@ -15,8 +15,8 @@ use Rattle.sheet.specs.declared.circuits.Circuit.{Circuit}
 use Rattle.sheet.specs.Sheet.{circuits, schedules, nodes, circuitAt, period}
 use Rattle.sheet.specs.Rules.{verdict}
 use Rattle.network.specs.View.{Sender}
-use Rattle.network.specs.Registers.{reg, sheetLength, sheetIn, sheetWords, clockRow, cyclePlace, schedulePlace, orderMarkPlace, orderSchedulePlace, linkMark, linkWord, headMark, headWord, choiceRow, latchRow, outMark, outWord, receiveMark, receiveKind, landingMark, leftRow, readRow, writeRow, kindRow}
-use Rattle.network.specs.Machine.{senderIn}
+use Rattle.network.specs.Registers.{reg, sheetLength, sheetIn, sheetWords, clockRow, cyclePlace, inForcePlace, orderMarkPlace, orderSchedulePlace, linkMark, linkWord, headMark, headWord, choiceRow, latchRow, outMark, outWord, receiveMark, receiveKind, landingMark, leftRow, readRow, writeRow, kindRow}
+use Rattle.network.specs.Seen.{seenSender}
 use Rattle.soundness.specs.Sound.{sheetSound, clockSound, orderSound, kindTravels, liesIn, transferSound, cellSound, routerSound, nodeSound, sound}
 
 -- so many words from an address on lie in a region, in numbers
@@ -96,7 +96,7 @@ liveSound s c =
     and liesIn (circuitAt (sheetIn s) c .read) (reg s readRow c) (reg s leftRow c)
     and liesIn (circuitAt (sheetIn s) c .receive) (reg s writeRow c) (reg s leftRow c)
 
-pub transfer-parts : (s : List ℕ) (c : ℕ) → transferSound s c ≡ true → TransferParts (circuitAt (sheetIn s) c) (senderIn s c)
+pub transfer-parts : (s : List ℕ) (c : ℕ) → transferSound s c ≡ true → TransferParts (circuitAt (sheetIn s) c) (seenSender s c)
 unfolding transferSound
 transfer-parts s c e = record {
   to-go = is≤ _ _ (and-left _ _ e);
@@ -109,7 +109,7 @@ transfer-parts s c e = record {
     rest : 1 ≤ reg s leftRow c → liveSound s c ≡ true
     rest l = beside (reg s leftRow c) (and-right _ _ e) l
 
-pub transfer-test : (s : List ℕ) (c : ℕ) → TransferParts (circuitAt (sheetIn s) c) (senderIn s c) → transferSound s c ≡ true
+pub transfer-test : (s : List ℕ) (c : ℕ) → TransferParts (circuitAt (sheetIn s) c) (seenSender s c) → transferSound s c ≡ true
 unfolding transferSound
 transfer-test s c x =
     and-both (yes≤ (x .to-go))
@@ -172,11 +172,11 @@ node-test s n x = and-both (yes≤ (x .receiving)) (and-both (beside-test (reg s
 pub record SoundParts (z s : List ℕ) : Type 0 where
   pub sheet-fits : sheetLength s ≤ sheetWords
   pub sheet-passes : verdict z ≡ 0
-  pub schedule-inside : reg s clockRow schedulePlace < schedules z
-  pub cycle-inside : reg s clockRow cyclePlace < period z (reg s clockRow schedulePlace)
+  pub schedule-inside : reg s clockRow inForcePlace < schedules z
+  pub cycle-inside : reg s clockRow cyclePlace < period z (reg s clockRow inForcePlace)
   pub order-known : reg s clockRow orderMarkPlace ≤ 1
   pub order-inside : 1 ≤ reg s clockRow orderMarkPlace → reg s clockRow orderSchedulePlace < schedules z
-  pub transfers : (c : ℕ) → c < circuits z → TransferParts (circuitAt z c) (senderIn s c)
+  pub transfers : (c : ℕ) → c < circuits z → TransferParts (circuitAt z c) (seenSender s c)
   pub routers : (k : ℕ) → k < nodes z * 5 → RouterParts s k
   pub units : (n : ℕ) → n < nodes z → NodeParts s n
 

@@ -14,9 +14,9 @@ use Rattle.packet.specs.Header.{dataKind, interruptKind, kindOf}
 use Rattle.sheet.specs.declared.circuits.Region.{Region}
 use Rattle.sheet.specs.declared.circuits.Circuit.{Circuit}
 use Rattle.sheet.specs.Sheet.{columns, rows, circuits, schedules, nodes, circuitAt, period}
-use Rattle.sheet.specs.Passed.{Framed}
+use Rattle.sheet.specs.Inner.Passed.{Framed}
 use Rattle.sheet.specs.Rules.{verdict}
-use Rattle.network.specs.Registers.{reg, sheetLength, sheetIn, clockRow, cyclePlace, schedulePlace, orderMarkPlace, orderSchedulePlace, linkMark, headMark, outMark, latchRow, receiveMark, receiveKind, landingMark, leftRow, readRow, writeRow, kindRow, toGoRow}
+use Rattle.network.specs.Registers.{reg, sheetLength, sheetIn, clockRow, cyclePlace, inForcePlace, orderMarkPlace, orderSchedulePlace, linkMark, headMark, outMark, latchRow, receiveMark, receiveKind, landingMark, leftRow, readRow, writeRow, kindRow, toGoRow}
 use Rattle.soundness.specs.Sound.{sheetSound, clockSound, orderSound, kindTravels, liesIn, transferSound, cellSound, routerSound, nodeSound, sound}
 
 -- a test of three parts, with the first two taken together
@@ -144,17 +144,17 @@ module _ (s z : List ℕ) (own : z ≡ sheetIn s) where
   same-schedules : schedules z ≡ schedules (sheetIn s)
   same-schedules = ap schedules own
 
-  module _ (j count : ℕ) (p : j ≡ reg s clockRow schedulePlace) (q : count ≡ schedules z) where
+  module _ (j count : ℕ) (p : j ≡ reg s clockRow inForcePlace) (q : count ≡ schedules z) where
     pub clock-outside : count ≤ j → false ≡ clockSound s
     unfolding clockSound
     clock-outside l =
-        and-no _ (no< (let h : schedules (sheetIn s) ≤ reg s clockRow schedulePlace = omega (arith, same-schedules) in h))
+        and-no _ (no< (let h : schedules (sheetIn s) ≤ reg s clockRow inForcePlace = omega (arith, same-schedules) in h))
 
     pub clock-rest : (cycle size : ℕ) → cycle ≡ reg s clockRow cyclePlace → size ≡ period z j → j < count
         → (cycle <? size) ≡ clockSound s
     unfolding clockSound
     clock-rest cycle size a b l =
-        and-on (yes< (let h : reg s clockRow schedulePlace < schedules (sheetIn s) = omega (arith, same-schedules) in h))
+        and-on (yes< (let h : reg s clockRow inForcePlace < schedules (sheetIn s) = omega (arith, same-schedules) in h))
         (ap₂ _<?_ a (b ∙ ap (λ (y : List ℕ). period y j) own ∙ ap (period (sheetIn s)) p))
 
   -- the order

@@ -8,7 +8,7 @@ use Rattle.packet.specs.Header.{dataKind, interruptKind, kindOf}
 use Rattle.sheet.specs.declared.circuits.Region.{Region}
 use Rattle.sheet.specs.Sheet.{circuits, schedules, nodes, circuitAt, period}
 use Rattle.sheet.specs.Rules.{verdict}
-use Rattle.network.specs.Registers.{reg, sheetLength, sheetIn, sheetWords, clockRow, cyclePlace, schedulePlace, orderMarkPlace, orderSchedulePlace, linkMark, linkWord, headMark, headWord, choiceRow, latchRow, outMark, outWord, receiveMark, receiveKind, landingMark, leftRow, readRow, writeRow, kindRow, toGoRow}
+use Rattle.network.specs.Registers.{reg, sheetLength, sheetIn, sheetWords, clockRow, cyclePlace, inForcePlace, orderMarkPlace, orderSchedulePlace, linkMark, linkWord, headMark, headWord, choiceRow, latchRow, outMark, outWord, receiveMark, receiveKind, landingMark, leftRow, readRow, writeRow, kindRow, toGoRow}
 
 -- the state's sheet, with its stored length, passes 1 to 11
 unfoldable pub sheetSound : List ℕ → Bool
@@ -17,8 +17,8 @@ sheetSound s = sheetLength s ≤? sheetWords and verdict (sheetIn s) =? 0
 -- the schedule in force and the cycle are within range
 unfoldable pub clockSound : List ℕ → Bool
 clockSound s =
-    reg s clockRow schedulePlace <? schedules (sheetIn s)
-    and reg s clockRow cyclePlace <? period (sheetIn s) (reg s clockRow schedulePlace)
+    reg s clockRow inForcePlace <? schedules (sheetIn s)
+    and reg s clockRow cyclePlace <? period (sheetIn s) (reg s clockRow inForcePlace)
 
 -- the order's mark is a known one, and a pending order's schedule exists
 unfoldable pub orderSound : List ℕ → Bool

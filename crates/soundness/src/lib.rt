@@ -4,7 +4,7 @@ ghost use Prim.Native.Nat.{ℕ, _*_};
 ghost use Rattle.words.specs.Tests.{all, _and_, _or_, _≤?_, _=?_};
 ghost use Rattle.packet.specs.Header.{dataKind};
 ghost use Rattle.sheet.specs.Sheet.{circuits, nodes as nodesOf};
-ghost use Rattle.sheet.specs.Passed.{Framed};
+ghost use Rattle.sheet.specs.Inner.Passed.{Framed};
 ghost use Rattle.network.specs.Registers.{reg as regOf, sheetIn, linkMark, headMark, outMark, choiceRow, receiveMark, receiveKind};
 ghost use Rattle.soundness.specs.Sound.{kindTravels, liesIn, clockSound, orderSound, transferSound, cellSound, routerSound, nodeSound, sound};
 use network::reg;
@@ -170,7 +170,7 @@ fn clock_sound(s: &[u32], z: &[u32]) -> bool
     requires { ⌜ (now z ≡ sheetIn (now s)) × (Framed (now z)) ⌝ }
     ensures { λ r. ⌜ r ≡ clockSound (now (s .entry)) ⌝ }
 {
-    let schedule = reg(s, network::CLOCK_ROW, network::SCHEDULE_PLACE);
+    let schedule = reg(s, network::CLOCK_ROW, network::IN_FORCE_PLACE);
     if schedule < words::get(z, 4) {
         let cycle = reg(s, network::CLOCK_ROW, network::CYCLE_PLACE);
         return cycle < sheet::schedule_period(z, schedule);

@@ -15,14 +15,14 @@ use Rattle.words.proofs.WordLaws.{lastOf-more, length-tab, tab-at}
 use Rattle.sheet.specs.declared.entries.Entry.{Entry}
 use Rattle.sheet.specs.Sheet.{circuits, schedules, entriesOf, entryCount, entryAt}
 use Rattle.sheet.specs.Rules.{precedes, entryPrecedes, rule8At, rule8}
-use Rattle.sheet.specs.Passed.{Framed}
+use Rattle.sheet.specs.Inner.Passed.{Framed}
 use Rattle.sheet.specs.Slots.{beginsAt, entryBeginning, slotLength, slotRoute}
 use Rattle.sheet.proofs.PassedLaws.{entries-few}
-use Rattle.network.specs.Registers.{reg, sheetIn, clockRow, cyclePlace, schedulePlace}
-use Rattle.network.specs.Machine.{slotIn}
-use Rattle.network.specs.Paired.{Paired}
+use Rattle.network.specs.Registers.{reg, sheetIn, clockRow, cyclePlace, inForcePlace}
+use Rattle.network.specs.Inner.Machine.{slotIn}
+use Rattle.network.specs.Inner.Paired.{Paired}
 use Rattle.network.proofs.SlotLaws.{found-inside, length-none, length-is, route-none, route-is}
-use Rattle.sources.specs.Slots.{slotTable, slotPut, Behind}
+use Rattle.sources.specs.Inner.Slots.{slotTable, slotPut, Behind}
 use Rattle.sources.proofs.TableLaws.{tab-same, tab-set}
 
 -- an entry put into the table, or not
@@ -204,7 +204,7 @@ module _ (z : List ℕ) (j cycle : ℕ) where
 -- the table of a state
 module _ (s z : List ℕ) (g : Paired s z) where
   abbrev inForce : ℕ
-  inForce = reg s clockRow schedulePlace
+  inForce = reg s clockRow inForcePlace
 
   abbrev cycleNow : ℕ
   cycleNow = reg s clockRow cyclePlace

@@ -15,9 +15,9 @@ use Rattle.words.proofs.WordLaws.{countOf-more}
 use Rattle.sheet.specs.Sheet.{nodes}
 use Rattle.sheet.specs.Slots.{sourceOf}
 use Rattle.network.specs.Registers.{sheetIn}
-use Rattle.network.specs.Machine.{firstMark, firstWord, ownMark, sentMark}
+use Rattle.network.specs.Inner.Machine.{firstMark, firstWord, ownMark, sentMark}
 use Rattle.network.proofs.FirstLaws.{first-none, word-empty}
-use Rattle.sources.specs.Wires.{crowdsAt}
+use Rattle.sources.specs.Inner.Wires.{crowdsAt}
 
 -- one more mark
 module _ (marks : ℕ → ℕ) (n : ℕ) where

@@ -11,18 +11,19 @@ use Rattle.words.specs.Tests.{_≤?_}
 use Rattle.words.specs.Words.{pick, tab}
 use Rattle.words.proofs.TestLaws.{and-both, yes≤, no≤}
 use Rattle.sheet.specs.Sheet.{circuits, schedules}
-use Rattle.sheet.specs.Passed.{Framed}
+use Rattle.sheet.specs.Inner.Passed.{Framed}
 use Rattle.sheet.specs.Slots.{entryBeginning, slotLength}
 use Rattle.network.specs.View.{Sender}
 use Rattle.network.specs.Cycle.{Move, rests, opens, sends, move, stepSender}
-use Rattle.network.specs.Registers.{reg, put, sheetIn, movingWords, clockRow, cyclePlace, schedulePlace, leftRow, readRow, writeRow, kindRow, toGoRow}
-use Rattle.network.specs.Machine.{slotIn, senderIn, moveIn, nextSender, nextInRow, nextRows}
-use Rattle.network.specs.Paired.{Paired}
-use Rattle.network.specs.Stages.{stage}
+use Rattle.network.specs.Registers.{reg, put, sheetIn, movingWords, clockRow, cyclePlace, inForcePlace, leftRow, readRow, writeRow, kindRow, toGoRow}
+use Rattle.network.specs.Seen.{seenSender}
+use Rattle.network.specs.Inner.Machine.{slotIn, moveIn, nextSender, nextInRow, nextRows}
+use Rattle.network.specs.Inner.Paired.{Paired}
+use Rattle.network.specs.Inner.Stages.{stage}
 use Rattle.network.proofs.RowLaws.{sender-same}
 use Rattle.network.proofs.FillLaws.{Wrote, wrote-one, wrote-then, wrote-nothing, Staged, stage-start, stage-more, still, beside, staged-sheet, staged-is}
-use Rattle.sources.specs.Slots.{slotTable}
-use Rattle.sources.specs.Steps.{Sending, Steppable, sendWord, senderPut}
+use Rattle.sources.specs.Inner.Slots.{slotTable}
+use Rattle.sources.specs.Inner.Steps.{Sending, Steppable, sendWord, senderPut}
 use Rattle.sources.proofs.SourceLaws.{opening, open-no, open-rest, none-to-go, moves-open, moves-on}
 
 -- a payload word is sent, from the registers that were read and set
@@ -120,20 +121,20 @@ module _ (s : List ℕ) (long : movingWords ≤ length s) (c : ℕ) (few : c < 8
 
   -- the registers, by what the circuit does
   record After (m : Move) : Type 0 where
-    left-is : new 16 ≡ stepSender m (slotIn s c) (senderIn s c) .left
-    read-is : new 17 ≡ stepSender m (slotIn s c) (senderIn s c) .readAddress
-    write-is : new 18 ≡ stepSender m (slotIn s c) (senderIn s c) .writeAddress
-    kind-is : new 19 ≡ stepSender m (slotIn s c) (senderIn s c) .kind
-    going-is : new 20 ≡ stepSender m (slotIn s c) (senderIn s c) .toGo
+    left-is : new 16 ≡ stepSender m (slotIn s c) (seenSender s c) .left
+    read-is : new 17 ≡ stepSender m (slotIn s c) (seenSender s c) .readAddress
+    write-is : new 18 ≡ stepSender m (slotIn s c) (seenSender s c) .writeAddress
+    kind-is : new 19 ≡ stepSender m (slotIn s c) (seenSender s c) .kind
+    going-is : new 20 ≡ stepSender m (slotIn s c) (seenSender s c) .toGo
 
   after-by : (m : Move) → moveIn s c ≡ m → After m
   unfolding nextInRow nextRows
   after-by m e = record {
-    left-is = ap (λ (x : Move). stepSender x (slotIn s c) (senderIn s c) .left) e;
-    read-is = ap (λ (x : Move). stepSender x (slotIn s c) (senderIn s c) .readAddress) e;
-    write-is = ap (λ (x : Move). stepSender x (slotIn s c) (senderIn s c) .writeAddress) e;
-    kind-is = ap (λ (x : Move). stepSender x (slotIn s c) (senderIn s c) .kind) e;
-    going-is = ap (λ (x : Move). stepSender x (slotIn s c) (senderIn s c) .toGo) e;
+    left-is = ap (λ (x : Move). stepSender x (slotIn s c) (seenSender s c) .left) e;
+    read-is = ap (λ (x : Move). stepSender x (slotIn s c) (seenSender s c) .readAddress) e;
+    write-is = ap (λ (x : Move). stepSender x (slotIn s c) (seenSender s c) .writeAddress) e;
+    kind-is = ap (λ (x : Move). stepSender x (slotIn s c) (seenSender s c) .kind) e;
+    going-is = ap (λ (x : Move). stepSender x (slotIn s c) (seenSender s c) .toGo) e;
   }
 
   wrote-rests : After rests → Wrote 16 20 c new s s
@@ -235,7 +236,7 @@ module _ (s₀ : List ℕ) (p : Steppable s₀) (count : ℕ) (s : List ℕ) (c 
         record {
           own = refl;
           framed = subst Framed (sym sheet-same) (p .framed);
-          in-force = omega (arith, p .in-force, clock-same schedulePlace (omega arith));
+          in-force = omega (arith, p .in-force, clock-same inForcePlace (omega arith));
         }
 
     pub step-table : (slots : List ℕ) → slots ≡ slotTable s₀ → slots ≡ slotTable s
@@ -243,8 +244,8 @@ module _ (s₀ : List ℕ) (p : Steppable s₀) (count : ℕ) (s : List ℕ) (c 
     step-table slots t =
         t
         ∙ sym
-        (ap (λ (x : List ℕ). tab 64 (entryBeginning x (reg s clockRow schedulePlace) (reg s clockRow cyclePlace))) sheet-same
-        ∙ ap₂ (λ (j k : ℕ). tab 64 (entryBeginning (sheetIn s₀) j k)) (clock-same schedulePlace (omega arith)) (clock-same cyclePlace (omega arith)))
+        (ap (λ (x : List ℕ). tab 64 (entryBeginning x (reg s clockRow inForcePlace) (reg s clockRow cyclePlace))) sheet-same
+        ∙ ap₂ (λ (j k : ℕ). tab 64 (entryBeginning (sheetIn s₀) j k)) (clock-same inForcePlace (omega arith)) (clock-same cyclePlace (omega arith)))
 
     pub step-inside : c < circuits (sheetIn s)
     step-inside = subst (λ (x : List ℕ). c < circuits x) (sym sheet-same) inside-own
@@ -265,12 +266,12 @@ module _ (s₀ : List ℕ) (p : Steppable s₀) (count : ℕ) (s : List ℕ) (c 
     slot-same : slotIn s c ≡ slotIn s₀ c
     unfolding slotIn
     slot-same =
-        ap (λ (x : List ℕ). slotLength x (reg s clockRow schedulePlace) (reg s clockRow cyclePlace) c) sheet-same
-        ∙ ap₂ (λ (j k : ℕ). slotLength (sheetIn s₀) j k c) (clock-same schedulePlace (omega arith)) (clock-same cyclePlace (omega arith))
+        ap (λ (x : List ℕ). slotLength x (reg s clockRow inForcePlace) (reg s clockRow cyclePlace) c) sheet-same
+        ∙ ap₂ (λ (j k : ℕ). slotLength (sheetIn s₀) j k c) (clock-same inForcePlace (omega arith)) (clock-same cyclePlace (omega arith))
 
-    sender-kept : senderIn s c ≡ senderIn s₀ c
+    sender-kept : seenSender s c ≡ seenSender s₀ c
     sender-kept =
-        sender-same (senderIn s c) (senderIn s₀ c) (row-same leftRow (omega arith)) (row-same readRow (omega arith))
+        sender-same (seenSender s c) (seenSender s₀ c) (row-same leftRow (omega arith)) (row-same readRow (omega arith))
         (row-same writeRow (omega arith)) (row-same kindRow (omega arith)) (row-same toGoRow (omega arith))
 
     next-same : nextSender s c ≡ nextSender s₀ c

@@ -18,9 +18,9 @@ use Rattle.sheet.specs.declared.circuits.Circuit.{Circuit}
 use Rattle.sheet.specs.Sheet.{circuits, memoryWords, circuitAt}
 use Rattle.sheet.specs.Slots.{slotRoute, sourceOf}
 use Rattle.network.specs.Cycle.{Move, rests, sends}
-use Rattle.network.specs.Registers.{reg, sheetIn, room, clockRow, cyclePlace, schedulePlace, leftRow, readRow, writeRow, kindRow, toGoRow}
-use Rattle.network.specs.Machine.{wordOf, sentWord}
-use Rattle.network.specs.Paired.{Paired, Sendable}
+use Rattle.network.specs.Registers.{reg, sheetIn, room, clockRow, cyclePlace, inForcePlace, leftRow, readRow, writeRow, kindRow, toGoRow}
+use Rattle.network.specs.Inner.Machine.{wordOf, sentWord}
+use Rattle.network.specs.Inner.Paired.{Paired, Sendable}
 use Rattle.network.proofs.SlotLaws.{route-small}
 use Rattle.sources.proofs.SourceLaws.{opening, moves-open, moves-on, source-read}
 
@@ -28,7 +28,7 @@ use Rattle.sources.proofs.SourceLaws.{opening, moves-open, moves-on, so
 abbrev pub headIn : List ℕ → ℕ → ℕ
 headIn s c =
     headerWord (reg s kindRow c) (reg s writeRow c)
-    (slotRoute (sheetIn s) (reg s clockRow schedulePlace) (reg s clockRow cyclePlace) c)
+    (slotRoute (sheetIn s) (reg s clockRow inForcePlace) (reg s clockRow cyclePlace) c)
 
 abbrev pub readIn : List ℕ → List ℕ → ℕ → ℕ
 readIn s m c = word m (sourceOf (sheetIn s) c * room s + reg s readRow c)
@@ -37,10 +37,10 @@ readIn s m c = word m (sourceOf (sheetIn s) c * room s + reg s readRow c)
 pub record Parts (s : List ℕ) (c kind address route : ℕ) : Type 0 where
   pub kind-read : kind ≡ reg s kindRow c
   pub address-read : address ≡ reg s writeRow c
-  pub route-read : route ≡ slotRoute (sheetIn s) (reg s clockRow schedulePlace) (reg s clockRow cyclePlace) c
+  pub route-read : route ≡ slotRoute (sheetIn s) (reg s clockRow inForcePlace) (reg s clockRow cyclePlace) c
 
 pub parts : (s : List ℕ) (c kind address route : ℕ) → kind ≡ reg s kindRow c → address ≡ reg s writeRow c
-    → route ≡ slotRoute (sheetIn s) (reg s clockRow schedulePlace) (reg s clockRow cyclePlace) c → Parts s c kind address route
+    → route ≡ slotRoute (sheetIn s) (reg s clockRow inForcePlace) (reg s clockRow cyclePlace) c → Parts s c kind address route
 parts s c kind address route k w e = record { kind-read = k; address-read = w; route-read = e }
 
 module _ (s z : List ℕ) (g : Sendable s z) (c : ℕ) (inside : c < circuits z) (some : 1 ≤ reg s leftRow c) where
@@ -48,7 +48,7 @@ module _ (s z : List ℕ) (g : Sendable s z) (c : ℕ) (inside : c < circuits z)
     fits : Fits kind address route
     fits =
         let low = route-small z (g .ranged) _ (g .paired .in-force) (reg s clockRow cyclePlace) c in
-        let same = ap (λ (l : List ℕ). slotRoute l (reg s clockRow schedulePlace) (reg s clockRow cyclePlace) c) (g .paired .own) in
+        let same = ap (λ (l : List ℕ). slotRoute l (reg s clockRow inForcePlace) (reg s clockRow cyclePlace) c) (g .paired .own) in
         let k = g .kind-fits c inside some in
         let a = g .address-fits c inside some in
         record { kind-fits = omega arith; address-fits = omega arith; route-fits = omega (arith, same, p .route-read) }

@@ -14,9 +14,9 @@ use Rattle.sheet.specs.Sheet.{circuitAt}
 use Rattle.sheet.specs.Slots.{sourceOf}
 use Rattle.network.specs.Cycle.{Move, rests, opens, sends, moveOf}
 use Rattle.network.specs.Registers.{reg, sheetIn, leftRow, toGoRow}
-use Rattle.network.specs.Machine.{slotIn, moveIn, markOf, sentMark}
-use Rattle.network.specs.Paired.{Paired}
-use Rattle.sources.specs.Steps.{Sending}
+use Rattle.network.specs.Inner.Machine.{slotIn, moveIn, markOf, sentMark}
+use Rattle.network.specs.Inner.Paired.{Paired}
+use Rattle.sources.specs.Inner.Steps.{Sending}
 
 -- a circuit opens a packet
 module _ (s : List ℕ) (c : ℕ) where

@@ -15,15 +15,15 @@ use Rattle.words.proofs.TestLaws.{and-no, and-on, or-on, yes=, no=, yes≤, no�
 use Rattle.words.proofs.WordLaws.{length-tab, tab-at}
 use Rattle.sheet.specs.declared.circuits.Circuit.{Circuit}
 use Rattle.sheet.specs.Sheet.{columns, rows, circuits, nodes, circuitAt}
-use Rattle.sheet.specs.Passed.{Headed}
+use Rattle.sheet.specs.Inner.Passed.{Headed}
 use Rattle.sheet.specs.Slots.{sourceOf}
 use Rattle.sheet.proofs.PassedLaws.{circuit-small}
 use Rattle.network.specs.Cycle.{moveOf}
 use Rattle.network.specs.Registers.{reg, sheetIn, leftRow, toGoRow}
-use Rattle.network.specs.Machine.{slotIn, markOf, sentMark, sentWord, ownMark, firstMark, firstWord, sourceMark, sourceWord, crowdsIn, reopensIn}
-use Rattle.network.specs.Paired.{Sendable}
-use Rattle.sources.specs.Steps.{Steppable}
-use Rattle.sources.specs.Wires.{marksBefore, wordsBefore, putFree, crowdsAt}
+use Rattle.network.specs.Inner.Machine.{slotIn, markOf, sentMark, sentWord, ownMark, firstMark, firstWord, sourceMark, sourceWord, crowdsIn, reopensIn}
+use Rattle.network.specs.Inner.Paired.{Sendable}
+use Rattle.sources.specs.Inner.Steps.{Steppable}
+use Rattle.sources.specs.Inner.Wires.{marksBefore, wordsBefore, putFree, crowdsAt}
 use Rattle.sources.proofs.TableLaws.{tab-same, tab-set}
 use Rattle.sources.proofs.SourceLaws.{mark-none, source-read}
 use Rattle.sources.proofs.CrowdLaws.{first-new, first-old, first-idle, word-new, word-old, word-idle, own-here, own-other, own-empty, or-false, crowdedBefore, crowded-start, crowded-more}

@@ -1,3 +1,1 @@
-pub mod Slots
-pub mod Wires
-pub mod Steps
+pub mod Inner

@@ -7,16 +7,16 @@ ghost use Rattle.words.specs.Tests.{any, _and_, _or_, _≤?_, _=?_};
 ghost use Rattle.words.specs.Words.{word as wordAt, tab};
 ghost use Rattle.packet.specs.Header.{headerWord};
 ghost use Rattle.sheet.specs.Sheet.{circuits, schedules, nodes, entriesOf};
-ghost use Rattle.sheet.specs.Passed.{Framed};
+ghost use Rattle.sheet.specs.Inner.Passed.{Framed};
 ghost use Rattle.sheet.specs.Rules.{rule8};
 ghost use Rattle.sheet.specs.Slots.{slotRoute, sourceOf};
-ghost use Rattle.network.specs.Registers.{reg as regOf, sheetIn, room, clockRow, cyclePlace, schedulePlace, leftRow, readRow, writeRow, kindRow, toGoRow};
-ghost use Rattle.network.specs.Machine.{slotIn, moveIn, sentMark, sentWord, sourceMark, sourceWord, crowdsIn, reopensIn, nextInRow};
-ghost use Rattle.network.specs.Paired.{Paired, Sendable};
-ghost use Rattle.network.specs.Stages.{stage};
-ghost use Rattle.sources.specs.Slots.{slotTable, slotPut, Behind};
-ghost use Rattle.sources.specs.Wires.{marksBefore, wordsBefore, putFree, crowdsAt};
-ghost use Rattle.sources.specs.Steps.{Sending, Steppable, sendWord, senderPut};
+ghost use Rattle.network.specs.Registers.{reg as regOf, sheetIn, room, clockRow, cyclePlace, inForcePlace, leftRow, readRow, writeRow, kindRow, toGoRow};
+ghost use Rattle.network.specs.Inner.Machine.{slotIn, moveIn, sentMark, sentWord, sourceMark, sourceWord, crowdsIn, reopensIn, nextInRow};
+ghost use Rattle.network.specs.Inner.Paired.{Paired, Sendable};
+ghost use Rattle.network.specs.Inner.Stages.{stage};
+ghost use Rattle.sources.specs.Inner.Slots.{slotTable, slotPut, Behind};
+ghost use Rattle.sources.specs.Inner.Wires.{marksBefore, wordsBefore, putFree, crowdsAt};
+ghost use Rattle.sources.specs.Inner.Steps.{Sending, Steppable, sendWord, senderPut};
 use network::put_reg;
 use network::reg;
 use packet::Built;
@@ -59,7 +59,7 @@ pub fn slots_now(s: &[u32], z: &[u32], slots: &mut [u32])
     ensures { λ _. ⌜ now (slots .exit) ≡ slotTable (now (s .entry)) ⌝ }
 {
     let cycle = reg(s, network::CLOCK_ROW, network::CYCLE_PLACE);
-    let schedule = reg(s, network::CLOCK_ROW, network::SCHEDULE_PLACE);
+    let schedule = reg(s, network::CLOCK_ROW, network::IN_FORCE_PLACE);
     let entries = sheet::entries_of(z, schedule);
     let count = entries.len() / 4;
     let mut i = entries_passed(z, schedule, entries, cycle);
@@ -77,7 +77,7 @@ pub fn slots_now(s: &[u32], z: &[u32], slots: &mut [u32])
 fn slot_now(s: &[u32], z: &[u32], slots: &[u32], c: u32) -> Entry
     requires { ⌜ (Paired (now s) (now z)) × (now slots ≡ slotTable (now s)) × (c < circuits (now z)) ⌝ }
     ensures size { λ r. ⌜ r .size ≡ slotIn (now (s .entry)) c ⌝ }
-    ensures route { λ r. ⌜ r .route ≡ slotRoute (sheetIn (now (s .entry))) (regOf (now (s .entry)) clockRow schedulePlace) (regOf (now (s .entry)) clockRow cyclePlace) c ⌝ }
+    ensures route { λ r. ⌜ r .route ≡ slotRoute (sheetIn (now (s .entry))) (regOf (now (s .entry)) clockRow inForcePlace) (regOf (now (s .entry)) clockRow cyclePlace) c ⌝ }
 {
     let found = words::get(slots, c as usize);
     if found == 0 {
@@ -88,7 +88,7 @@ fn slot_now(s: &[u32], z: &[u32], slots: &[u32], c: u32) -> Entry
             route: 0,
         };
     }
-    let entries = sheet::entries_of(z, reg(s, network::CLOCK_ROW, network::SCHEDULE_PLACE));
+    let entries = sheet::entries_of(z, reg(s, network::CLOCK_ROW, network::IN_FORCE_PLACE));
     Entry::at(entries, (found - 1) as usize)
 }
 
@@ -125,7 +125,7 @@ fn sent_mark(s: &[u32], z: &[u32], slots: &[u32], c: u32) -> u32
 // The header of the packet that circuit c opens in this cycle; only a circuit that has words left opens one.
 fn head_now(s: &[u32], z: &[u32], slots: &[u32], c: u32) -> u32
     requires { ⌜ (Sendable (now s) (now z)) × (now slots ≡ slotTable (now s)) × (c < circuits (now z)) × (1 ≤ regOf (now s) leftRow c) ⌝ }
-    ensures { λ r. ⌜ r ≡ headerWord (regOf (now (s .entry)) kindRow c) (regOf (now (s .entry)) writeRow c) (slotRoute (sheetIn (now (s .entry))) (regOf (now (s .entry)) clockRow schedulePlace) (regOf (now (s .entry)) clockRow cyclePlace) c) ⌝ }
+    ensures { λ r. ⌜ r ≡ headerWord (regOf (now (s .entry)) kindRow c) (regOf (now (s .entry)) writeRow c) (slotRoute (sheetIn (now (s .entry))) (regOf (now (s .entry)) clockRow inForcePlace) (regOf (now (s .entry)) clockRow cyclePlace) c) ⌝ }
 {
     let slot = slot_now(s, z, slots, c);
     let built = Header::new(

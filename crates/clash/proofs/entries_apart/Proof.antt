@@ -10,10 +10,10 @@ use Rattle.clash.proofs.entries_apart.Statement.{statement}
 use Rattle.clash.proofs.entries_apart.Tie as tie
 
 abbrev Inv-loop : tie.InvT-loop
-Inv-loop table₀ s j stride entries count i₀ table i = (i ≤ count) × (Placing s j stride entries (length table₀) i table)
+Inv-loop table₀ z j stride entries count i₀ table i = (i ≤ count) × (Placing z j stride entries (length table₀) i table)
 
 abbrev μ-loop : tie.MeasureT-loop
-μ-loop table₀ s j stride entries count i₀ table i = count - i
+μ-loop table₀ z j stride entries count i₀ table i = count - i
 
 schedule-period-requires : tie.Need-schedule-period-requires Inv-loop μ-loop
 schedule-period-requires c κs = (c .before .before .pre .0 .ranged .framed, c .before .before .pre .1)

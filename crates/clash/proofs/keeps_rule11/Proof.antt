@@ -12,10 +12,10 @@ use Rattle.clash.proofs.keeps_rule11.Statement.{statement}
 use Rattle.clash.proofs.keeps_rule11.Tie as tie
 
 abbrev Inv-loop : tie.InvT-loop
-Inv-loop s count j₀ j = (j ≤ count) × (all j (rule11At s) ≡ true)
+Inv-loop z count j₀ j = (j ≤ count) × (all j (rule11At z) ≡ true)
 
 abbrev μ-loop : tie.MeasureT-loop
-μ-loop s count j₀ j = count - j
+μ-loop z count j₀ j = count - j
 
 get-requires : tie.Need-get-requires Inv-loop μ-loop
 get-requires c κs = search needs

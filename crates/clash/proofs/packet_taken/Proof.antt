@@ -4,8 +4,8 @@ use native.Mathlib.Nat.{sub-zero}
 use Prim.Native.Nat.{_-_, _≤_}
 use mathlib.Core.Path.{_≡_, refl, _∙_}
 use native.Mathlib.Omega.{arith}
-use Rattle.occupancy.specs.Occupancy.{anyTaken}
-use Rattle.clash.specs.Table.{places}
+use Rattle.occupancy.specs.Inner.Occupancy.{anyTaken}
+use Rattle.clash.specs.Inner.Table.{places}
 use Rattle.clash.proofs.RunLaws.{packet-hit, packet-on, packet-clear}
 use Rattle.clash.proofs.packet_taken.Statement.{statement}
 use Rattle.clash.proofs.packet_taken.Tie as tie

@@ -7,8 +7,8 @@ use mathlib.Core.Path.{_≡_, refl, _∙_}
 use native.Mathlib.Omega.{arith}
 use lib.ListN.{length}
 use Rattle.words.specs.Words.{word}
-use Rattle.occupancy.specs.Occupancy.{Takes}
-use Rattle.clash.specs.Table.{places}
+use Rattle.occupancy.specs.Inner.Occupancy.{Takes}
+use Rattle.clash.specs.Inner.Table.{places}
 use Rattle.clash.proofs.RunLaws.{packet-takes, packet-done, row-taken}
 use Rattle.clash.proofs.take_packet.Statement.{statement}
 use Rattle.clash.proofs.take_packet.Tie as tie

@@ -3,7 +3,7 @@
 use native.Mathlib.Omega.{arith}
 use denote.Ref.{now}
 use lib.ListN.{length-set}
-use Rattle.occupancy.specs.Occupancy.{takeRun}
+use Rattle.occupancy.specs.Inner.Occupancy.{takeRun}
 use Rattle.occupancy.proofs.TakeLaws.{second-small}
 use borrow.Author.Needs.{needs}
 use Rattle.occupancy.proofs.take_run.Statement.{statement}

@@ -4,7 +4,7 @@ use mathlib.Core.Path.{refl}
 use Prim.Native.Nat.{_+_}
 use native.Mathlib.Omega.{arith}
 use borrow.Author.Needs.{needs}
-use Rattle.occupancy.specs.Occupancy.{window}
+use Rattle.occupancy.specs.Inner.Occupancy.{window}
 use Rattle.occupancy.proofs.window.Statement.{statement}
 use Rattle.occupancy.proofs.window.Tie as tie
 

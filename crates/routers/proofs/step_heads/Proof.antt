@@ -3,7 +3,7 @@
 use native.Mathlib.Omega.{arith}
 use Prim.Native.Nat.{_≤_, _-_}
 use mathlib.Core.List.{[]}
-use Rattle.network.specs.Machine.{nextInRow}
+use Rattle.network.specs.Inner.Machine.{nextInRow}
 use Rattle.network.proofs.FillLaws.{Staged, stage-start}
 use Rattle.routers.proofs.HeadLaws.{heads-more}
 use Rattle.routers.proofs.OutLaws.{filled}

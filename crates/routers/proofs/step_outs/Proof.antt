@@ -2,7 +2,7 @@
 -- Assumes nothing.
 use native.Mathlib.Omega.{arith}
 use Prim.Native.Nat.{_≤_, _-_}
-use Rattle.network.specs.Stages.{outFrom}
+use Rattle.network.specs.Inner.Stages.{outFrom}
 use Rattle.network.proofs.FillLaws.{Staged, stage-start}
 use Rattle.routers.proofs.OutLaws.{outs-more, filled}
 use Rattle.routers.proofs.step_outs.Statement.{statement}

@@ -8,10 +8,10 @@ use Rattle.routes.proofs.circuit_distances.Statement.{statement}
 use Rattle.routes.proofs.circuit_distances.Tie as tie
 
 abbrev Inv-loop : tie.InvT-loop
-Inv-loop s count distances₀ k₀ distances k = (k ≤ count) × (Reading s k distances)
+Inv-loop z count distances₀ k₀ distances k = (k ≤ count) × (Reading z k distances)
 
 abbrev μ-loop : tie.MeasureT-loop
-μ-loop s count distances₀ k₀ distances k = count - k
+μ-loop z count distances₀ k₀ distances k = count - k
 
 get-requires : tie.Need-get-requires Inv-loop μ-loop
 get-requires c κs = search needs

@@ -12,10 +12,10 @@ use Rattle.routes.proofs.keeps_rule9.Statement.{statement}
 use Rattle.routes.proofs.keeps_rule9.Tie as tie
 
 abbrev Inv-loop : tie.InvT-loop
-Inv-loop s distances count j₀ j = (j ≤ count) × (all j (λ k. eachEntry s k (entryLeads s)) ≡ true)
+Inv-loop z distances count j₀ j = (j ≤ count) × (all j (λ k. eachEntry z k (entryLeads z)) ≡ true)
 
 abbrev μ-loop : tie.MeasureT-loop
-μ-loop s distances count j₀ j = count - j
+μ-loop z distances count j₀ j = count - j
 
 get-requires : tie.Need-get-requires Inv-loop μ-loop
 get-requires c κs = search needs

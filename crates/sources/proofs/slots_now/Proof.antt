@@ -5,14 +5,14 @@ use mathlib.Core.Path.{sym, _∙_, ap}
 use native.Mathlib.Omega.{arith}
 use lib.ListN.{length}
 use Rattle.words.proofs.WordLaws.{length-tab}
-use Rattle.network.specs.Registers.{reg, clockRow, schedulePlace}
+use Rattle.network.specs.Registers.{reg, clockRow, inForcePlace}
 use Rattle.sources.proofs.BeginLaws.{Filling, table-start, filling-inside, filling-length, filling-more, table-stop, table-done}
 use borrow.Author.Needs.{needs}
 use Rattle.sources.proofs.slots_now.Statement.{statement}
 use Rattle.sources.proofs.slots_now.Tie as tie
 
 abbrev Inv-loop : tie.InvT-loop
-Inv-loop s z slots₀ cycle schedule entries count i₀ slots i = Filling z (reg s clockRow schedulePlace) cycle entries slots count i
+Inv-loop s z slots₀ cycle schedule entries count i₀ slots i = Filling z (reg s clockRow inForcePlace) cycle entries slots count i
 
 abbrev μ-loop : tie.MeasureT-loop
 μ-loop s z slots₀ cycle schedule entries count i₀ slots i = count - i

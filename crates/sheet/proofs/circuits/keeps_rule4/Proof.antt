@@ -13,15 +13,15 @@ use Rattle.sheet.proofs.circuits.keeps_rule4.Statement.{statement}
 use Rattle.sheet.proofs.circuits.keeps_rule4.Tie as tie
 
 abbrev Inv-loop : tie.InvT-loop
-Inv-loop s nodes memory count k₀ k =
-    (count ≡ circuits s)
-    × (nodes ≡ nodesOf s)
-    × (memory ≡ memoryWords s)
+Inv-loop z nodes memory count k₀ k =
+    (count ≡ circuits z)
+    × (nodes ≡ nodesOf z)
+    × (memory ≡ memoryWords z)
     × (k ≤ count)
-    × (all k (λ j. circuitFits (nodesOf s) (memoryWords s) (circuitAt s j)) ≡ true)
+    × (all k (λ j. circuitFits (nodesOf z) (memoryWords z) (circuitAt z j)) ≡ true)
 
 abbrev μ-loop : tie.MeasureT-loop
-μ-loop s nodes memory count k₀ k = count - k
+μ-loop z nodes memory count k₀ k = count - k
 
 get-requires : tie.Need-get-requires Inv-loop μ-loop
 get-requires c κs = tt

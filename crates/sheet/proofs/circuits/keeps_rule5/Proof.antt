@@ -12,13 +12,13 @@ use Rattle.sheet.proofs.circuits.keeps_rule5.Statement.{statement}
 use Rattle.sheet.proofs.circuits.keeps_rule5.Tie as tie
 
 abbrev Inv-loop : tie.InvT-loop
-Inv-loop s count k₀ k =
-    (count ≡ circuits s)
+Inv-loop z count k₀ k =
+    (count ≡ circuits z)
     × (k ≤ count - 1)
-    × (all k (λ j. circuitPrecedes (circuitAt s j) (circuitAt s (j + 1))) ≡ true)
+    × (all k (λ j. circuitPrecedes (circuitAt z j) (circuitAt z (j + 1))) ≡ true)
 
 abbrev μ-loop : tie.MeasureT-loop
-μ-loop s count k₀ k = count - k
+μ-loop z count k₀ k = count - k
 
 get-requires : tie.Need-get-requires Inv-loop μ-loop
 get-requires c κs = tt

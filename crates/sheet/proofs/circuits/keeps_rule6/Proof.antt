@@ -13,10 +13,10 @@ use Rattle.sheet.proofs.circuits.keeps_rule6.Statement.{statement}
 use Rattle.sheet.proofs.circuits.keeps_rule6.Tie as tie
 
 abbrev Inv-loop : tie.InvT-loop
-Inv-loop s count j₀ j = (count ≡ circuits s) × (j ≤ count) × (all j (λ i. all (circuits s) (receiveApart s i)) ≡ true)
+Inv-loop z count j₀ j = (count ≡ circuits z) × (j ≤ count) × (all j (λ i. all (circuits z) (receiveApart z i)) ≡ true)
 
 abbrev μ-loop : tie.MeasureT-loop
-μ-loop s count j₀ j = count - j
+μ-loop z count j₀ j = count - j
 
 get-requires : tie.Need-get-requires Inv-loop μ-loop
 get-requires c κs = tt

@@ -13,10 +13,10 @@ use Rattle.sheet.proofs.circuits.receive_apart.Statement.{statement}
 use Rattle.sheet.proofs.circuits.receive_apart.Tie as tie
 
 abbrev Inv-loop : tie.InvT-loop
-Inv-loop s j count receive k₀ k = (count ≡ circuits s) × (k ≤ count) × (all k (receiveApart s j) ≡ true)
+Inv-loop z j count receive k₀ k = (count ≡ circuits z) × (k ≤ count) × (all k (receiveApart z j) ≡ true)
 
 abbrev μ-loop : tie.MeasureT-loop
-μ-loop s j count receive k₀ k = count - k
+μ-loop z j count receive k₀ k = count - k
 
 get-requires : tie.Need-get-requires Inv-loop μ-loop
 get-requires c κs = tt

@@ -13,10 +13,10 @@ use Rattle.sheet.proofs.entries.keeps_rule7.Statement.{statement}
 use Rattle.sheet.proofs.entries.keeps_rule7.Tie as tie
 
 abbrev Inv-loop : tie.InvT-loop
-Inv-loop s count j₀ j = (count ≡ schedules s) × (j ≤ count) × (all j (rule7At s) ≡ true)
+Inv-loop z count j₀ j = (count ≡ schedules z) × (j ≤ count) × (all j (rule7At z) ≡ true)
 
 abbrev μ-loop : tie.MeasureT-loop
-μ-loop s count j₀ j = count - j
+μ-loop z count j₀ j = count - j
 
 get-requires : tie.Need-get-requires Inv-loop μ-loop
 get-requires c κs = tt

@@ -15,15 +15,15 @@ use Rattle.sheet.proofs.frame.keeps_rule3.Statement.{statement}
 use Rattle.sheet.proofs.frame.keeps_rule3.Tie as tie
 
 abbrev Inv-loop : tie.InvT-loop
-Inv-loop s count at₀ j₀ at j =
-    (count ≡ schedules s)
+Inv-loop z count at₀ j₀ at j =
+    (count ≡ schedules z)
     × (j ≤ count)
-    × (at ≡ schedulePlace s j)
-    × (all j (scheduleFits s) ≡ true)
+    × (at ≡ schedulePlace z j)
+    × (all j (scheduleFits z) ≡ true)
     × (at ≤ 389 + 1026 * j)
 
 abbrev μ-loop : tie.MeasureT-loop
-μ-loop s count at₀ j₀ at j = count - j
+μ-loop z count at₀ j₀ at j = count - j
 
 get-requires : tie.Need-get-requires Inv-loop μ-loop
 get-requires c κs = tt

@@ -5,17 +5,17 @@ use mathlib.Core.Path.{_≡_, _∙_, ap}
 use native.Mathlib.Omega.{arith}
 use borrow.Author.Needs.{needs}
 use Rattle.sheet.specs.Sheet.{schedulePlace}
-use Rattle.sheet.specs.Passed.{Placed}
+use Rattle.sheet.specs.Inner.Passed.{Placed}
 use Rattle.sheet.proofs.PassedLaws.{placed-at}
 use Rattle.sheet.proofs.FrameLaws.{place-next, first-place}
 use Rattle.sheet.proofs.frame.schedule_place.Statement.{statement}
 use Rattle.sheet.proofs.frame.schedule_place.Tie as tie
 
 abbrev Inv-loop : tie.InvT-loop
-Inv-loop s j at₀ i₀ at i = (i ≤ j) × (at ≡ schedulePlace s i) × Placed s at
+Inv-loop z j at₀ i₀ at i = (i ≤ j) × (at ≡ schedulePlace z i) × Placed z at
 
 abbrev μ-loop : tie.MeasureT-loop
-μ-loop s j at₀ i₀ at i = j - i
+μ-loop z j at₀ i₀ at i = j - i
 
 get-requires : tie.Need-get-requires Inv-loop μ-loop
 get-requires c κs = tt

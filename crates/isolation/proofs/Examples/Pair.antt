@@ -1,0 +1,388 @@
+-- Demand 3 applied to two sessions on one grid that differ in all that the theorem leaves free: the sheet, the memory's size, the circuit's
+-- number and routes, schedules' numbers and orders, other circuits' transfers, other stores, questions and refused calls.
+-- Assumes nothing.
+use Prim.Native.Nat.{ℕ, zero, suc, _+_, _-_, _≤_, _<_}
+use mathlib.Core.Bool.{Bool, true, false}
+use mathlib.Core.List.{List, [], _∷_, _++_}
+use mathlib.Core.Path.{_≡_, refl, sym, _∙_, ap}
+use native.Mathlib.Omega.{arith}
+use lib.ListN.{length, replicate, getD}
+use Rattle.words.specs.Words.{leastFrom, lastOf, pick, word}
+use Rattle.words.specs.Tests.{all, any, between, _and_, _or_, _≤?_, _<?_, _=?_, _≠?_}
+use Rattle.torus.specs.Torus.{neighbourOf, walks, distanceOf}
+use Rattle.torus.specs.Route.{outputOf, follow, routeFrom}
+use Rattle.sheet.specs.declared.circuits.Circuit.{Circuit}
+use Rattle.sheet.specs.Sheet.{schedulePlace, circuitAt, period, entriesOf, entryAt}
+use Rattle.sheet.specs.Slots.{beginsAt, entryBeginning, slotLength, sourceOf, destinationOf}
+use Rattle.sheet.specs.Wires.{sameWire, same, during, occupied, member, meet}
+use Rattle.sheet.specs.Rules.{rule1, rule2, scheduleFits, rule3, firstBroken, verdict}
+use Rattle.sheet.specs.Rules.{regionFits, circuitFits, rule4, precedes, circuitPrecedes, rule5, apart, receiveApart, rule6}
+use Rattle.sheet.specs.Rules.{eachEntry, entryFits, rule7At, rule7, entryPrecedes, rule8At, rule8}
+use Rattle.sheet.specs.Rules.{entryRoute, entryLeads, rule9, entryEnds, rule10, entryOccupied, rule11At, rule11}
+use Rattle.network.specs.Registers.{stateWords}
+use Rattle.session.specs.declared.Found.the-variants.{Word as FoundWord}
+use Rattle.soundness.specs.Sound.{kindTravels, liesIn}
+use Rattle.session.specs.Calls.{Call, load, start, store, fetch, left, periodNumber, landed, order, cycle, ask}
+use Rattle.isolation.specs.Sessions.{Session, afterLoad, Event, startDone, storeDone, orderDone, cycleDone}
+use Rattle.isolation.specs.Calendar.{Calendar, calendarAfter}
+use Rattle.isolation.specs.Reckoning.{Item, item, reckonedLanding, leavesIn}
+use Rattle.isolation.specs.Demand.{fetchAnswer, inRegion, itsRecord, circuitLanding, pointAfter, actsAfter, scheduleIn, Alike, Undisturbed}
+use Rattle.isolation.proofs.Reckoning.Regions.{in-high}
+use Rattle.isolation.proofs.Reckoning.Points.{upTo}
+use Rattle.isolation.proofs.Reckoning.EventsDecided.{decided}
+use Rattle.isolation.proofs.Reckoning.Reckons.{as-reckoned}
+use Rattle.isolation.proofs.Reckoning.Undisturbed.{eventsOf, all-events, time-before}
+use Rattle.isolation.proofs.DemandProved.{demand3}
+use Rattle.isolation.proofs.Examples.Witness.{badLoads, bad-loads, load-zero, zeros, zeros-long, events-are, lastLanded, landed-by, table, table-at}
+
+-- the first sheet: 8 memory words a node, and one circuit, 0, from node 0 to node 1; its slots go by route 13 (east), at offset 0 for two
+-- words in schedule 0 of period 10, at offset 2 for one word in schedule 1 of period 12
+abbrev pub oneSheet : List ℕ
+oneSheet =
+    (2 ∷ 2 ∷ 8 ∷ 1 ∷ 2 ∷ []) ++ (0 ∷ 1 ∷ 0 ∷ 4 ∷ 0 ∷ 4 ∷ [])
+    ++ (10 ∷ 1 ∷ []) ++ (0 ∷ 3 ∷ 0 ∷ 13 ∷ [])
+    ++ (12 ∷ 1 ∷ []) ++ (2 ∷ 2 ∷ 0 ∷ 13 ∷ [])
+
+-- the other: 9 memory words a node, a circuit 0 from node 3 to node 0, and that circuit as number 1; its slots go by route 7 (west) in
+-- schedule 0 and by route 13 in schedule 2, which has the lengths and slots of the first sheet's schedule 1
+abbrev pub otherSheet : List ℕ
+otherSheet =
+    (2 ∷ 2 ∷ 9 ∷ 2 ∷ 3 ∷ []) ++ (3 ∷ 0 ∷ 0 ∷ 4 ∷ 4 ∷ 2 ∷ []) ++ (0 ∷ 1 ∷ 0 ∷ 4 ∷ 0 ∷ 4 ∷ [])
+    ++ (10 ∷ 2 ∷ []) ++ (0 ∷ 3 ∷ 0 ∷ 28 ∷ []) ++ (0 ∷ 3 ∷ 1 ∷ 7 ∷ [])
+    ++ (11 ∷ 0 ∷ [])
+    ++ (12 ∷ 2 ∷ []) ++ (1 ∷ 3 ∷ 0 ∷ 28 ∷ []) ++ (2 ∷ 2 ∷ 1 ∷ 13 ∷ [])
+
+-- both sheets pass
+abbrev passTable : List ℕ
+passTable = verdict oneSheet ∷ verdict otherSheet ∷ []
+
+pub sheets-pass : passTable ≡ 0 ∷ 0 ∷ []
+unfolding verdict firstBroken
+    rule1 rule2 scheduleFits rule3
+    regionFits circuitFits rule4 precedes circuitPrecedes rule5 apart receiveApart rule6
+    eachEntry entryFits rule7At rule7 entryPrecedes rule8At rule8
+    entryRoute entryLeads rule9 entryEnds rule10 entryOccupied rule11At rule11
+    schedulePlace circuitAt entriesOf entryAt
+    sameWire same during occupied member meet
+    neighbourOf walks distanceOf outputOf follow routeFrom
+    leastFrom all any between _and_ _or_ _≤?_ _<?_ _=?_ _≠?_
+sheets-pass = refl
+
+-- the memories: the same in the first four words of nodes 0 and 1, and different elsewhere
+abbrev pub oneMemory : List ℕ
+oneMemory = 11 ∷ 22 ∷ 33 ∷ 44 ∷ replicate 28 0
+
+abbrev pub otherMemory : List ℕ
+otherMemory = 11 ∷ 22 ∷ 33 ∷ 44 ∷ replicate 5 7 ++ (replicate 4 0 ++ replicate 23 5)
+
+-- the first session's calls, 40 cycles among them: four words are started; after three cycles schedule 1 is ordered for period 3, two
+-- stores go into the read region, and a load is refused; after eight a start is refused (the circuit is busy), and a store goes into the
+-- receive region; after 25 an interrupt is started
+abbrev pub oneCalls : List Call
+oneCalls =
+    (start 0 0 0 4 0 ∷ replicate 3 cycle)
+    ++ (order 1 3 ∷ store 0 3 76 ∷ store 0 3 77 ∷ load [] ∷ replicate 5 cycle)
+    ++ (start 0 0 0 1 0 ∷ store 1 3 55 ∷ replicate 17 cycle)
+    ++ (start 0 1 2 1 2 ∷ replicate 15 cycle)
+
+-- the other's: the same starts and stores on circuit 1, each after as many cycles; between them transfers of circuit 0, stores elsewhere,
+-- questions, another load and another start that are refused, and schedule 2 ordered for period 3 after nine cycles
+abbrev pub otherCalls : List Call
+otherCalls =
+    (start 0 0 4 2 0 ∷ store 3 5 99 ∷ start 1 0 0 4 0 ∷ ask (fetch 0 5) ∷ replicate 3 cycle)
+    ++ (store 0 3 76 ∷ ask (landed 0) ∷ store 0 3 77 ∷ replicate 5 cycle)
+    ++ (store 1 3 55 ∷ store 0 6 12 ∷ load (2 ∷ []) ∷ start 7 0 0 1 0 ∷ ask (left 1) ∷ cycle ∷ [])
+    ++ (order 2 3 ∷ ask periodNumber ∷ replicate 16 cycle)
+    ++ (start 1 1 2 1 2 ∷ start 0 0 4 1 2 ∷ replicate 15 cycle)
+
+-- the loads among them are refused: their sheets have fewer than five words
+pub loads-bad : (badLoads oneCalls ∷ badLoads otherCalls ∷ []) ≡ true ∷ true ∷ []
+unfolding verdict firstBroken rule1 _≤?_ _=?_
+loads-bad = refl
+
+-- both sessions, on any lent state
+abbrev pub oneOn : (s : List ℕ) → stateWords ≤ length s → Session
+oneOn s long = record {
+  lent = record { state = s; memory = oneMemory };
+  sheet = oneSheet;
+  calls = oneCalls;
+  carried-out = load-zero oneSheet s oneMemory (ap (λ (l : List ℕ). word l 0) sheets-pass) long refl;
+  loads-refused = bad-loads oneCalls _ (ap (λ (l : List Bool). getD l 0 false) loads-bad);
+}
+
+abbrev pub otherOn : (s : List ℕ) → stateWords ≤ length s → Session
+otherOn s long = record {
+  lent = record { state = s; memory = otherMemory };
+  sheet = otherSheet;
+  calls = otherCalls;
+  carried-out = load-zero otherSheet s otherMemory (ap (λ (l : List ℕ). word l 1) sheets-pass) long refl;
+  loads-refused = bad-loads otherCalls _ (ap (λ (l : List Bool). getD l 1 false) loads-bad);
+}
+
+-- the events of both: the refused calls and the questions have none
+abbrev pub oneEvents : List Event
+oneEvents =
+    (startDone 0 0 0 4 0 ∷ replicate 3 cycleDone)
+    ++ (orderDone 1 3 ∷ storeDone 0 3 76 ∷ storeDone 0 3 77 ∷ replicate 5 cycleDone)
+    ++ (storeDone 1 3 55 ∷ replicate 17 cycleDone)
+    ++ (startDone 0 1 2 1 2 ∷ replicate 15 cycleDone)
+
+abbrev pub otherEvents : List Event
+otherEvents =
+    (startDone 0 0 4 2 0 ∷ storeDone 3 5 99 ∷ startDone 1 0 0 4 0 ∷ replicate 3 cycleDone)
+    ++ (storeDone 0 3 76 ∷ storeDone 0 3 77 ∷ replicate 5 cycleDone)
+    ++ (storeDone 1 3 55 ∷ storeDone 0 6 12 ∷ cycleDone ∷ [])
+    ++ (orderDone 2 3 ∷ replicate 16 cycleDone)
+    ++ (startDone 1 1 2 1 2 ∷ startDone 0 0 4 1 2 ∷ replicate 15 cycleDone)
+
+one-decided : decided oneSheet oneMemory oneCalls [] ≡ oneEvents
+unfolding reckonedLanding leavesIn slotLength entryBeginning beginsAt schedulePlace circuitAt entriesOf entryAt lastOf any _and_ _or_ _≤?_ _<?_ _=?_
+    kindTravels liesIn
+one-decided = refl
+
+other-decided : decided otherSheet otherMemory otherCalls [] ≡ otherEvents
+unfolding reckonedLanding leavesIn slotLength entryBeginning beginsAt schedulePlace circuitAt entriesOf entryAt lastOf any _and_ _or_ _≤?_ _<?_ _=?_
+    kindTravels liesIn
+other-decided = refl
+
+pub one-events : (s : List ℕ) (long : stateWords ≤ length s) → eventsOf (oneOn s long) ≡ oneEvents
+one-events s long = events-are (oneOn s long) ∙ one-decided
+
+pub other-events : (s : List ℕ) (long : stateWords ≤ length s) → eventsOf (otherOn s long) ≡ otherEvents
+other-events s long = events-are (otherOn s long) ∙ other-decided
+
+-- the schedules in force: 0 in both up to cycle 29, then 1 in the first session and 2 in the other
+abbrev schedulesIn : ℕ → List ℕ
+schedulesIn t = calendarAfter oneSheet (upTo oneEvents t) .schedule ∷ calendarAfter otherSheet (upTo otherEvents t) .schedule ∷ []
+
+abbrev schedulesWanted : ℕ → List ℕ
+schedulesWanted t = pick (t <? 30) (0 ∷ 0 ∷ []) (1 ∷ 2 ∷ [])
+
+schedules-are : table 40 schedulesIn ≡ table 40 schedulesWanted
+unfolding schedulePlace _and_ _<?_ _=?_
+schedules-are = refl
+
+pub one-schedule : (s : List ℕ) (long : stateWords ≤ length s) (t : ℕ) → t < 40 → scheduleIn (oneOn s long) t ≡ pick (t <? 30) 0 1
+one-schedule s long t l =
+    ap (λ (k : Calendar). k .schedule) (time-before (oneOn s long) t l)
+    ∙ ap (λ (es : List Event). calendarAfter oneSheet (upTo es t) .schedule) (one-events s long)
+    ∙ ap (λ (p : List ℕ). word p 0) (table-at 40 schedulesIn schedulesWanted schedules-are t l)
+    ∙ go (t <? 30)
+  where
+    go : (b : Bool) → word (pick b (0 ∷ 0 ∷ []) (1 ∷ 2 ∷ [])) 0 ≡ pick b 0 1
+    go true = refl
+    go false = refl
+
+pub other-schedule : (s : List ℕ) (long : stateWords ≤ length s) (t : ℕ) → t < 40 → scheduleIn (otherOn s long) t ≡ pick (t <? 30) 0 2
+other-schedule s long t l =
+    ap (λ (k : Calendar). k .schedule) (time-before (otherOn s long) t l)
+    ∙ ap (λ (es : List Event). calendarAfter otherSheet (upTo es t) .schedule) (other-events s long)
+    ∙ ap (λ (p : List ℕ). word p 1) (table-at 40 schedulesIn schedulesWanted schedules-are t l)
+    ∙ go (t <? 30)
+  where
+    go : (b : Bool) → word (pick b (0 ∷ 0 ∷ []) (1 ∷ 2 ∷ [])) 1 ≡ pick b 0 2
+    go true = refl
+    go false = refl
+
+-- the circuit's slots in these schedules
+one-first : (offset : ℕ) → slotLength oneSheet 0 offset 0 ≡ pick (0 =? offset) 3 0
+unfolding slotLength entryBeginning beginsAt lastOf entriesOf entryAt schedulePlace _and_ _=?_
+one-first offset = go (0 =? offset)
+  where
+    go : (b : Bool) → (let i : ℕ = pick (b and true) 1 0 in pick (i =? 0) 0 (entryAt (entriesOf oneSheet 0) (i - 1) .size)) ≡ pick b 3 0
+    go true = refl
+    go false = refl
+
+one-second : (offset : ℕ) → slotLength oneSheet 1 offset 0 ≡ pick (2 =? offset) 2 0
+unfolding slotLength entryBeginning beginsAt lastOf entriesOf entryAt schedulePlace _and_ _=?_
+one-second offset = go (2 =? offset)
+  where
+    go : (b : Bool) → (let i : ℕ = pick (b and true) 1 0 in pick (i =? 0) 0 (entryAt (entriesOf oneSheet 1) (i - 1) .size)) ≡ pick b 2 0
+    go true = refl
+    go false = refl
+
+other-first : (offset : ℕ) → slotLength otherSheet 0 offset 1 ≡ pick (0 =? offset) 3 0
+unfolding slotLength entryBeginning beginsAt lastOf entriesOf entryAt schedulePlace _and_ _=?_
+other-first offset = go (0 =? offset)
+  where
+    go : (b : Bool) → (let i : ℕ = pick (b and true) 2 (pick (b and false) 1 0) in
+        pick (i =? 0) 0 (entryAt (entriesOf otherSheet 0) (i - 1) .size)) ≡ pick b 3 0
+    go true = refl
+    go false = refl
+
+other-third : (offset : ℕ) → slotLength otherSheet 2 offset 1 ≡ pick (2 =? offset) 2 0
+unfolding slotLength entryBeginning beginsAt lastOf entriesOf entryAt schedulePlace _and_ _=?_
+other-third offset = go (1 =? offset) (2 =? offset)
+  where
+    go : (a b : Bool) → (let i : ℕ = pick (b and true) 2 (pick (a and false) 1 0) in
+        pick (i =? 0) 0 (entryAt (entriesOf otherSheet 2) (i - 1) .size)) ≡ pick b 2 0
+    go true true = refl
+    go true false = refl
+    go false true = refl
+    go false false = refl
+
+slots-alike : (b : Bool) (offset : ℕ) → slotLength oneSheet (pick b 0 1) offset 0 ≡ slotLength otherSheet (pick b 0 2) offset 1
+slots-alike true offset = one-first offset ∙ sym (other-first offset)
+slots-alike false offset = one-second offset ∙ sym (other-third offset)
+
+lengths-alike : (b : Bool) → period oneSheet (pick b 0 1) ≡ period otherSheet (pick b 0 2)
+unfolding schedulePlace
+lengths-alike true = refl
+lengths-alike false = refl
+
+-- the words of both memories in the circuit's regions
+read-words : (address : ℕ) → address < 4 → word oneMemory (0 + address) ≡ word otherMemory (0 + address)
+read-words zero l = refl
+read-words (suc zero) l = refl
+read-words (suc (suc zero)) l = refl
+read-words (suc (suc (suc zero))) l = refl
+read-words (suc (suc (suc (suc address)))) l = absurd (let z : ⊥ = omega arith in z)
+
+receive-words : (address : ℕ) → address < 4 → word oneMemory (8 + address) ≡ word otherMemory (9 + address)
+receive-words zero l = refl
+receive-words (suc zero) l = refl
+receive-words (suc (suc zero)) l = refl
+receive-words (suc (suc (suc zero))) l = refl
+receive-words (suc (suc (suc (suc address)))) l = absurd (let z : ⊥ = omega arith in z)
+
+-- the circuit's acts in both, after each number of cycles
+acts-alike : table 40 (actsAfter oneSheet 0 oneEvents) ≡ table 40 (actsAfter otherSheet 1 otherEvents)
+unfolding circuitAt _and_ _≤?_ _<?_ _=?_
+acts-alike = refl
+
+-- its record in both
+abbrev itsWords : Circuit
+itsWords = record {
+  read = record { node = 0; offset = 0; size = 4 };
+  receive = record { node = 1; offset = 0; size = 4 };
+}
+
+record-one : circuitAt oneSheet 0 ≡ itsWords
+unfolding circuitAt
+record-one = refl
+
+record-other : circuitAt otherSheet 1 ≡ itsWords
+unfolding circuitAt
+record-other = refl
+
+module _ (s s′ : List ℕ) (long : stateWords ≤ length s) (long′ : stateWords ≤ length s′) where
+  abbrev first : Session
+  first = oneOn s long
+
+  abbrev second : Session
+  second = otherOn s′ long′
+
+  -- its regions' words at load are the same
+  alike-read : (address : ℕ) → inRegion (itsRecord first 0 .read) address ≡ true
+      → fetchAnswer (afterLoad first) (sourceOf oneSheet 0) address ≡ fetchAnswer (afterLoad second) (sourceOf otherSheet 1) address
+  unfolding circuitAt
+  alike-read address i =
+      as-reckoned first 0 (omega arith) .read-region 0 address (omega arith) i
+      ∙ ap FoundWord (read-words address (in-high (itsRecord first 0 .read) address i))
+      ∙ sym (as-reckoned second 1 (omega arith) .read-region 0 address (omega arith) i)
+
+  alike-receive : (address : ℕ) → inRegion (itsRecord first 0 .receive) address ≡ true
+      → fetchAnswer (afterLoad first) (destinationOf oneSheet 0) address ≡ fetchAnswer (afterLoad second) (destinationOf otherSheet 1) address
+  unfolding circuitAt
+  alike-receive address i =
+      as-reckoned first 0 (omega arith) .receive-region 0 address (omega arith) i
+      ∙ ap FoundWord (receive-words address (in-high (itsRecord first 0 .receive) address i))
+      ∙ sym (as-reckoned second 1 (omega arith) .receive-region 0 address (omega arith) i)
+
+  -- the two sessions, on any lent states, are alike for the circuit up to 40 cycles
+  pub alike-on : Alike first second 0 1 40
+  alike-on = record {
+    same-columns = refl;
+    same-rows = refl;
+    same-record = record-one ∙ sym record-other;
+    same-read = alike-read;
+    same-receive = alike-receive;
+    same-acts = λ t l.
+        ap (λ (es : List Event). actsAfter oneSheet 0 es t) (all-events first ∙ one-events s long)
+        ∙ table-at 40 (actsAfter oneSheet 0 oneEvents) (actsAfter otherSheet 1 otherEvents) acts-alike t l
+        ∙ sym (ap (λ (es : List Event). actsAfter otherSheet 1 es t) (all-events second ∙ other-events s′ long′));
+    same-lengths = λ t l.
+        ap (period oneSheet) (one-schedule s long t l) ∙ lengths-alike (t <? 30)
+        ∙ sym (ap (period otherSheet) (other-schedule s′ long′ t l));
+    same-slots = λ t offset l.
+        ap (λ (j : ℕ). slotLength oneSheet j offset 0) (one-schedule s long t l) ∙ slots-alike (t <? 30) offset
+        ∙ sym (ap (λ (j : ℕ). slotLength otherSheet j offset 1) (other-schedule s′ long′ t l));
+  }
+
+  -- so the circuit is undisturbed
+  pub undisturbed-on : Undisturbed first second 0 1 40
+  undisturbed-on = demand3 .undisturbed first second 0 1 40 (omega arith) (omega arith) (omega arith) (omega arith) alike-on
+
+-- the two sessions on zeros, and demand 3 applied to them
+abbrev pub one : Session
+one = oneOn zeros zeros-long
+
+abbrev pub other : Session
+other = otherOn zeros zeros-long
+
+pub pair : Undisturbed one other 0 1 40
+pair = undisturbed-on zeros zeros zeros-long zeros-long
+
+-- what lands of a circuit in cycle t, as the session answers directly after it
+abbrev pub landsAt : Session → ℕ → ℕ → Item
+landsAt l circuit t = circuitLanding l circuit (pointAfter l (suc t))
+
+-- the circuit's words: two in each of the first slots, the last of them as stored after three cycles; the interrupt in the slot of the
+-- schedule that the order put in force
+pub record Delivered (l : Session) (circuit : ℕ) : Type 0 where
+  pub first-word : landsAt l circuit 7 ≡ item 0 0 11
+  pub second-word : landsAt l circuit 8 ≡ item 0 1 22
+  pub third-word : landsAt l circuit 17 ≡ item 0 2 33
+  pub stored-word : landsAt l circuit 18 ≡ item 0 3 77
+  pub interrupt : landsAt l circuit 39 ≡ item 2 2 22
+
+-- what is reckoned to land in cycle t of the first session
+abbrev landsIn : ℕ → Item
+landsIn t = lastLanded oneSheet 0 oneMemory (upTo oneEvents t ++ (cycleDone ∷ []))
+
+lands-first : landsIn 7 ≡ item 0 0 11
+unfolding reckonedLanding leavesIn slotLength entryBeginning beginsAt lastOf entriesOf entryAt schedulePlace circuitAt
+    neighbourOf walks distanceOf leastFrom any _and_ _or_ _≤?_ _<?_ _=?_
+lands-first = refl
+
+lands-second : landsIn 8 ≡ item 0 1 22
+unfolding reckonedLanding leavesIn slotLength entryBeginning beginsAt lastOf entriesOf entryAt schedulePlace circuitAt
+    neighbourOf walks distanceOf leastFrom any _and_ _or_ _≤?_ _<?_ _=?_
+lands-second = refl
+
+lands-third : landsIn 17 ≡ item 0 2 33
+unfolding reckonedLanding leavesIn slotLength entryBeginning beginsAt lastOf entriesOf entryAt schedulePlace circuitAt
+    neighbourOf walks distanceOf leastFrom any _and_ _or_ _≤?_ _<?_ _=?_
+lands-third = refl
+
+lands-stored : landsIn 18 ≡ item 0 3 77
+unfolding reckonedLanding leavesIn slotLength entryBeginning beginsAt lastOf entriesOf entryAt schedulePlace circuitAt
+    neighbourOf walks distanceOf leastFrom any _and_ _or_ _≤?_ _<?_ _=?_
+lands-stored = refl
+
+lands-interrupt : landsIn 39 ≡ item 2 2 22
+unfolding reckonedLanding leavesIn slotLength entryBeginning beginsAt lastOf entriesOf entryAt schedulePlace circuitAt
+    neighbourOf walks distanceOf leastFrom any _and_ _or_ _≤?_ _<?_ _=?_
+lands-interrupt = refl
+
+one-lands : (t : ℕ) → t < 40 → landsAt one 0 t ≡ landsIn t
+one-lands t l = landed-by one 0 oneEvents (omega arith) (one-events zeros zeros-long) t l
+
+-- they land in the first session, and so, by demand 3, in the other
+pub one-delivers : Delivered one 0
+one-delivers = record {
+  first-word = one-lands 7 (omega arith) ∙ lands-first;
+  second-word = one-lands 8 (omega arith) ∙ lands-second;
+  third-word = one-lands 17 (omega arith) ∙ lands-third;
+  stored-word = one-lands 18 (omega arith) ∙ lands-stored;
+  interrupt = one-lands 39 (omega arith) ∙ lands-interrupt;
+}
+
+pub other-delivers : Delivered other 1
+other-delivers = record {
+  first-word = sym (pair .landings 7 (omega arith)) ∙ one-delivers .first-word;
+  second-word = sym (pair .landings 8 (omega arith)) ∙ one-delivers .second-word;
+  third-word = sym (pair .landings 17 (omega arith)) ∙ one-delivers .third-word;
+  stored-word = sym (pair .landings 18 (omega arith)) ∙ one-delivers .stored-word;
+  interrupt = sym (pair .landings 39 (omega arith)) ∙ one-delivers .interrupt;
+}

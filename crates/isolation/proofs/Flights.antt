@@ -1,0 +1,10 @@
+pub mod CellLaws
+pub mod Flight
+pub mod Step
+pub mod Run
+pub mod Faults
+pub mod Period
+pub mod Trajectory
+pub mod Send
+pub mod Deliver
+pub mod NeverFaulty

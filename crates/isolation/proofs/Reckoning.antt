@@ -1,0 +1,11 @@
+pub mod Stream
+pub mod Dates
+pub mod Landed
+pub mod SenderFollowed
+pub mod Regions
+pub mod ReckonedWords
+pub mod Points
+pub mod Reckons
+pub mod EventsDecided
+pub mod Alike
+pub mod Undisturbed

@@ -1,0 +1,2 @@
+pub mod Required
+pub mod Written
