@@ -21,7 +21,7 @@ use Rattle.session.specs.Calls.{Call, start, cycle}
 use Rattle.isolation.specs.Sessions.{Session}
 use Rattle.isolation.specs.Reckoning.{Item, none, item, reckonedLanding, leavesIn}
 use Rattle.isolation.specs.Demand.{circuitLanding}
-use Rattle.isolation.proofs.Examples.TableP.{sheetA}
+use Rattle.isolation.specs.Examples.{sheetA}
 use Rattle.isolation.proofs.Reckoning.EventsDecided.{decided, events-decided}
 use Rattle.isolation.proofs.Reckoning.Reckons.{as-reckoned}
 use Rattle.isolation.proofs.Examples.Witness.{bad-loads, load-zero, zeros, zeros-long, lastLanded}
