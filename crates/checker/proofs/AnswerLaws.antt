@@ -7,6 +7,7 @@ use mathlib.Core.Path.{_≡_, refl, sym, _∙_, ap, ap₂, subst}
 use native.Mathlib.Omega.{arith}
 use Rattle.words.specs.Tests.{_<?_, _=?_}
 use Rattle.words.specs.Words.{pick}
+use Rattle.words.specs.Numbers.{unless, _then_}
 use Rattle.words.proofs.TestLaws.{yes=, no=, yes<, no<, is=, is<}
 use Rattle.sheet.specs.Sheet.{schedules, entriesOf}
 use Rattle.sheet.specs.Rules.{rule4, frameRules, circuitRules, entryRules, firstBroken, verdict}
@@ -54,11 +55,11 @@ refused-is (suc n) ne = refl
 -- the number of handing back entries
 module _ (z : List ℕ) (j n : ℕ) (e : n ≡ verdict z) where
   pub sheet-refused : (n ≡ 0 → ⊥) → n ≡ entriesNumber z j
-  unfolding entriesNumber
+  unfolding entriesNumber unless _then_
   sheet-refused ne = e ∙ sym (ap (λ (b : Bool). pick b (pick (j <? schedules z) 0 15) (verdict z)) (no= (λ e₀. ne (e ∙ e₀))))
 
   passes-on : n ≡ 0 → pick (j <? schedules z) 0 15 ≡ entriesNumber z j
-  unfolding entriesNumber
+  unfolding entriesNumber unless _then_
   passes-on e₀ = sym (ap (λ (b : Bool). pick b (pick (j <? schedules z) 0 15) (verdict z)) (yes= (sym e ∙ e₀)))
 
   pub schedule-there : n ≡ 0 → j < schedules z → 0 ≡ entriesNumber z j
@@ -73,7 +74,7 @@ pub record Handed (z : List ℕ) (j : ℕ) : Type 0 where
   pub there : j < schedules z
 
 pub handed : (z : List ℕ) (j : ℕ) → entriesNumber z j ≡ 0 → Handed z j
-unfolding entriesNumber _<?_ _=?_
+unfolding entriesNumber unless _then_ _<?_ _=?_
 handed z j h = go (verdict z =? 0) refl (j <? schedules z) refl h
   where
     go : (a : Bool) → (verdict z =? 0) ≡ a → (b : Bool) → (j <? schedules z) ≡ b → pick a (pick b 0 15) (verdict z) ≡ 0 → Handed z j

@@ -3,6 +3,7 @@ use Prim.Native.Nat.{ℕ, zero, suc}
 use mathlib.Core.List.{List, []}
 use Rattle.words.specs.Tests.{_<?_, _=?_}
 use Rattle.words.specs.Words.{pick}
+use Rattle.words.specs.Numbers.{unless, _then_}
 use Rattle.sheet.specs.Sheet.{schedules, entriesOf}
 use Rattle.sheet.specs.Rules.{verdict}
 use Rattle.checker.specs.declared.Outcome.{Outcome}
@@ -15,7 +16,7 @@ outcomeOf (suc n) = Refused (suc n)
 
 -- handing back the entries of schedule j: 1 to 11, then 15 where the schedule does not exist
 unfoldable pub entriesNumber : List ℕ → ℕ → ℕ
-entriesNumber z j = pick (verdict z =? 0) (pick (j <? schedules z) 0 15) (verdict z)
+entriesNumber z j = verdict z then unless 15 (j <? schedules z)
 
 -- the part that is handed back: the entries where the number is 0, else nothing
 unfoldable pub entriesPart : List ℕ → ℕ → List ℕ

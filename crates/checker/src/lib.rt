@@ -3,7 +3,7 @@ ghost use mathlib.Core.Path.{_≡_};
 ghost use mathlib.Core.Bool.{true};
 ghost use Prim.Native.Nat.{ℕ, _<_};
 ghost use Rattle.sheet.specs.Sheet.{schedules};
-ghost use Rattle.sheet.specs.Rules.{frameRules, circuitRules, entryRules, firstBroken, rule4, verdict as numberOf};
+ghost use Rattle.sheet.specs.Rules.{frameRules, circuitRules, entryRules, firstBroken, rule4, verdict as sheetVerdict};
 ghost use Rattle.sheet.specs.Inner.Passed.{Framed};
 ghost use Rattle.checker.specs.Answers.{outcomeOf, entriesNumber, entriesPart};
 
@@ -72,7 +72,7 @@ fn schedules_number(z: &[u32]) -> u32
 
 // The number of the verdict upon a sheet: 0, or the first number that applies.
 pub fn verdict_number(z: &[u32]) -> u32
-    ensures { λ r. ⌜ r ≡ numberOf (now (z .entry)) ⌝ }
+    ensures { λ r. ⌜ r ≡ sheetVerdict (now (z .entry)) ⌝ }
 {
     let frame = frame_number(z);
     if frame != 0 {
@@ -97,7 +97,7 @@ fn outcome_of(number: u32) -> Outcome
 
 // The verdict upon a sheet.
 pub fn verdict(z: &[u32]) -> Outcome
-    ensures { λ r. ⌜ r ≡ outcomeOf (numberOf (now (z .entry))) ⌝ }
+    ensures { λ r. ⌜ r ≡ outcomeOf (sheetVerdict (now (z .entry))) ⌝ }
 {
     outcome_of(verdict_number(z))
 }
@@ -110,7 +110,7 @@ fn part_number(z: &[u32], j: u32) -> u32
     if number != 0 {
         return number;
     }
-    if j < words::get(z, 4) {
+    if j < sheet::schedules_of(z) {
         return 0;
     }
     15

@@ -9,46 +9,54 @@ use native.Mathlib.Omega.{arith}
 use native.Mathlib.Nat.{zero-add}
 use lib.ListN.{length, replicate, length-map, length-replicate}
 use Rattle.words.specs.Tests.{all}
-use Rattle.words.specs.Words.{word, putAll}
+use Rattle.words.specs.Words.{word}
+use Rattle.words.specs.Inner.Puts.{putAll}
 use Rattle.words.proofs.AllLaws.{all-none, all-more, all-done, all-fails, all-at, all-same}
-use Rattle.words.proofs.TestLaws.{is≤}
 use Rattle.words.proofs.WordLaws.{putAll-at}
-use Rattle.torus.specs.Torus.{InGrid, distanceOf}
-use Rattle.torus.specs.Route.{Use, Route, leads, nowhere, routeFrom, pathOf, wiresPerNode}
+use Rattle.torus.specs.Inner.Grid.{InGrid}
+use Rattle.torus.specs.Route.{Use, Route, leads, nowhere, routeFrom}
+use Rattle.torus.specs.Inner.Paths.{pathOf, wiresPerNode}
+use Rattle.torus.specs.Inner.Delays.{lastDelay}
 use Rattle.torus.specs.declared.Path.{Path}
 use Rattle.torus.proofs.RouteLaws.{SmallUses, wiresOf, delaysOf, uses-small, uses-length, hops-high, wires-small, delays-small}
 use Rattle.sheet.specs.declared.entries.Entry.{Entry}
 use Rattle.sheet.specs.declared.circuits.Circuit.{Circuit}
 use Rattle.sheet.specs.Sheet.{columns, rows, nodes, schedules, circuitAt, period, entriesOf, entryCount, entryAt}
 use Rattle.sheet.specs.Wires.{WireCycle, occupied, meet}
-use Rattle.sheet.specs.Rules.{entryRoute, entryLeads, entryEnds, entryOccupied, reaches, routeHops, usesOf, eachEntry, rule9, rule10, rule11At}
+use Rattle.sheet.specs.Slots.{destinationOf}
+use Rattle.sheet.specs.Flight.{hopsOf}
+use Rattle.sheet.specs.Rules.{entryRoute, entryLeads, entryOccupied, reaches, usesOf, eachEntry, rule9, rule11At}
 use Rattle.sheet.specs.Inner.Passed.{Ranged, Routed}
 use Rattle.sheet.proofs.PassedLaws.{entry-small, period-range}
+use Rattle.sheet.proofs.TimeLaws.{entry-in-time}
 use Rattle.occupancy.specs.Inner.Occupancy.{anyTaken, Takes}
 use Rattle.clash.specs.Inner.Table.{placeOf, entryPlaces, places, Held, Free, TakenOrKept, Placeable, HoldsAllWires}
-use Rattle.clash.proofs.ShareLaws.{share, Holds, holds-none, holds-more, free-where}
+use Rattle.clash.proofs.ShareLaws.{share, HoldsPlaces, holds-none, holds-more, free-where}
 use Rattle.clash.proofs.WireLaws.{Fitting, meet-places, packet-places, fitting-packet, row-ends}
 
 module _ (long : ℕ) (z : List ℕ) (e : Entry) (stride : ℕ) (p : Placeable long z e stride) where
   -- the route leads somewhere
-  record Leading : Type 0 where
+  record LeadingEntry : Type 0 where
     uses : List Use
     node : ℕ
     hops : ℕ
     route : entryRoute z e ≡ leads uses node hops
 
-  leading : Leading
+  leading : LeadingEntry
   unfolding entryLeads
   leading = go (entryRoute z e) refl (p .leads-there)
     where
       go : (r : Route) → entryRoute z e ≡ r
-          → reaches r (circuitAt z (e .circuit) .receive .node)
-          (distanceOf (columns z) (rows z) (circuitAt z (e .circuit) .read .node) (circuitAt z (e .circuit) .receive .node)) ≡ true → Leading
+          → reaches r (destinationOf z (e .circuit)) (hopsOf z (e .circuit)) ≡ true → LeadingEntry
       go (leads uses node hops) q h = record { uses = uses; node = node; hops = hops; route = q }
       go nowhere q h = absurd (false≢true h)
 
-  module _ (l : Leading) where
-    small : SmallUses (nodes z * 6) (3 * (l .hops + 1)) (l .uses)
+  module _ (l : LeadingEntry) where
+    -- the delay of the route's last use
+    abbrev last : ℕ
+    last = lastDelay (leads (l .uses) (l .node) (l .hops))
+
+    small : SmallUses (nodes z * 6) last (l .uses)
     unfolding entryRoute
     small = uses-small _ _ _ _ (p .source-inside) _ _ _ (l .route)
 
@@ -60,8 +68,8 @@ module _ (long : ℕ) (z : List ℕ) (e : Entry) (stride : ℕ) (p : Placeable l
     unfolding entryRoute
     few = hops-high _ _ _ _ (p .source-inside) _ _ _ (l .route)
 
-    ends : e .offset + 3 * (l .hops + 1) + e .size ≤ stride
-    ends = omega (arith, p .in-time, ap routeHops (l .route))
+    ends : e .offset + last + e .size ≤ stride
+    ends = omega (arith, p .in-time, ap lastDelay (l .route))
 
     occupied-is : occupied (l .uses) (e .size) (e .offset) ≡ entryOccupied z e
     unfolding entryOccupied
@@ -70,7 +78,7 @@ module _ (long : ℕ) (z : List ℕ) (e : Entry) (stride : ℕ) (p : Placeable l
     fitting : Fitting stride (entryOccupied z e)
     fitting =
         subst (Fitting stride) occupied-is
-        (fitting-packet stride (nodes z * 6) (3 * (l .hops + 1)) (l .uses) (e .size) (e .offset) small ends)
+        (fitting-packet stride (nodes z * 6) last (l .uses) (e .size) (e .offset) small ends)
 
     -- the answer of following the entry's route
     module _ (path : Path) (q : path ≡ pathOf (entryRoute z e)) where
@@ -104,10 +112,10 @@ module _ (long : ℕ) (z : List ℕ) (e : Entry) (stride : ℕ) (p : Placeable l
             let b : i < length (l .uses) = omega (arith, counted, hops-is) in
             let w : word (path .wires) i ≡ word (wiresOf (l .uses)) i = ap (word (path .wires)) (sym (zero-add i)) ∙ wire-at i b in
             let d : word (path .delays) i ≡ word (delaysOf (l .uses)) i = ap (word (path .delays)) (sym (zero-add i)) ∙ delay-at i b in
-            let soon = delays-small (nodes z * 6) (3 * (l .hops + 1)) (l .uses) small i b in
+            let soon = delays-small (nodes z * 6) last (l .uses) small i b in
             let end = row-ends stride (nodes z * 6) (word (path .wires) i) (e .offset + word (path .delays) i + e .size)
-            (omega (arith, w, wires-small (nodes z * 6) (3 * (l .hops + 1)) (l .uses) small i b)) (omega (arith, d, soon, ends)) in
-            omega (arith, end, p .room);
+            (omega (arith, w, wires-small (nodes z * 6) last (l .uses) small i b)) (omega (arith, d, soon, ends)) in
+            omega (arith, end, p .holds-wires);
       }
 
       places-of : places (path .wires) (path .delays) stride (e .offset) (e .size) 0 (path .hops + 2) ≡ entryPlaces stride z e
@@ -149,19 +157,18 @@ module _ (long : ℕ) (z : List ℕ) (e : Entry) (stride : ℕ) (p : Placeable l
 -- each entry of a schedule that passed the rules is such an entry
 pub placeable : (long : ℕ) (z : List ℕ) → Routed z → (j : ℕ) → j < schedules z → (i : ℕ) → i < entryCount (entriesOf z j)
     → HoldsAllWires long z (period z j + 6) → Placeable long z (entryAt (entriesOf z j) i) (period z j + 6)
-unfolding rule9 rule10 eachEntry entryEnds
+unfolding rule9 eachEntry
 placeable long z r j h i l m =
     let small = entry-small z (r .ranged) j h i l in
     let leading = all-at _ (entryCount (entriesOf z j)) (all-at _ (schedules z) (r .routes-lead) j h) i l in
-    let ending = is≤ _ _ (all-at _ (entryCount (entriesOf z j)) (all-at _ (schedules z) (r .packets-end) j h) i l) in
     record {
       source-inside = small .source-inside;
       leads-there = leading;
-      in-time = omega (arith, ending, small .size-low);
+      in-time = entry-in-time z r j h i l;
       size-low = omega (arith, small .size-low);
       size-high = small .size-high;
       stride-small = omega (arith, period-range z (r .ranged) j h .1);
-      room = m;
+      holds-wires = m;
     }
 
 -- the answer of placing an entry
@@ -190,7 +197,7 @@ module _ (z : List ℕ) (j stride : ℕ) (entries : List ℕ) (long : ℕ) where
     pub entries-are : entries ≡ entriesOf z j
     pub each : (k : ℕ) → k < entryCount entries → Placeable long z (entryAt entries k) stride
     pub long-is : length table ≡ long
-    pub holds : Holds placesAt i table
+    pub holds : HoldsPlaces placesAt i table
     pub apart : all i (λ k. all k (λ m. not (meetAt k m))) ≡ true
 
   pub placing-start : (table : List ℕ) → length table ≡ long → Routed z → j < schedules z → HoldsAllWires (length table) z (period z j + 6) → Free table

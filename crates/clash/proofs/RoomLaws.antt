@@ -2,37 +2,28 @@
 -- Assumes nothing.
 use Prim.Native.Nat.{ℕ, _+_, _*_, _<_, _≤_}
 use mathlib.Core.List.{List}
-use mathlib.Core.Path.{_≡_, ap, ap₂, sym, subst}
+use mathlib.Core.Path.{_≡_, ap, sym, subst, refl}
 use native.Mathlib.Omega.{arith}
 use native.Mathlib.Nat.{mul-le-mul}
 use lib.ListN.{length, replicate, length-replicate}
-use Rattle.torus.specs.Route.{wiresPerNode}
-use Rattle.sheet.specs.Sheet.{columns, rows, nodes, schedules, period}
+use Rattle.torus.specs.Inner.Paths.{wiresPerNode}
+use Rattle.sheet.specs.Sheet.{nodes, schedules, period}
 use Rattle.sheet.specs.Inner.Passed.{Routed}
-use Rattle.sheet.proofs.PassedLaws.{period-range}
+use Rattle.sheet.proofs.PassedLaws.{nodes-are, nodes-few, period-range}
 use Rattle.occupancy.proofs.TakeLaws.{none-taken}
 use Rattle.clash.specs.Inner.Table.{HoldsAllWires, Free}
 
-module _ (z : List ℕ) (r : Routed z) (j : ℕ) (h : j < schedules z) (cols count P : ℕ) (x : cols ≡ columns z) (y : count ≡ rows z) (p : P ≡ period z j) where
-  nodes-are : cols * count ≡ nodes z
-  nodes-are = ap₂ _*_ x y
-
+module _ (z : List ℕ) (r : Routed z) (j : ℕ) (h : j < schedules z) (count P : ℕ) (x : count ≡ nodes z) (few : count ≤ 16) (p : P ≡ period z j) where
   -- at most 96 wires in 1,030 cycles
-  pub nodes-high : cols * count ≤ 16
-  nodes-high =
-      let g = r .ranged .framed .headed in
-      omega (arith, mul-le-mul {n₁ = columns z} {m₁ = rows z} {n₂ = 4} {m₂ = 4} (g .columns-high) (g .rows-high), nodes-are)
-
-  pub places-high : cols * count * 6 * (P + 6) ≤ 98880
+  pub places-high : count * 6 * (P + 6) ≤ 98880
   places-high =
-      mul-le-mul {n₁ = cols * count * 6} {m₁ = P + 6} {n₂ = 96} {m₂ = 1030} (omega (arith, nodes-high))
-      (omega (arith, p, period-range z (r .ranged) j h .1))
+      mul-le-mul {n₁ = count * 6} {m₁ = P + 6} {n₂ = 96} {m₂ = 1030} (omega arith) (omega (arith, p, period-range z (r .ranged) j h .1))
 
-  pub roomy : (long : ℕ) → cols * count * 6 * (P + 6) + 32 ≤ 32 * long → HoldsAllWires long z (period z j + 6)
+  pub roomy : (long : ℕ) → count * 6 * (P + 6) + 32 ≤ 32 * long → HoldsAllWires long z (period z j + 6)
   roomy long m =
       omega (
         arith,
-        ap (λ (n : ℕ). n * 6 * (P + 6)) nodes-are,
+        ap (λ (n : ℕ). n * 6 * (P + 6)) x,
         ap (λ (n : ℕ). nodes z * 6 * (n + 6)) p,
       )
 

@@ -10,25 +10,10 @@ use native.Mathlib.Nat.{not-suc-le-zero}
 use lib.ListN.{length}
 use Rattle.words.specs.Tests.{_or_, _=?_}
 use Rattle.words.specs.Words.{word}
-use Rattle.words.proofs.TestLaws.{or-yes, or-on}
+use Rattle.words.proofs.TestLaws.{or-yes, or-on, or-swap, or-assoc}
 use Rattle.occupancy.specs.Inner.Occupancy.{run, taken, anyTaken, listed, takeRun, Takes}
 use Rattle.occupancy.proofs.TakeLaws.{takes-run}
 use Rattle.clash.specs.Inner.Table.{places}
-
-or-assoc : (a b c : Bool) → (a or (b or c)) ≡ ((a or b) or c)
-unfolding _or_
-or-assoc true b c = refl
-or-assoc false b c = refl
-
-or-swap : (a b c : Bool) → (a or (b or c)) ≡ ((b or a) or c)
-unfolding _or_
-or-swap true true c = refl
-or-swap true false c = refl
-or-swap false b c = or-none b c
-  where
-    or-none : (b c : Bool) → (b or c) ≡ ((b or false) or c)
-    or-none true c = refl
-    or-none false c = refl
 
 pub taken-append : (t xs ys : List ℕ) → anyTaken t (xs ++ ys) ≡ (anyTaken t xs or anyTaken t ys)
 unfolding anyTaken _or_
@@ -54,8 +39,8 @@ takes-append t u v xs ys a b =
       besides = λ x.
           b .besides x
           ∙ ap (λ (c : Bool). listed x ys or c) (a .besides x)
-          ∙ or-swap (listed x ys) (listed x xs) (taken t x)
-          ∙ ap (λ (c : Bool). c or taken t x) (sym (listed-append x xs ys));
+          ∙ or-assoc (listed x ys) (listed x xs) (taken t x)
+          ∙ ap (λ (c : Bool). c or taken t x) (or-swap (listed x ys) (listed x xs) ∙ sym (listed-append x xs ys));
     }
 
 -- the places from wire i on are a row, and those from the next wire on

@@ -8,12 +8,14 @@ use mathlib.Core.Path.{_≡_, refl, sym, _∙_, ap, ap₂, subst}
 use native.Mathlib.Omega.{arith}
 use native.Mathlib.Numerals.{one-add}
 use native.Mathlib.Nat.{mul-le-mul-right, add-mul, one-mul, add-assoc, add-zero}
-use native.Mathlib.Decide.{ℕ-discrete, decLt}
+use native.Mathlib.Decide.{ℕ-discrete}
 use lib.ListN.{length}
 use Rattle.words.specs.Tests.{_and_, _or_, _=?_}
 use Rattle.words.specs.Words.{word}
 use Rattle.words.proofs.TestLaws.{yes=, no=, is=, and-no, and-both, and-no-right}
-use Rattle.torus.specs.Route.{Wire, source, side, memory, Use, wireNumber, wiresPerNode}
+use Rattle.words.proofs.WordLaws.{row-and-place}
+use Rattle.torus.specs.Route.{Wire, source, side, memory, Use}
+use Rattle.torus.specs.Inner.Paths.{wireNumber, wiresPerNode}
 use Rattle.torus.proofs.RouteLaws.{Proper, SmallUse, SmallUses, wiresOf, delaysOf}
 use Rattle.sheet.specs.Wires.{WireCycle, sameWire, same, during, occupied, member, meet}
 use Rattle.occupancy.specs.Inner.Occupancy.{run, listed}
@@ -24,17 +26,6 @@ use Rattle.clash.proofs.ShareLaws.{share}
 abbrev pub Fitting : ℕ → List WireCycle → Type 0
 Fitting stride [] = Unit {0}
 Fitting stride (x ∷ xs) = (Proper (x .wire)) × (x .cycle < stride) × Fitting stride xs
-
--- quotient and remainder decide
-split : (stride a b c d : ℕ) → c < stride → d < stride → a * stride + c ≡ b * stride + d → (a ≡ b) × (c ≡ d)
-split stride a b c d hc hd e = go (decLt a b) (decLt b a)
-  where
-    go : Dec (a < b) → Dec (b < a) → (a ≡ b) × (c ≡ d)
-    go (yes l) r = absurd (let z : ⊥ = omega (arith, mul-le-mul-right {m = a + 1} {n = b} stride (omega arith), add-mul a 1 stride, one-mul stride) in z)
-    go (no l) (yes r) = absurd (let z : ⊥ = omega (arith, mul-le-mul-right {m = b + 1} {n = a} stride (omega arith), add-mul b 1 stride, one-mul stride) in z)
-    go (no l) (no r) =
-        let q : a ≡ b = omega arith in
-        (q, omega (arith, ap (λ (n : ℕ). n * stride) q))
 
 -- wires with proper sides have different numbers
 wire-number : (a b : Wire) → Proper a → Proper b → sameWire a b ≡ (wireNumber a =? wireNumber b)
@@ -74,8 +65,8 @@ module _ (stride : ℕ) where
       go : Dec (wireNumber (x .wire) ≡ wireNumber (y .wire)) → Dec (x .cycle ≡ y .cycle)
           → (wireNumber (x .wire) =? wireNumber (y .wire) and x .cycle =? y .cycle) ≡ (placeOf stride x =? placeOf stride y)
       go (yes e) (yes f) = and-both (yes= e) (yes= f) ∙ sym (yes= (ap₂ (λ (w c : ℕ). w * stride + c) e f))
-      go (yes e) (no ne) = and-no-right _ _ (no= ne) ∙ sym (no= (λ f. ne (split stride _ _ _ _ hx hy f .1)))
-      go (no ne) d = sym (and-no _ (no= ne)) ∙ sym (no= (λ f. ne (split stride _ _ _ _ hx hy f .0)))
+      go (yes e) (no ne) = and-no-right _ _ (no= ne) ∙ sym (no= (λ f. ne (row-and-place stride _ _ _ _ hx hy f .1)))
+      go (no ne) d = sym (and-no _ (no= ne)) ∙ sym (no= (λ f. ne (row-and-place stride _ _ _ _ hx hy f .0)))
 
   member-place : (x : WireCycle) (ys : List WireCycle) → Proper (x .wire) → x .cycle < stride → Fitting stride ys
       → member x ys ≡ listed (placeOf stride x) (map (placeOf stride) ys)

@@ -72,7 +72,7 @@ fn place_entry(table: &mut [u32], z: &[u32], e: Entry, stride: usize) -> bool
 {
     let circuit = Circuit::at(z, e.circuit);
     let read = circuit.read;
-    let path = torus::follow_route(words::get(z, 0), words::get(z, 1), read.node, e.route);
+    let path = torus::follow_route(sheet::columns_of(z), sheet::rows_of(z), read.node, e.route);
     let count = (path.hops + 2) as usize;
     let wires = path.wires;
     let delays = path.delays;
@@ -137,7 +137,7 @@ fn schedule_apart(z: &[u32], j: u32) -> bool
     ensures { λ r. ⌜ r ≡ rule11At (now (z .entry)) j ⌝ }
 {
     let cycles = sheet::schedule_period(z, j) + 6;
-    let places = words::get(z, 0) * words::get(z, 1) * torus::WIRES_PER_NODE * cycles;
+    let places = sheet::nodes_of(z) * torus::WIRES_PER_NODE * cycles;
     if places <= 1024 {
         return apart_in_small(z, j);
     }
@@ -152,7 +152,7 @@ pub fn keeps_rule11(z: &[u32]) -> bool
     requires { ⌜ Routed (now z) ⌝ }
     ensures { λ r. ⌜ r ≡ rule11 (now (z .entry)) ⌝ }
 {
-    let count = words::get(z, 4);
+    let count = sheet::schedules_of(z);
     let mut j: u32 = 0;
     while j < count {
         if schedule_apart(z, j) {

@@ -7,7 +7,6 @@ use Rattle.words.specs.Tests.{_=?_}
 use Rattle.words.specs.Words.{pick}
 use Rattle.sheet.specs.Sheet.{schedulePlace}
 use Rattle.checker.specs.Answers.{entriesPart}
-use Rattle.network.specs.View.{Landing, nothing, landed}
 use Rattle.session.specs.declared.Found.{Found}
 use Rattle.session.specs.declared.Found.the-variants.{Word as FoundWord, Refused as FoundRefused}
 use Rattle.session.specs.declared.Landed.{Landed}
@@ -19,16 +18,12 @@ packed number value = pick (number =? 0) value (number * 4294967296)
 -- a field of the entries that are handed back of schedule j: 0 the place of their first word in the sheet, behind the schedule's period
 -- and number of entries; 1 how many words they are; 0 for any other
 unfoldable pub entriesField : List ℕ → ℕ → ℕ → ℕ
-entriesField s j field = pick (field =? 0) (schedulePlace s j + 2) (pick (field =? 1) (length (entriesPart s j)) 0)
+entriesField z j field = pick (field =? 0) (schedulePlace z j + 2) (pick (field =? 1) (length (entriesPart z j)) 0)
 
 -- a field of a landing: 0 whether there is one, 1 its kind, 2 its address, 3 its word; 0 for any other, and where nothing landed
 unfoldable pub chosen : ℕ → ℕ → ℕ → ℕ → ℕ
 chosen field kind address word =
     pick (field =? 0) 1 (pick (field =? 1) kind (pick (field =? 2) address (pick (field =? 3) word 0)))
-
-abbrev pub fieldOf : ℕ → Landing → ℕ
-fieldOf field nothing = 0
-fieldOf field (landed kind address word) = chosen field kind address word
 
 -- the numbers of the session's answers that have a value
 abbrev pub packedFound : Found → ℕ

@@ -2,15 +2,12 @@
 // numbers (specs/Packed.antt) and its contracts.
 ghost use mathlib.Core.Path.{_≡_};
 ghost use Prim.Native.Nat.{_*_, _<_};
-ghost use Rattle.words.specs.Tests.{_=?_};
-ghost use Rattle.words.specs.Words.{pick};
 ghost use Rattle.sheet.specs.Rules.{verdict};
 ghost use Rattle.checker.specs.Answers.{entriesNumber};
 ghost use Rattle.network.specs.Registers.{stateWords};
-ghost use Rattle.network.specs.Inner.Machine.{nextState, nextMemory};
-ghost use Rattle.session.specs.Calls.{loadNumber, loaded, startNumber, started, placeNumber, stored, fetched, leftNumber, wordsLeft, stateNumber, periodNumberIn, landedNumber, lastLanding, orderNumber, ordered, cycleNumber};
-ghost use Rattle.session.specs.Answers.{foundOf, landedOf};
-ghost use Rattle.exports.specs.Packed.{packed, entriesField, chosen, fieldOf, packedFound, packedLanded};
+ghost use Rattle.session.specs.Calls.{lend, lendState, load, start, store, order, cycle, number, after};
+ghost use Rattle.session.specs.Answers.{fetchAnswer, leftAnswer, periodAnswer, landedAnswer};
+ghost use Rattle.exports.specs.Packed.{packed, entriesField, chosen, packedFound, packedLanded};
 use checker::Outcome;
 use session::Found;
 use session::Landed;
@@ -97,8 +94,8 @@ fn packed_landed(field: u32, what: Landed) -> u64
 // Loads a sheet into a state, for a memory.
 #[no_mangle]
 pub extern "C" fn argo_load(sheet: &[u32], state: &mut [u32], memory: &[u32]) -> u32
-    ensures answer { λ r. ⌜ r ≡ loadNumber (now (sheet .entry)) (now (state .entry)) (now (memory .entry)) ⌝ }
-    ensures state { λ _. ⌜ now (state .exit) ≡ pick (loadNumber (now (sheet .entry)) (now (state .entry)) (now (memory .entry)) =? 0) (loaded (now (sheet .entry)) (now (state .entry))) (now (state .entry)) ⌝ }
+    ensures answer { λ r. ⌜ r ≡ number (load (now (sheet .entry))) (lend (now (state .entry)) (now (memory .entry))) ⌝ }
+    ensures state { λ _. ⌜ now (state .exit) ≡ after (load (now (sheet .entry))) (lend (now (state .entry)) (now (memory .entry))) .state ⌝ }
 {
     number_of(session::load(sheet, state, memory))
 }
@@ -113,8 +110,8 @@ pub extern "C" fn argo_start(
     count: u32,
     kind: u32,
 ) -> u32
-    ensures answer { λ r. ⌜ r ≡ startNumber (now (state .entry)) circuit read write count kind ⌝ }
-    ensures state { λ _. ⌜ now (state .exit) ≡ pick (startNumber (now (state .entry)) circuit read write count kind =? 0) (started (now (state .entry)) circuit read write count kind) (now (state .entry)) ⌝ }
+    ensures answer { λ r. ⌜ r ≡ number (start circuit read write count kind) (lendState (now (state .entry))) ⌝ }
+    ensures state { λ _. ⌜ now (state .exit) ≡ after (start circuit read write count kind) (lendState (now (state .entry))) .state ⌝ }
 {
     number_of(session::start(state, circuit, read, write, count, kind))
 }
@@ -128,8 +125,8 @@ pub extern "C" fn argo_store(
     address: u32,
     word: u32,
 ) -> u32
-    ensures answer { λ r. ⌜ r ≡ placeNumber (now (state .entry)) (now (memory .entry)) node address ⌝ }
-    ensures memory { λ _. ⌜ now (memory .exit) ≡ pick (placeNumber (now (state .entry)) (now (memory .entry)) node address =? 0) (stored (now (state .entry)) (now (memory .entry)) node address word) (now (memory .entry)) ⌝ }
+    ensures answer { λ r. ⌜ r ≡ number (store node address word) (lend (now (state .entry)) (now (memory .entry))) ⌝ }
+    ensures memory { λ _. ⌜ now (memory .exit) ≡ after (store node address word) (lend (now (state .entry)) (now (memory .entry))) .memory ⌝ }
 {
     number_of(session::store(state, memory, node, address, word))
 }
@@ -137,7 +134,7 @@ pub extern "C" fn argo_store(
 // The word at a node's address.
 #[no_mangle]
 pub extern "C" fn argo_fetch(state: &[u32], memory: &[u32], node: u32, address: u32) -> u64
-    ensures { λ r. ⌜ r ≡ packed (placeNumber (now (state .entry)) (now (memory .entry)) node address) (fetched (now (state .entry)) (now (memory .entry)) node address) ⌝ }
+    ensures { λ r. ⌜ r ≡ packedFound (fetchAnswer (lend (now (state .entry)) (now (memory .entry))) node address) ⌝ }
 {
     packed_found(session::fetch(state, memory, node, address))
 }
@@ -145,7 +142,7 @@ pub extern "C" fn argo_fetch(state: &[u32], memory: &[u32], node: u32, address: 
 // How many words of a circuit's transfer are left.
 #[no_mangle]
 pub extern "C" fn argo_words_left(state: &[u32], circuit: u32) -> u64
-    ensures { λ r. ⌜ r ≡ packed (leftNumber (now (state .entry)) circuit) (wordsLeft (now (state .entry)) circuit) ⌝ }
+    ensures { λ r. ⌜ r ≡ packedFound (leftAnswer (lendState (now (state .entry))) circuit) ⌝ }
 {
     packed_found(session::words_left(state, circuit))
 }
@@ -153,7 +150,7 @@ pub extern "C" fn argo_words_left(state: &[u32], circuit: u32) -> u64
 // The number of the present period.
 #[no_mangle]
 pub extern "C" fn argo_period_number(state: &[u32]) -> u64
-    ensures { λ r. ⌜ r ≡ packed (stateNumber (now (state .entry))) (periodNumberIn (now (state .entry))) ⌝ }
+    ensures { λ r. ⌜ r ≡ packedFound (periodAnswer (lendState (now (state .entry)))) ⌝ }
 {
     packed_found(session::period_number(state))
 }
@@ -161,7 +158,7 @@ pub extern "C" fn argo_period_number(state: &[u32]) -> u64
 // A field of what landed at a node in the last cycle.
 #[no_mangle]
 pub extern "C" fn argo_landed(state: &[u32], node: u32, field: u32) -> u64
-    ensures { λ r. ⌜ r ≡ packed (landedNumber (now (state .entry)) node) (fieldOf field (lastLanding (now (state .entry)) node)) ⌝ }
+    ensures { λ r. ⌜ r ≡ packedLanded field (landedAnswer (lendState (now (state .entry))) node) ⌝ }
 {
     packed_landed(field, session::what_landed(state, node))
 }
@@ -169,8 +166,8 @@ pub extern "C" fn argo_landed(state: &[u32], node: u32, field: u32) -> u64
 // Orders a schedule for a period.
 #[no_mangle]
 pub extern "C" fn argo_order(state: &mut [u32], schedule: u32, period: u32) -> u32
-    ensures answer { λ r. ⌜ r ≡ orderNumber (now (state .entry)) schedule period ⌝ }
-    ensures state { λ _. ⌜ now (state .exit) ≡ pick (orderNumber (now (state .entry)) schedule period =? 0) (ordered (now (state .entry)) schedule period) (now (state .entry)) ⌝ }
+    ensures answer { λ r. ⌜ r ≡ number (order schedule period) (lendState (now (state .entry))) ⌝ }
+    ensures state { λ _. ⌜ now (state .exit) ≡ after (order schedule period) (lendState (now (state .entry))) .state ⌝ }
 {
     number_of(session::order(state, schedule, period))
 }
@@ -178,9 +175,9 @@ pub extern "C" fn argo_order(state: &mut [u32], schedule: u32, period: u32) -> u
 // One clock cycle.
 #[no_mangle]
 pub extern "C" fn argo_cycle(state: &mut [u32], memory: &mut [u32]) -> u32
-    ensures answer { λ r. ⌜ r ≡ cycleNumber (now (state .entry)) (now (memory .entry)) ⌝ }
-    ensures state { λ _. ⌜ now (state .exit) ≡ pick (cycleNumber (now (state .entry)) (now (memory .entry)) =? 0) (nextState (now (state .entry)) (now (memory .entry))) (now (state .entry)) ⌝ }
-    ensures memory { λ _. ⌜ now (memory .exit) ≡ pick (cycleNumber (now (state .entry)) (now (memory .entry)) =? 0) (nextMemory (now (state .entry)) (now (memory .entry))) (now (memory .entry)) ⌝ }
+    ensures answer { λ r. ⌜ r ≡ number cycle (lend (now (state .entry)) (now (memory .entry))) ⌝ }
+    ensures state { λ _. ⌜ now (state .exit) ≡ after cycle (lend (now (state .entry)) (now (memory .entry))) .state ⌝ }
+    ensures memory { λ _. ⌜ now (memory .exit) ≡ after cycle (lend (now (state .entry)) (now (memory .entry))) .memory ⌝ }
 {
     number_of(session::cycle(state, memory))
 }

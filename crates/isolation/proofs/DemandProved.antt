@@ -14,5 +14,5 @@ demand3 = record {
   landed-kept = landed-kept;
   as-reckoned = as-reckoned;
   undisturbed = λ a b c d n ic id na nb x.
-      undisturbed-reading a b c d n (as-reckoned a c ic) (as-reckoned b d id) na nb x (λ k cycle e. reading a c ic k e);
+      undisturbed-reading a b c d n (as-reckoned a c ic) (as-reckoned b d id) na nb x (reading a c ic);
 }

@@ -1,77 +1,50 @@
 -- The calendar of a session (document 01, "The session" and "The lists of demand 3"), reckoned from the sheet and the events alone, before
 -- and without a circuit.
 use Prim.Native.Nat.{ℕ, _+_, _%_}
-use mathlib.Core.Bool.{Bool, true, false}
 use mathlib.Core.List.{List, [], _∷_}
-use Rattle.words.specs.Tests.{_and_, _=?_}
-use Rattle.words.specs.Words.{pick}
+use lib.ListN.{length}
+use Rattle.words.specs.Tests.{_=?_}
+use Rattle.words.specs.Words.{pick, leastFrom}
 use Rattle.sheet.specs.Sheet.{period}
-use Rattle.isolation.specs.Sessions.{Event, startDone, storeDone, orderDone, cycleDone}
+use Rattle.network.specs.View.{Order, noOrder, pending}
+use Rattle.isolation.specs.Sessions.{Session, Event, startDone, storeDone, orderDone, cycleDone, eventsBefore}
 
--- the cycles since the load, the cycle within the period, the period number, the schedule in force, and the order not yet spent (whether
--- there is one, its schedule and its period number)
+-- the cycles since the load, the cycle within the period, the period number, the schedule in force, and the order not yet spent
 pub record Calendar : Type 0 where
   pub cycles : ℕ
   pub cycle : ℕ
   pub number : ℕ
   pub schedule : ℕ
-  pub isOrdered : Bool
-  pub orderedSchedule : ℕ
-  pub orderedPeriod : ℕ
+  pub order : Order
 
 -- directly after the load: cycle 0, period 0, schedule 0, no order
 abbrev pub calendarAtLoad : Calendar
-calendarAtLoad =
-    record { cycles = 0; cycle = 0; number = 0; schedule = 0; isOrdered = false; orderedSchedule = 0; orderedPeriod = 0 }
+calendarAtLoad = record { cycles = 0; cycle = 0; number = 0; schedule = 0; order = noOrder }
 
--- after the period's last cycle the number rises by one, modulo 2^32, and an order for it is in force and spent
-abbrev pub turnCalendar : Calendar → Calendar
-turnCalendar k = record {
-  cycles = k .cycles + 1;
-  cycle = 0;
-  number = risen;
-  schedule = pick due (k .orderedSchedule) (k .schedule);
-  isOrdered = pick due false (k .isOrdered);
-  orderedSchedule = k .orderedSchedule;
-  orderedPeriod = k .orderedPeriod;
-}
-  where
-    risen : ℕ
-    risen = (k .number + 1) % 4294967296
+-- as a period begins, an order for its number is in force and spent
+abbrev pub spendOrder : Order → Calendar → Calendar
+spendOrder noOrder k = k
+spendOrder (pending ordered at) k =
+    pick (at =? k .number) (record { cycles = k .cycles; cycle = k .cycle; number = k .number; schedule = ordered; order = noOrder }) k
 
-    due : Bool
-    due = k .isOrdered and k .orderedPeriod =? risen
-
--- after a cycle
+-- after a cycle; after the period's last the number rises by one, modulo 2^32
 abbrev pub nextCalendar : List ℕ → Calendar → Calendar
 nextCalendar z k =
-    pick (k .cycle + 1 =? period z (k .schedule)) (turnCalendar k)
-    (record {
+    pick (k .cycle + 1 =? period z (k .schedule))
+    (spendOrder (k .order) (record {
       cycles = k .cycles + 1;
-      cycle = k .cycle + 1;
-      number = k .number;
+      cycle = 0;
+      number = (k .number + 1) % 4294967296;
       schedule = k .schedule;
-      isOrdered = k .isOrdered;
-      orderedSchedule = k .orderedSchedule;
-      orderedPeriod = k .orderedPeriod;
-    })
-
--- after an order
-abbrev pub orderCalendar : ℕ → ℕ → Calendar → Calendar
-orderCalendar schedule periodNumber k = record {
-  cycles = k .cycles;
-  cycle = k .cycle;
-  number = k .number;
-  schedule = k .schedule;
-  isOrdered = true;
-  orderedSchedule = schedule;
-  orderedPeriod = periodNumber;
-}
+      order = k .order;
+    }))
+    (record { cycles = k .cycles + 1; cycle = k .cycle + 1; number = k .number; schedule = k .schedule; order = k .order })
 
 abbrev pub calendarEvent : List ℕ → Event → Calendar → Calendar
-calendarEvent z (startDone circuit readAddress writeAddress count kind) k = k
+calendarEvent z (startDone circuit transfer) k = k
 calendarEvent z (storeDone node address new) k = k
-calendarEvent z (orderDone schedule periodNumber) k = orderCalendar schedule periodNumber k
+calendarEvent z (orderDone schedule number) k =
+    record { cycles = k .cycles; cycle = k .cycle; number = k .number; schedule = k .schedule; order = pending schedule number }
 calendarEvent z cycleDone k = nextCalendar z k
 
 abbrev pub calendarAll : List ℕ → List Event → Calendar → Calendar
@@ -81,3 +54,18 @@ calendarAll z (e ∷ es) k = calendarAll z es (calendarEvent z e k)
 -- the calendar after some events since the load
 abbrev pub calendarAfter : List ℕ → List Event → Calendar
 calendarAfter z es = calendarAll z es calendarAtLoad
+
+-- the calendar of a session after its first k calls, and the cycles that were carried out by then
+abbrev pub calendarAt : Session → ℕ → Calendar
+calendarAt l k = calendarAfter (l .sheet) (eventsBefore l k)
+
+abbrev pub cyclesDone : Session → ℕ → ℕ
+cyclesDone l k = calendarAt l k .cycles
+
+-- the point directly after n cycles, the first at which so many are counted: directly after the load for none
+abbrev pub pointAfter : Session → ℕ → ℕ
+pointAfter l n = leastFrom (length (l .calls)) 0 (λ k. cyclesDone l k =? n)
+
+-- the schedule in force in cycle t; the first is cycle 0
+abbrev pub scheduleIn : Session → ℕ → ℕ
+scheduleIn l t = calendarAt l (pointAfter l t) .schedule

@@ -1,21 +1,13 @@
 -- Sessions (document 01, "The lists of demand 3"): a load that is carried out on any lent words, and any calls after it, the loads among
 -- them refused. What a call does is what its contract says (`after`, session/specs/Calls.antt).
 use Prim.Native.Nat.{ℕ}
-use mathlib.Core.Bool.{Bool, true, false}
+use mathlib.Core.Bool.{true}
 use mathlib.Core.List.{List, [], _∷_, _++_}
 use mathlib.Core.Path.{_≡_}
 use lib.ListN.{take}
 use Rattle.words.specs.Tests.{_=?_}
 use Rattle.words.specs.Words.{pick}
 use Rattle.session.specs.Calls.{Lent, Call, load, start, store, order, cycle, isLoad, number, does, after, ask}
-
-abbrev pub isCycle : Call → Bool
-isCycle (load z) = false
-isCycle (start circuit readAddress writeAddress count kind) = false
-isCycle (store node address new) = false
-isCycle (order schedule period) = false
-isCycle cycle = true
-isCycle (ask question) = false
 
 -- the lent words after some calls
 abbrev pub run : List Call → Lent → Lent
@@ -41,16 +33,24 @@ afterLoad l = does (load (l .sheet)) (l .lent)
 abbrev pub standing : Session → ℕ → Lent
 standing l k = run (take k (l .calls)) (afterLoad l)
 
--- what calls that are carried out tell: a transfer started, a word stored, a switch ordered, a cycle
+-- a transfer as a start gives it: where its words are read and written, how many they are, and their kind
+pub record Transfer : Type 0 where
+  pub readAddress : ℕ
+  pub writeAddress : ℕ
+  pub count : ℕ
+  pub kind : ℕ
+
+-- what calls that are carried out tell: on a circuit a transfer started, a word stored, a switch ordered, a cycle
 pub data Event : Type 0 where
-  startDone : ℕ → ℕ → ℕ → ℕ → ℕ → Event
+  startDone : ℕ → Transfer → Event
   storeDone : ℕ → ℕ → ℕ → Event
   orderDone : ℕ → ℕ → Event
   cycleDone : Event
 
 abbrev pub eventOf : Call → List Event
 eventOf (load z) = []
-eventOf (start circuit readAddress writeAddress count kind) = startDone circuit readAddress writeAddress count kind ∷ []
+eventOf (start circuit readAddress writeAddress count kind) =
+    startDone circuit (record { readAddress = readAddress; writeAddress = writeAddress; count = count; kind = kind }) ∷ []
 eventOf (store node address new) = storeDone node address new ∷ []
 eventOf (order schedule period) = orderDone schedule period ∷ []
 eventOf cycle = cycleDone ∷ []

@@ -3,7 +3,7 @@
 use Prim.Native.Nat.{ℕ, zero, suc, _+_, _-_, _*_, _≤_, _<_}
 use mathlib.Core.Bool.{Bool, true, false, false≢true}
 use mathlib.Core.List.{List}
-use mathlib.Core.Path.{_≡_, refl, sym, _∙_, ap}
+use mathlib.Core.Path.{_≡_, refl, sym, _∙_, ap, ap₂}
 use native.Mathlib.Omega.{arith}
 use native.Mathlib.Nat.{add-suc, add-zero}
 use native.Mathlib.Numerals.{add-one}
@@ -17,15 +17,17 @@ use Rattle.octets.specs.Octets.{wordIn}
 use Rattle.network.specs.Registers.{stateWords}
 use Rattle.session.specs.declared.Answer.{Answer}
 use Rattle.session.specs.Answers.{answerOf, numberOf}
-use Rattle.session.specs.Calls.{memoryNumber, loadNumber, loaded, startNumber, started, start}
+use Rattle.session.specs.Calls.{stateNumber, memoryNumber, Lent, lend, lendState, Call, load, start, isLoad, number, after}
 use Rattle.session.proofs.AnswerLaws.{number-is}
+use Rattle.session.proofs.AloneLaws.{isAlone, after-alone}
+use Rattle.session.proofs.ReadingLaws.{memory-state}
 use Rattle.landings.specs.declared.input.Message.{Message}
 use Rattle.landings.specs.declared.input.Message.the-variants.{Runs}
 use Rattle.landings.specs.Input.{statedLength, sheetOf, memorySize, memoryOf, transfersPlace, transfers, transferPlace}
-use Rattle.landings.specs.Lines.{lent}
-use Rattle.landings.specs.Messages.{Called, called, inputMessage, transferNumber, transferStarted, startNext, startsOn, callsOn, calls, refusalOf, callsMessage, message, behind}
+use Rattle.landings.specs.Messages.{Called, called, inputMessage, startAt, startsOn, callsOn, calls, refusalOf, message, behind}
+use Rattle.landings.specs.Inner.Ended.{callsMessage}
 use Rattle.landings.proofs.MessageLaws.{whole}
-use Rattle.landings.proofs.ReadyLaws.{ready-loaded, ready-kept}
+use Rattle.session.proofs.ReadyLaws.{ready-loaded, ready-after, passes-after}
 
 -- five words at a place
 same-five : {A : Type 0} (f : ℕ → ℕ → ℕ → ℕ → ℕ → A) {a b c d e a′ b′ c′ d′ e′ : ℕ}
@@ -34,68 +36,44 @@ same-five f {a} {b} {c} {d} {e} {a′} {b′} {c′} {d′} {e′} p q r s t =
     ap (λ x. f x b c d e) p ∙ ap (λ x. f a′ x c d e) q ∙ ap (λ x. f a′ b′ x d e) r ∙ ap (λ x. f a′ b′ c′ x e) s ∙ ap (λ x. f a′ b′ c′ d′ x) t
 
 -- a start of five words, from the words that were read
-module _ (s : List ℕ) {a b c d e : ℕ} (a′ b′ c′ d′ e′ : ℕ)
-    (p : a ≡ a′) (q : b ≡ b′) (r : c ≡ c′) (t : d ≡ d′) (u : e ≡ e′)
-    {o : Answer} {n : ℕ} (v : o ≡ answerOf (startNumber s a b c d e)) (w : n ≡ numberOf o) where
-  pub start-number-is : n ≡ startNumber s a′ b′ c′ d′ e′
-  start-number-is = number-is (startNumber s a b c d e) v w ∙ same-five (startNumber s) p q r t u
+module _ (bytes : List ℕ) (at : ℕ) (s : List ℕ) {a b c d e : ℕ}
+    (p : a ≡ wordIn bytes at) (q : b ≡ wordIn bytes (at + 1)) (r : c ≡ wordIn bytes (at + 2))
+    (t : d ≡ wordIn bytes (at + 3)) (u : e ≡ wordIn bytes (at + 4)) where
+  start-is : start a b c d e ≡ startAt bytes at
+  unfolding startAt
+  start-is = same-five start p q r t u
 
-  pub start-state-is : {s′ : List ℕ} → s′ ≡ pick (startNumber s a b c d e =? 0) (started s a b c d e) s
-      → s′ ≡ pick (n =? 0) (started s a′ b′ c′ d′ e′) s
-  start-state-is f =
-      f
-      ∙ ap (λ k. pick (k =? 0) (started s a b c d e) s) (sym (number-is (startNumber s a b c d e) v w))
-      ∙ ap (λ (x : List ℕ). pick (n =? 0) x s) (same-five (started s) p q r t u)
+  pub start-number-is : {o : Answer} {n : ℕ} → o ≡ answerOf (number (start a b c d e) (lendState s)) → n ≡ numberOf o
+      → n ≡ number (startAt bytes at) (lendState s)
+  start-number-is v w =
+      number-is (number (start a b c d e) (lendState s)) v w ∙ ap (λ (x : Call). number x (lendState s)) start-is
+
+  pub start-state-is : {s′ : List ℕ} → s′ ≡ after (start a b c d e) (lendState s) .state
+      → s′ ≡ after (startAt bytes at) (lendState s) .state
+  start-state-is f = f ∙ ap (λ (x : Call). after x (lendState s) .state) start-is
+
+-- a number and a state, as calls leave them
+abbrev stands : ℕ → List ℕ → Called
+stands n s = record { refusal = n; state = s }
 
 -- the loop over the transfers
 pub record Starting (bytes : List ℕ) (count : ℕ) (s₀ s : List ℕ) (k : ℕ) : Type 0 where
   pub within : k ≤ count
-  pub so-far : startsOn bytes s₀ k ≡ called 0 s
+  pub so-far : startsOn bytes s₀ k ≡ stands 0 s
   pub long : length s ≡ length s₀
+  pub passes : stateNumber s ≡ 0
 
-pub start-none : (bytes : List ℕ) (count : ℕ) (s : List ℕ) → Starting bytes count s s 0
+pub start-none : (bytes : List ℕ) (count : ℕ) (s : List ℕ) → stateNumber s ≡ 0 → Starting bytes count s s 0
 unfolding startsOn
-start-none bytes count s = record { within = omega arith; so-far = refl; long = refl }
+start-none bytes count s p = record { within = omega arith; so-far = refl; long = refl; passes = p }
 
--- the numbers and states of transfer k, whose words stand at a place
-module _ (bytes s : List ℕ) (k at : ℕ) (p : at ≡ transferPlace bytes k) {n : ℕ}
-    (e : n ≡ startNumber s (wordIn bytes at) (wordIn bytes (at + 1)) (wordIn bytes (at + 2)) (wordIn bytes (at + 3)) (wordIn bytes (at + 4)))
-    {s′ : List ℕ}
-    (f : s′ ≡ pick (n =? 0) (started s (wordIn bytes at) (wordIn bytes (at + 1)) (wordIn bytes (at + 2)) (wordIn bytes (at + 3)) (wordIn bytes (at + 4))) s) where
-  transfer-number : n ≡ transferNumber bytes s k
-  unfolding transferNumber
-  transfer-number =
-      e ∙ ap (λ x. startNumber s (wordIn bytes x) (wordIn bytes (x + 1)) (wordIn bytes (x + 2)) (wordIn bytes (x + 3)) (wordIn bytes (x + 4))) p
-
-  transfer-state : n ≡ 0 → s′ ≡ transferStarted bytes s k
-  unfolding transferStarted
-  transfer-state z =
-      f
-      ∙ ap (λ (t : Bool). pick t (started s (wordIn bytes at) (wordIn bytes (at + 1)) (wordIn bytes (at + 2)) (wordIn bytes (at + 3)) (wordIn bytes (at + 4))) s) (yes= z)
-      ∙ ap (λ x. started s (wordIn bytes x) (wordIn bytes (x + 1)) (wordIn bytes (x + 2)) (wordIn bytes (x + 3)) (wordIn bytes (x + 4))) p
-
-  transfer-kept : (n ≡ 0 → ⊥) → s′ ≡ s
-  transfer-kept ne =
-      f ∙ ap (λ (t : Bool). pick t (started s (wordIn bytes at) (wordIn bytes (at + 1)) (wordIn bytes (at + 2)) (wordIn bytes (at + 3)) (wordIn bytes (at + 4))) s) (no= ne)
-
-  next-done : n ≡ 0 → startNext bytes s k ≡ called 0 s′
-  unfolding startNext
-  next-done z =
-      ap (λ (t : Bool). pick t (called 0 (transferStarted bytes s k)) (called (transferNumber bytes s k) s)) (yes= (sym transfer-number ∙ z))
-      ∙ ap (λ (x : List ℕ). called 0 x) (sym (transfer-state z))
-
-  next-refused : (n ≡ 0 → ⊥) → startNext bytes s k ≡ called n s′
-  unfolding startNext
-  next-refused ne =
-      ap (λ (t : Bool). pick t (called 0 (transferStarted bytes s k)) (called (transferNumber bytes s k) s)) (no= (λ z. ne (transfer-number ∙ z)))
-      ∙ ap (λ (x : ℕ). called x s) (sym transfer-number)
-      ∙ ap (λ (x : List ℕ). called n x) (sym (transfer-kept ne))
-
-starts-next : (bytes s₀ s : List ℕ) (k : ℕ) → startsOn bytes s₀ k ≡ called 0 s → startsOn bytes s₀ (suc k) ≡ startNext bytes s k
+starts-next : (bytes s₀ s : List ℕ) (k : ℕ) → startsOn bytes s₀ k ≡ stands 0 s
+    → startsOn bytes s₀ (suc k) ≡ called (startAt bytes (transferPlace bytes k)) (lendState s)
 unfolding startsOn
 starts-next bytes s₀ s k e =
-    ap (λ (c : Called). pick (c .refusal =? 0) (startNext bytes (c .state) k) c) e
-    ∙ ap (λ (t : Bool). pick t (startNext bytes s k) (called 0 s)) (yes= refl)
+    let x = startAt bytes (transferPlace bytes k) in
+    ap (λ (c : Called). pick (c .refusal =? 0) (called x (lendState (c .state))) c) e
+    ∙ ap (λ (t : Bool). pick t (called x (lendState s)) (stands 0 s)) (yes= refl)
 
 -- behind a refusal nothing more is done
 starts-stay : (bytes s₀ : List ℕ) (n : ℕ) (c : Called) → (c .refusal ≡ 0 → ⊥) → startsOn bytes s₀ n ≡ c → (d : ℕ) → startsOn bytes s₀ (n + d) ≡ c
@@ -103,26 +81,32 @@ unfolding startsOn
 starts-stay bytes s₀ n c ne e zero = rw add-zero e
 starts-stay bytes s₀ n c ne e (suc d) =
     rw (add-suc n d)
-    (ap (λ (x : Called). pick (x .refusal =? 0) (startNext bytes (x .state) (n + d)) x) (starts-stay bytes s₀ n c ne e d)
-    ∙ ap (λ (t : Bool). pick t (startNext bytes (c .state) (n + d)) c) (no= ne))
+    (ap (λ (x : Called). pick (x .refusal =? 0) (called (startAt bytes (transferPlace bytes (n + d))) (lendState (x .state))) x)
+    (starts-stay bytes s₀ n c ne e d)
+    ∙ ap (λ (t : Bool). pick t (called (startAt bytes (transferPlace bytes (n + d))) (lendState (c .state))) c) (no= ne))
 
 module _ (bytes : List ℕ) (count : ℕ) (s₀ s : List ℕ) (k at : ℕ)
     (i : Starting bytes count s₀ s k) (l : k < count) (p : at ≡ transferPlace bytes k) {n : ℕ}
-    (e : n ≡ startNumber s (wordIn bytes at) (wordIn bytes (at + 1)) (wordIn bytes (at + 2)) (wordIn bytes (at + 3)) (wordIn bytes (at + 4)))
-    {s′ : List ℕ}
-    (f : s′ ≡ pick (n =? 0) (started s (wordIn bytes at) (wordIn bytes (at + 1)) (wordIn bytes (at + 2)) (wordIn bytes (at + 3)) (wordIn bytes (at + 4))) s) where
+    (e : n ≡ number (startAt bytes at) (lendState s))
+    {s′ : List ℕ} (f : s′ ≡ after (startAt bytes at) (lendState s) .state) where
+  next-is : startsOn bytes s₀ (suc k) ≡ stands n s′
+  next-is =
+      starts-next bytes s₀ s k (i .so-far)
+      ∙ ap (λ (a : ℕ). called (startAt bytes a) (lendState s)) (sym p)
+      ∙ ap₂ stands (sym e) (sym f)
+
   pub start-more : n ≡ 0 → length s′ ≡ length s → Starting bytes count s₀ s′ (k + 1)
   start-more z h = record {
     within = omega arith;
-    so-far = rw add-one (starts-next bytes s₀ s k (i .so-far) ∙ next-done bytes s k at p e f z);
+    so-far = rw add-one (next-is ∙ ap (λ (x : ℕ). stands x s′) z);
     long = h ∙ i .long;
+    passes = ap stateNumber f ∙ passes-after (startAt bytes at) (lendState s) (i .passes);
   }
 
-  start-stopped : (n ≡ 0 → ⊥) → startsOn bytes s₀ count ≡ called n s′
+  start-stopped : (n ≡ 0 → ⊥) → startsOn bytes s₀ count ≡ stands n s′
   start-stopped ne =
       let d : suc k + (count - suc k) ≡ count = omega (arith, l) in
-      ap (startsOn bytes s₀) (sym d)
-      ∙ starts-stay bytes s₀ (suc k) (called n s′) ne (starts-next bytes s₀ s k (i .so-far) ∙ next-refused bytes s k at p e f ne) (count - suc k)
+      ap (startsOn bytes s₀) (sym d) ∙ starts-stay bytes s₀ (suc k) (stands n s′) ne next-is (count - suc k)
 
   pub start-refused : (n ≡ 0 → ⊥) → (n ≡ startsOn bytes s₀ count .refusal) × (s′ ≡ startsOn bytes s₀ count .state)
   start-refused ne =
@@ -132,7 +116,7 @@ pub start-done : (bytes : List ℕ) (count : ℕ) (s₀ s : List ℕ) (k : ℕ) 
     → (0 ≡ startsOn bytes s₀ count .refusal) × (s ≡ startsOn bytes s₀ count .state)
 start-done bytes count s₀ s k i l =
     let q : k ≡ count = omega (arith, i .within, l) in
-    let all : startsOn bytes s₀ count ≡ called 0 s = ap (startsOn bytes s₀) (sym q) ∙ i .so-far in
+    let all : startsOn bytes s₀ count ≡ stands 0 s = ap (startsOn bytes s₀) (sym q) ∙ i .so-far in
     (sym (ap (λ (c : Called). c .refusal) all), sym (ap (λ (c : Called). c .state) all))
 
 -- where the parts lie of an input whose words are all there
@@ -159,25 +143,25 @@ sheet-good bytes e z = ap verdict z ∙ whole bytes e .passes
 
 -- the load, then the starts
 module _ (bytes s m : List ℕ) {sheet : List ℕ} (z : sheet ≡ sheetOf bytes) {o : Answer} {n : ℕ}
-    (v : o ≡ answerOf (loadNumber sheet s m)) (w : n ≡ numberOf o)
-    {s′ : List ℕ} (f : s′ ≡ pick (loadNumber sheet s m =? 0) (loaded sheet s) s) where
-  load-number : n ≡ loadNumber (sheetOf bytes) s m
-  load-number = number-is (loadNumber sheet s m) v w ∙ ap (λ (x : List ℕ). loadNumber x s m) z
+    (v : o ≡ answerOf (number (load sheet) (lend s m))) (w : n ≡ numberOf o)
+    {s′ : List ℕ} (f : s′ ≡ after (load sheet) (lend s m) .state) where
+  load-number : n ≡ number (load (sheetOf bytes)) (lend s m)
+  load-number = number-is (number (load sheet) (lend s m)) v w ∙ ap (λ (x : List ℕ). number (load x) (lend s m)) z
 
-  load-state : s′ ≡ pick (n =? 0) (loaded (sheetOf bytes) s) s
-  load-state =
-      f
-      ∙ ap (λ k. pick (k =? 0) (loaded sheet s) s) (sym (number-is (loadNumber sheet s m) v w))
-      ∙ ap (λ (x : List ℕ). pick (n =? 0) (loaded x s) s) z
+  load-state : s′ ≡ after (load (sheetOf bytes)) (lend s m) .state
+  load-state = f ∙ ap (λ (x : List ℕ). after (load x) (lend s m) .state) z
 
-  calls-refused : (n ≡ 0 → ⊥) → callsOn bytes s m ≡ called n s′
+  pub load-passes : n ≡ 0 → stateNumber s′ ≡ 0
+  load-passes q = ap stateNumber load-state ∙ memory-state _ m (ready-loaded (sheetOf bytes) s m (sym load-number ∙ q))
+
+  abbrev all-starts : Called
+  all-starts = startsOn bytes (after (load (sheetOf bytes)) (lend s m) .state) (transfers bytes)
+
+  calls-refused : (n ≡ 0 → ⊥) → callsOn bytes s m ≡ stands n s′
   unfolding callsOn
   calls-refused ne =
-      ap (λ (t : Bool). pick t (startsOn bytes (loaded (sheetOf bytes) s) (transfers bytes)) (called (loadNumber (sheetOf bytes) s m) s))
-      (no= (λ q. ne (load-number ∙ q)))
-      ∙ ap (λ k. called k s) (sym load-number)
-      ∙ ap (λ (x : List ℕ). called n x)
-      (sym (load-state ∙ ap (λ (t : Bool). pick t (loaded (sheetOf bytes) s) s) (no= ne)))
+      ap (λ (t : Bool). pick t all-starts (called (load (sheetOf bytes)) (lend s m))) (no= (λ q. ne (load-number ∙ q)))
+      ∙ ap₂ stands (sym load-number) (sym load-state)
 
   pub call-refused : (n ≡ 0 → ⊥) → (n ≡ callsOn bytes s m .refusal) × (s′ ≡ callsOn bytes s m .state)
   call-refused ne =
@@ -186,10 +170,8 @@ module _ (bytes s m : List ℕ) {sheet : List ℕ} (z : sheet ≡ sheetOf bytes)
   calls-started : n ≡ 0 → startsOn bytes s′ (transfers bytes) ≡ callsOn bytes s m
   unfolding callsOn
   calls-started q =
-      ap (λ (x : List ℕ). startsOn bytes x (transfers bytes))
-      (load-state ∙ ap (λ (t : Bool). pick t (loaded (sheetOf bytes) s) s) (yes= q))
-      ∙ sym (ap (λ (t : Bool). pick t (startsOn bytes (loaded (sheetOf bytes) s) (transfers bytes)) (called (loadNumber (sheetOf bytes) s m) s))
-      (yes= (sym load-number ∙ q)))
+      ap (λ (x : List ℕ). startsOn bytes x (transfers bytes)) load-state
+      ∙ sym (ap (λ (t : Bool). pick t all-starts (called (load (sheetOf bytes)) (lend s m))) (yes= (sym load-number ∙ q)))
 
   pub call-started : (count : ℕ) {r : ℕ} {s″ : List ℕ}
       → n ≡ 0
@@ -201,41 +183,42 @@ module _ (bytes s m : List ℕ) {sheet : List ℕ} (z : sheet ≡ sheetOf bytes)
       let same : startsOn bytes s′ count ≡ callsOn bytes s m = ap (startsOn bytes s′) c ∙ calls-started q in
       (g ∙ ap (λ (x : Called). x .refusal) same, h ∙ ap (λ (x : Called). x .state) same)
 
--- the words stay ready as long as nothing is refused
-next-ready : (bytes s m : List ℕ) (k : ℕ) → memoryNumber s m ≡ 0 → startNext bytes s k .refusal ≡ 0
-    → memoryNumber (startNext bytes s k .state) m ≡ 0
-unfolding startNext transferNumber transferStarted
-next-ready bytes s m k r e = go (transferNumber bytes s k =? 0) refl e
-  where
-    go : (t : Bool) → (transferNumber bytes s k =? 0) ≡ t
-        → pick t (called 0 (transferStarted bytes s k)) (called (transferNumber bytes s k) s) .refusal ≡ 0
-        → memoryNumber (pick t (called 0 (transferStarted bytes s k)) (called (transferNumber bytes s k) s) .state) m ≡ 0
-    go true q h =
-        ready-kept (start (wordIn bytes (transferPlace bytes k)) (wordIn bytes (transferPlace bytes k + 1)) (wordIn bytes (transferPlace bytes k + 2)) (wordIn bytes (transferPlace bytes k + 3)) (wordIn bytes (transferPlace bytes k + 4)))
-        (lent s m) refl (is= _ _ q) r
-    go false q h = r
+-- a start is lent the state alone
+pub start-alone : (bytes : List ℕ) (at : ℕ) → isAlone (startAt bytes at) ≡ true
+unfolding startAt
+start-alone bytes at = refl
 
-starts-ready : (bytes s m : List ℕ) (k : ℕ) → memoryNumber s m ≡ 0 → startsOn bytes s k .refusal ≡ 0
-    → memoryNumber (startsOn bytes s k .state) m ≡ 0
+start-loads-not : (bytes : List ℕ) (at : ℕ) → isLoad (startAt bytes at) ≡ false
+unfolding startAt
+start-loads-not bytes at = refl
+
+-- the words stay ready
+starts-ready : (bytes s m : List ℕ) (k : ℕ) → memoryNumber s m ≡ 0 → memoryNumber (startsOn bytes s k .state) m ≡ 0
 unfolding startsOn
-starts-ready bytes s m zero r e = r
-starts-ready bytes s m (suc k) r e = go (startsOn bytes s k .refusal =? 0) refl e (starts-ready bytes s m k r)
+starts-ready bytes s m zero r = r
+starts-ready bytes s m (suc k) r = go (startsOn bytes s k .refusal =? 0) (starts-ready bytes s m k r)
   where
-    go : (t : Bool) → (startsOn bytes s k .refusal =? 0) ≡ t
-        → pick t (startNext bytes (startsOn bytes s k .state) k) (startsOn bytes s k) .refusal ≡ 0
-        → (startsOn bytes s k .refusal ≡ 0 → memoryNumber (startsOn bytes s k .state) m ≡ 0)
-        → memoryNumber (pick t (startNext bytes (startsOn bytes s k .state) k) (startsOn bytes s k) .state) m ≡ 0
-    go true q h before = next-ready bytes (startsOn bytes s k .state) m k (before (is= _ _ q)) h
-    go false q h before = before h
+    next : (s : List ℕ) (x : Call) → isAlone x ≡ true → isLoad x ≡ false → memoryNumber s m ≡ 0
+        → memoryNumber (after x (lendState s) .state) m ≡ 0
+    next s x a n r =
+        ap (λ (w : Lent). memoryNumber (w .state) (w .memory)) (sym (after-alone s m x a)) ∙ ready-after x (lend s m) n r
+
+    go : (t : Bool) → memoryNumber (startsOn bytes s k .state) m ≡ 0
+        → memoryNumber (pick t (called (startAt bytes (transferPlace bytes k)) (lendState (startsOn bytes s k .state))) (startsOn bytes s k) .state) m ≡ 0
+    go true before = next _ (startAt bytes (transferPlace bytes k)) (start-alone bytes _) (start-loads-not bytes _) before
+    go false before = before
 
 pub calls-ready : (bytes s m : List ℕ) → callsOn bytes s m .refusal ≡ 0 → memoryNumber (callsOn bytes s m .state) m ≡ 0
 unfolding callsOn
-calls-ready bytes s m e = go (loadNumber (sheetOf bytes) s m =? 0) refl e
+calls-ready bytes s m e = go (number (load (sheetOf bytes)) (lend s m) =? 0) refl e
   where
-    go : (t : Bool) → (loadNumber (sheetOf bytes) s m =? 0) ≡ t
-        → pick t (startsOn bytes (loaded (sheetOf bytes) s) (transfers bytes)) (called (loadNumber (sheetOf bytes) s m) s) .refusal ≡ 0
-        → memoryNumber (pick t (startsOn bytes (loaded (sheetOf bytes) s) (transfers bytes)) (called (loadNumber (sheetOf bytes) s m) s) .state) m ≡ 0
-    go true q h = starts-ready bytes (loaded (sheetOf bytes) s) m (transfers bytes) (ready-loaded (sheetOf bytes) s m (is= _ _ q)) h
+    starts : Called
+    starts = startsOn bytes (after (load (sheetOf bytes)) (lend s m) .state) (transfers bytes)
+
+    go : (t : Bool) → (number (load (sheetOf bytes)) (lend s m) =? 0) ≡ t
+        → pick t starts (called (load (sheetOf bytes)) (lend s m)) .refusal ≡ 0
+        → memoryNumber (pick t starts (called (load (sheetOf bytes)) (lend s m)) .state) m ≡ 0
+    go true q h = starts-ready bytes _ m (transfers bytes) (ready-loaded (sheetOf bytes) s m (is= _ _ q))
     go false q h = absurd (false≢true (sym q ∙ yes= h))
 
 -- all of it upon a state of zeros and the memories of the input
@@ -246,7 +229,7 @@ module _ (bytes s m : List ℕ) {s′ : List ℕ} {r : ℕ} (e : inputMessage by
   calls-are = ap (λ (x : List ℕ). callsOn bytes x m) p ∙ ap (λ (x : List ℕ). callsOn bytes (replicate stateWords 0) x) q
 
   message-is : refusalOf r ≡ message bytes
-  unfolding message callsMessage
+  unfolding message
   message-is =
       ap refusalOf (f ∙ ap (λ (c : Called). c .refusal) calls-are)
       ∙ sym (ap (λ (x : Message). behind x (refusalOf (calls bytes .refusal))) e)

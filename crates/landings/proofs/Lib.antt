@@ -1,6 +1,6 @@
 pub mod MessageLaws
-pub mod ReadyLaws
 pub mod PageLaws
+pub mod CarriedLaws
 pub mod CallLaws
 pub mod OutputLaws
 pub mod PagingLaws

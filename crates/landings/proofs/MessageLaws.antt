@@ -5,20 +5,17 @@ use mathlib.Core.Bool.{Bool, true, false, false≢true}
 use mathlib.Core.List.{List}
 use mathlib.Core.Path.{_≡_, refl, sym, _∙_, ap}
 use native.Mathlib.Omega.{arith}
-use native.Mathlib.Decide.{decLe}
-use lib.ListN.{length, take, replicate, length-replicate}
-use lib.Seq.{length-take-le}
+use lib.ListN.{length, take, replicate}
 use Rattle.words.specs.Tests.{_<?_, _=?_}
 use Rattle.words.specs.Words.{pick, tab}
-use Rattle.words.proofs.TestLaws.{yes<, no<, yes=, no=, is=}
-use Rattle.sheet.specs.Sheet.{columns, rows, nodes, memoryWords}
+use Rattle.words.proofs.TestLaws.{yes<, no<, yes=, no=, is=, not<}
+use Rattle.sheet.specs.Sheet.{nodes, memoryWords, sheetWords}
+use Rattle.words.proofs.WordLaws.{length-zeros}
 use Rattle.sheet.specs.Rules.{verdict}
 use Rattle.octets.specs.Octets.{wordIn}
-use Rattle.soundness.proofs.SheetLaws.{sheet-bounds}
-use Rattle.session.proofs.ReadingLaws.{few-words}
 use Rattle.landings.specs.declared.input.Message.{Message}
 use Rattle.landings.specs.declared.input.Message.the-variants.{TooLarge, InputEnds, Refused, Runs}
-use Rattle.landings.specs.Input.{mostSheet, mostMemory, mostTransfers, mostCycles, statedLength, sheetOf, memoryPlace, memorySize, transfersPlace, transfers, cyclesPlace, cyclesAsked}
+use Rattle.landings.specs.Input.{mostMemory, mostTransfers, mostCycles, statedLength, sheetOf, memoryPlace, memorySize, transfersPlace, transfers, cyclesPlace, cyclesAsked}
 use Rattle.landings.specs.Messages.{cyclesMessage, transfersMessage, memoryMessage, checkedMessage, inputMessage}
 
 -- a test applies, or it does not and the rest decides
@@ -79,20 +76,6 @@ module _ (b : List ℕ) {size : ℕ} (e : size ≡ memorySize b) where
   unfolding memoryMessage
   memory-on l r = goes _ _ (no< (omega (arith, e, l))) r
 
--- their size, from the first three words of a sheet that passes
-module _ (z : List ℕ) (e : verdict z ≡ 0) {a b : ℕ} (p : a ≡ columns z) (q : b ≡ rows z) where
-  pub nodes-are : a * b ≡ nodes z
-  nodes-are = ap (λ x. x * b) p ∙ ap (λ x. columns z * x) q
-
-  pub few-nodes : a * b ≤ 16
-  few-nodes = omega (arith, nodes-are, sheet-bounds z e .few-nodes)
-
-  pub size-is : {c : ℕ} → c ≡ memoryWords z → a * b * c ≡ nodes z * memoryWords z
-  size-is {c} r = ap (λ x. x * c) nodes-are ∙ ap (λ x. nodes z * x) r
-
-  pub few-in-all : {c : ℕ} → c ≡ memoryWords z → a * b * c ≤ 262144
-  few-in-all r = omega (arith, size-is r, few-words z (sheet-bounds z e))
-
 -- the checker
 module _ (b : List ℕ) {sheet : List ℕ} {n : ℕ} (l : n ≡ statedLength b) (q : sheet ≡ tab n (λ k. wordIn b (1 + k))) where
   pub sheet-is : sheet ≡ sheetOf b
@@ -122,11 +105,11 @@ module _ (b : List ℕ) where
   no-length h = stops _ _ (yes< h)
 
   module _ (h : 4 ≤ length b) {count : ℕ} (e : count ≡ wordIn b 0) where
-    pub sheet-over : mostSheet < count → TooLarge ≡ inputMessage b
+    pub sheet-over : sheetWords < count → TooLarge ≡ inputMessage b
     unfolding inputMessage
     sheet-over l = goes _ _ (no< h) (stops _ _ (yes< (omega (arith, e, l))))
 
-    module _ (l : count ≤ mostSheet) where
+    module _ (l : count ≤ sheetWords) where
       pub sheet-ends : length b < 4 * (1 + count) → InputEnds ≡ inputMessage b
       unfolding inputMessage
       sheet-ends k = goes _ _ (no< h) (goes _ _ (no< (omega (arith, e, l))) (stops _ _ (yes< (omega (arith, e, k)))))
@@ -136,19 +119,16 @@ module _ (b : List ℕ) where
       sheet-on k r = goes _ _ (no< h) (goes _ _ (no< (omega (arith, e, l))) (goes _ _ (no< (omega (arith, e, k))) r))
 
 -- the part of the room for a sheet, or for memories, that an input needs
-pub part-length : (n m : ℕ) → n ≤ m → length {A = ℕ} (take n (replicate m 0)) ≡ n
-part-length n m h = length-take-le n (replicate m 0) (omega (arith, length-replicate {A = ℕ} m 0))
-
-pub part-ready : (n m : ℕ) (b : List ℕ) → n ≤ m → m ≤ 8597 → 4 * (1 + n) ≤ length b → n ≡ statedLength b
+pub part-ready : (n m : ℕ) (b : List ℕ) → n ≤ m → m ≤ sheetWords → 4 * (1 + n) ≤ length b → n ≡ statedLength b
     → (4 * (1 + length {A = ℕ} (take n (replicate m 0))) ≤ length b)
     × (length {A = ℕ} (take n (replicate m 0)) ≡ statedLength b)
-    × (length {A = ℕ} (take n (replicate m 0)) ≤ 8597)
-part-ready n m b h s k e = (omega (arith, part-length n m h), part-length n m h ∙ e, omega (arith, part-length n m h))
+    × (length {A = ℕ} (take n (replicate m 0)) ≤ sheetWords)
+part-ready n m b h s k e = (omega (arith, length-zeros n m h), length-zeros n m h ∙ e, omega (arith, length-zeros n m h))
 
 -- what an input has whose words are all there
 pub record Whole (bytes : List ℕ) : Type 0 where
   pub some : 4 ≤ length bytes
-  pub small-sheet : statedLength bytes ≤ mostSheet
+  pub small-sheet : statedLength bytes ≤ sheetWords
   pub sheet-there : 4 * memoryPlace bytes ≤ length bytes
   pub passes : verdict (sheetOf bytes) ≡ 0
   pub small-memory : memorySize bytes ≤ mostMemory
@@ -170,13 +150,6 @@ passed false a b n e = (refl, e)
 accepted : (t : Bool) (a b : Message) → isRuns b ≡ false → pick t a b ≡ Runs → (t ≡ true) × (a ≡ Runs)
 accepted true a b n e = (refl, e)
 accepted false a b n e = absurd (false≢true (sym n ∙ ap isRuns e))
-
-not-less : (a b : ℕ) → (a <? b) ≡ false → b ≤ a
-not-less a b e = go (decLe b a)
-  where
-    go : Dec (b ≤ a) → b ≤ a
-    go (yes p) = p
-    go (no p) = absurd (false≢true (sym e ∙ yes< (omega (arith, p))))
 
 module _ (b : List ℕ) where
   cycles-passed : cyclesMessage b ≡ Runs → ((length b <? 4 * (cyclesPlace b + 1)) ≡ false) × ((mostCycles <? cyclesAsked b) ≡ false)
@@ -201,12 +174,12 @@ module _ (b : List ℕ) where
   checked-passed e = accepted (verdict (sheetOf b) =? 0) (memoryMessage b) (Refused (verdict (sheetOf b))) refl e
 
   sheet-passed : inputMessage b ≡ Runs
-      → ((length b <? 4 * 1) ≡ false) × ((mostSheet <? statedLength b) ≡ false) × ((length b <? 4 * memoryPlace b) ≡ false) × (checkedMessage b ≡ Runs)
+      → ((length b <? 4 * 1) ≡ false) × ((sheetWords <? statedLength b) ≡ false) × ((length b <? 4 * memoryPlace b) ≡ false) × (checkedMessage b ≡ Runs)
   unfolding inputMessage
   sheet-passed e =
       let last = pick (length b <? 4 * memoryPlace b) InputEnds (checkedMessage b) in
-      let p = passed (length b <? 4 * 1) InputEnds (pick (mostSheet <? statedLength b) TooLarge last) refl e in
-      let q = passed (mostSheet <? statedLength b) TooLarge last refl (p .1) in
+      let p = passed (length b <? 4 * 1) InputEnds (pick (sheetWords <? statedLength b) TooLarge last) refl e in
+      let q = passed (sheetWords <? statedLength b) TooLarge last refl (p .1) in
       let r = passed (length b <? 4 * memoryPlace b) InputEnds (checkedMessage b) refl (q .1) in
       (p .0, q .0, r .0, r .1)
 
@@ -218,19 +191,19 @@ module _ (b : List ℕ) where
       let t = transfers-passed (r .1) in
       let c = cycles-passed (t .1) in
       record {
-        some = not-less _ _ (p .0);
-        small-sheet = not-less _ _ (p .1);
-        sheet-there = not-less _ _ (p .2);
+        some = not< _ _ (p .0);
+        small-sheet = not< _ _ (p .1);
+        sheet-there = not< _ _ (p .2);
         passes = is= _ _ (q .0);
-        small-memory = not-less _ _ (r .0);
-        few-transfers = not-less _ _ (t .0);
-        long = not-less _ _ (c .0);
-        few-cycles = not-less _ _ (c .1);
+        small-memory = not< _ _ (r .0);
+        few-transfers = not< _ _ (t .0);
+        long = not< _ _ (c .0);
+        few-cycles = not< _ _ (c .1);
       }
 
   -- where its parts lie: the place of the transfers, their number, and the place of the cycles
   module _ (e : inputMessage b ≡ Runs) (at : ℕ) (p : at ≡ transfersPlace b) where
-    pub transfers-there : (4 * at + 3 < length b) × (at ≤ 12694)
+    pub transfers-there : (4 * at + 3 < length b) × (at ≤ 1 + sheetWords + mostMemory)
     transfers-there =
         let w = whole e in
         (omega (arith, p, w .long), omega (arith, p, w .small-sheet, w .small-memory))

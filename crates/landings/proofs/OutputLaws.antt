@@ -3,28 +3,30 @@
 use Prim.Native.Nat.{ℕ, zero, suc, _+_, _*_, _≤_}
 use mathlib.Core.Bool.{false, false≢true}
 use mathlib.Core.List.{List, [], _++_, append-assoc, append-nil}
-use mathlib.Core.Path.{_≡_, refl, sym, _∙_, ap}
+use mathlib.Core.Path.{_≡_, refl, sym, _∙_, ap, subst}
 use native.Mathlib.Omega.{arith}
 use native.Mathlib.Nat.{add-zero, zero-add, add-suc}
-use lib.ListN.{length, take, drop, replicate, length-append}
-use lib.Seq.{take-append-seam, drop-at}
-use Rattle.words.specs.Words.{putAll}
-use Rattle.words.proofs.WordLaws.{length-putAll}
+use lib.ListN.{length, take, drop, replicate, length-append, take-append-drop}
+use lib.Seq.{take-append-seam, drop-at, length-take-le}
+use Rattle.words.specs.Inner.Puts.{putAll}
+use Rattle.words.proofs.WordLaws.{length-putAll, putAll-front}
 use Rattle.sheet.specs.Sheet.{nodes}
 use Rattle.network.specs.Registers.{stateWords}
 use Rattle.soundness.proofs.SheetLaws.{sheet-bounds}
-use Rattle.session.specs.Calls.{memoryNumber, Lent, cycle, after}
+use Rattle.session.specs.Calls.{memoryNumber, Lent, cycle, after, lend}
 use Rattle.listing.specs.Text.{lineEnd, field}
-use Rattle.listing.proofs.TextLaws.{putAll-front, field-short}
+use Rattle.listing.proofs.TextLaws.{field-short}
 use Rattle.landings.specs.declared.input.Message.{Message}
 use Rattle.landings.specs.declared.input.Message.the-variants.{TooLarge, InputEnds, Refused, Runs}
 use Rattle.landings.specs.Input.{sheetOf, memoryOf, cyclesAsked}
-use Rattle.landings.specs.Messages.{inputMessage, calls, refusalOf, callsMessage, message, behind}
-use Rattle.landings.specs.Lines.{lent, cycleLines, cyclesLines, cyclesOn}
+use Rattle.landings.specs.Messages.{inputMessage, calls, refusalOf, message, behind}
+use Rattle.landings.specs.Inner.Ended.{callsMessage, cyclesDone, cyclesRun, atEnd}
+use Rattle.landings.specs.Lines.{cycleLines, cyclesLines, cyclesOn, carriedOut, refusedLine, lastLine}
 use Rattle.listing.specs.Text.{tooLarge, inputEnds, refused}
-use Rattle.landings.specs.Output.{heading, beforeCycles, allLines, printed, printout, HasAt, cyclesRun, atEnd}
+use Rattle.landings.specs.Output.{heading, beforeCycles, allLines, printed, printout, HasAt}
 use Rattle.landings.proofs.MessageLaws.{whole, isRuns}
 use Rattle.landings.proofs.PageLaws.{lines-short}
+use Rattle.landings.proofs.CarriedLaws.{carried-most, last-short}
 use Rattle.landings.proofs.CallLaws.{calls-ready}
 
 -- a text has a part between two others
@@ -50,6 +52,32 @@ has-whole part e p = has-front part [] (e ∙ sym (append-nil part)) p
 pub has-back : (before part : List ℕ) {text : List ℕ} {place : ℕ} → text ≡ before ++ part → place ≡ length before → HasAt text place part
 has-back before part e p = has-between before part [] (e ∙ ap (λ (x : List ℕ). before ++ x) (sym (append-nil part))) p
 
+-- and where it has two parts one behind the other, it has each
+module _ (a b text : List ℕ) (place : ℕ) (h : HasAt text place (a ++ b)) where
+  behind-both : List ℕ
+  behind-both = drop (length (a ++ b)) (drop place text)
+
+  split : text ≡ take place text ++ (a ++ (b ++ behind-both))
+  unfolding behind-both
+  split =
+      sym (take-append-drop place text)
+      ∙ ap (λ (x : List ℕ). take place text ++ x)
+      (sym (take-append-drop (length (a ++ b)) (drop place text))
+      ∙ ap (λ (x : List ℕ). x ++ drop (length (a ++ b)) (drop place text)) (h .1)
+      ∙ append-assoc a b (drop (length (a ++ b)) (drop place text)))
+
+  front-long : length (take place text) ≡ place
+  front-long = length-take-le place text (omega (arith, h .0))
+
+  pub has-first : HasAt text place a
+  has-first = has-between (take place text) a (b ++ behind-both) split (sym front-long)
+
+  pub has-second : {next : ℕ} → next ≡ place + length a → HasAt text next b
+  has-second q =
+      has-between (take place text ++ a) b behind-both
+      (split ∙ sym (append-assoc (take place text) a (b ++ behind-both)))
+      (omega (arith, q, front-long, length-append (take place text) a))
+
 -- an input that runs: its words are all there, and no call before the cycles is refused
 both-run : (a b : Message) → behind a b ≡ Runs → (a ≡ Runs) × (b ≡ Runs)
 both-run TooLarge b e = absurd (false≢true (ap isRuns e))
@@ -66,7 +94,7 @@ unfolding message
 runs-whole bytes e = both-run (inputMessage bytes) (callsMessage bytes) e .0
 
 pub runs-called : (bytes : List ℕ) → message bytes ≡ Runs → calls bytes .refusal ≡ 0
-unfolding message callsMessage
+unfolding message
 runs-called bytes e = none-refused (calls bytes .refusal) (both-run (inputMessage bytes) (callsMessage bytes) e .1)
 
 -- a message that is no listing comes of the input alone
@@ -117,31 +145,34 @@ all-short nodes first (suc k) w few =
       length-append (cyclesLines nodes first k w) (cycleLines nodes (first + k) (cyclesOn (suc k) w .state)),
     )
 
-pub output-short : (bytes : List ℕ) → length (printout bytes) ≤ 62914589
+pub output-short : (bytes : List ℕ) → length (printout bytes) ≤ 62914609
 unfolding printout tooLarge inputEnds refused heading allLines
 output-short bytes = go (message bytes) refl
   where
-    go : (v : Message) → message bytes ≡ v → length (printed v (allLines bytes)) ≤ 62914589
+    go : (v : Message) → message bytes ≡ v → length (printed v (allLines bytes)) ≤ 62914609
     go TooLarge e = omega arith
     go InputEnds e = omega arith
     go (Refused n) e = omega (arith, length-append refused (field n lineEnd), field-short n lineEnd)
     go Runs e =
         let w = whole bytes (runs-whole bytes e) in
         let few : nodes (sheetOf bytes) ≤ 16 = sheet-bounds (sheetOf bytes) (w .passes) .few-nodes in
+        let lines = cyclesLines (nodes (sheetOf bytes)) 0 (cyclesDone bytes) (beforeCycles bytes) in
         omega (
           arith,
           w .few-cycles,
+          carried-most (cyclesAsked bytes) (beforeCycles bytes),
           length-append heading (allLines bytes),
-          all-short (nodes (sheetOf bytes)) 0 (cyclesAsked bytes) (beforeCycles bytes) few,
+          length-append lines (lastLine (cyclesAsked bytes) (beforeCycles bytes)),
+          all-short (nodes (sheetOf bytes)) 0 (cyclesDone bytes) (beforeCycles bytes) few,
+          last-short (cyclesAsked bytes) (beforeCycles bytes),
         )
 
 -- the line of a refusal, in two parts
-module _ (bytes : List ℕ) (n : ℕ) (e : message bytes ≡ Refused n) where
-  pub refused-has : {place : ℕ} → place ≡ 0 → HasAt (printout bytes) place refused
-  refused-has p = has-front refused (field n lineEnd) (output-is bytes e) p
+module _ (bytes : List ℕ) (n place : ℕ) (h : HasAt (printout bytes) place (refusedLine n)) where
+  pub refused-has : HasAt (printout bytes) place refused
+  refused-has = has-first refused (field n lineEnd) (printout bytes) place h
 
-  module _ (start line : List ℕ) (end place next : ℕ)
-      (p : place ≡ 0) (q : next ≡ place + length refused) (l : 12 ≤ length start)
+  module _ (start line : List ℕ) (end next : ℕ) (q : next ≡ place + length refused) (l : 12 ≤ length start)
       (f : end ≡ 0 + length (field n lineEnd)) (g : line ≡ putAll start 0 (field n lineEnd)) where
     pub number-fits : end ≤ length line
     number-fits = omega (arith, f, l, field-short n lineEnd, ap length g, length-putAll start (field n lineEnd) 0)
@@ -153,20 +184,10 @@ module _ (bytes : List ℕ) (n : ℕ) (e : message bytes ≡ Refused n) where
         ∙ putAll-front start (field n lineEnd) (omega (arith, l, field-short n lineEnd))
 
     pub number-has : HasAt (printout bytes) next (take end line)
-    number-has =
-        has-back refused (take end line) (output-is bytes e ∙ ap (λ (x : List ℕ). refused ++ x) (sym number-is)) (omega (arith, p, q))
+    number-has = subst (HasAt (printout bytes) next) (sym number-is) (has-second refused (field n lineEnd) (printout bytes) place h q)
 
-    pub refused-done : {last : ℕ} → last ≡ next + length (take end line) → last ≡ length (printout bytes)
-    refused-done r =
-        omega (
-          arith,
-          p,
-          q,
-          r,
-          ap length number-is,
-          ap length (output-is bytes e),
-          length-append refused (field n lineEnd),
-        )
+    pub refused-done : {last : ℕ} → last ≡ next + length (take end line) → last ≡ place + length (refusedLine n)
+    refused-done r = omega (arith, q, r, ap length number-is, length-append refused (field n lineEnd))
 
 -- the message from the number of the load and the starts
 pub refusal-is : (bytes : List ℕ) (n : ℕ) → (n ≡ 0 → ⊥) → refusalOf n ≡ message bytes → message bytes ≡ Refused n
@@ -177,33 +198,35 @@ pub no-refusal-is : (bytes : List ℕ) (n : ℕ) → n ≡ 0 → refusalOf n ≡
 no-refusal-is bytes n z e = sym e ∙ ap refusalOf z
 
 -- the lent words before the cycles, and at the end
-pub before-is : (bytes : List ℕ) {s m : List ℕ} → s ≡ calls bytes .state → m ≡ memoryOf bytes → lent s m ≡ beforeCycles bytes
+pub before-is : (bytes : List ℕ) {s m : List ℕ} → s ≡ calls bytes .state → m ≡ memoryOf bytes → lend s m ≡ beforeCycles bytes
 unfolding beforeCycles
-before-is bytes {s} {m} e f = ap (λ (x : List ℕ). lent x m) e ∙ ap (λ (x : List ℕ). lent (calls bytes .state) x) f
+before-is bytes {s} {m} e f = ap (λ (x : List ℕ). lend x m) e ∙ ap (λ (x : List ℕ). lend (calls bytes .state) x) f
 
 pub end-refused : (bytes : List ℕ) (n : ℕ) {w : Lent} → message bytes ≡ Refused n → w ≡ beforeCycles bytes → w ≡ atEnd bytes
 unfolding atEnd cyclesOn
-end-refused bytes n e f = f ∙ sym (ap (λ (x : Message). cyclesOn (cyclesRun x (cyclesAsked bytes)) (beforeCycles bytes)) e)
+end-refused bytes n e f = f ∙ sym (ap (λ (x : Message). cyclesOn (cyclesRun x (cyclesDone bytes)) (beforeCycles bytes)) e)
 
-pub end-runs : (bytes : List ℕ) {w : Lent} → message bytes ≡ Runs → w ≡ cyclesOn (cyclesAsked bytes) (beforeCycles bytes) → w ≡ atEnd bytes
+pub end-runs : (bytes : List ℕ) {w : Lent} → message bytes ≡ Runs → w ≡ cyclesOn (cyclesDone bytes) (beforeCycles bytes) → w ≡ atEnd bytes
 unfolding atEnd
-end-runs bytes e f = f ∙ sym (ap (λ (x : Message). cyclesOn (cyclesRun x (cyclesAsked bytes)) (beforeCycles bytes)) e)
+end-runs bytes e f = f ∙ sym (ap (λ (x : Message). cyclesOn (cyclesRun x (cyclesDone bytes)) (beforeCycles bytes)) e)
 
 -- the words are ready for the cycles
-pub before-ready : (bytes : List ℕ) {s m : List ℕ} → message bytes ≡ Runs → lent s m ≡ beforeCycles bytes → memoryNumber s m ≡ 0
+pub before-ready : (bytes : List ℕ) {s m : List ℕ} → message bytes ≡ Runs → lend s m ≡ beforeCycles bytes → memoryNumber s m ≡ 0
 unfolding beforeCycles calls
 before-ready bytes e f =
     ap (λ (x : Lent). memoryNumber (x .state) (x .memory)) f
     ∙ calls-ready bytes (replicate stateWords 0) (memoryOf bytes) (runs-called bytes e)
 
--- the output is the heading and the lines, as many as the input has nodes and cycles
+-- the output is the heading and the lines, by the nodes and cycles of the input
 pub lines-are : (bytes : List ℕ) (n last : ℕ) → message bytes ≡ Runs → n ≡ nodes (sheetOf bytes) → last ≡ cyclesAsked bytes
-    → printout bytes ≡ heading ++ cyclesLines n 0 last (beforeCycles bytes)
+    → printout bytes
+    ≡ heading ++ (cyclesLines n 0 (carriedOut last (beforeCycles bytes)) (beforeCycles bytes) ++ lastLine last (beforeCycles bytes))
 unfolding allLines
 lines-are bytes n last e p q =
+    let w = beforeCycles bytes in
     output-is bytes e
-    ∙ ap (λ k. heading ++ cyclesLines k 0 (cyclesAsked bytes) (beforeCycles bytes)) (sym p)
-    ∙ ap (λ k. heading ++ cyclesLines n 0 k (beforeCycles bytes)) (sym q)
+    ∙ ap (λ k. heading ++ (cyclesLines k 0 (cyclesDone bytes) w ++ lastLine (cyclesAsked bytes) w)) (sym p)
+    ∙ ap (λ k. heading ++ (cyclesLines n 0 (carriedOut k w) w ++ lastLine k w)) (sym q)
 
 pub few-nodes : (bytes : List ℕ) {n : ℕ} → message bytes ≡ Runs → n ≡ nodes (sheetOf bytes) → n ≤ 16
 few-nodes bytes e p = omega (arith, p, sheet-bounds (sheetOf bytes) (whole bytes (runs-whole bytes e) .passes) .few-nodes)

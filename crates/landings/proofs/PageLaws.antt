@@ -1,38 +1,35 @@
 -- The lines of a page: a node's, a cycle's, and those of the cycles that a page has, put into the buffer one behind the other.
 -- Assumes nothing.
 use Prim.Native.Nat.{ℕ, zero, suc, _+_, _-_, _*_, _≤_, _<_}
-use mathlib.Core.Bool.{Bool, true, false}
 use mathlib.Core.List.{List, [], _++_}
-use mathlib.Core.Path.{_≡_, refl, sym, _∙_, ap}
+use mathlib.Core.Path.{_≡_, refl, sym, _∙_, ap, ap₂}
 use native.Mathlib.Omega.{arith}
-use native.Mathlib.Nat.{add-zero, zero-add}
+use native.Mathlib.Nat.{add-zero}
 use native.Mathlib.Numerals.{add-one}
-use native.Mathlib.Decide.{decLt}
+use native.Mathlib.Decide.{decLt, ℕ-discrete}
 use lib.ListN.{length, take, length-append}
-use Rattle.words.specs.Tests.{_<?_, _=?_}
-use Rattle.words.specs.Words.{pick, putAll, leastFrom}
-use Rattle.words.proofs.TestLaws.{yes<, no<, is=}
-use Rattle.words.proofs.WordLaws.{length-putAll, leastFrom-most}
+use Rattle.words.specs.Inner.Puts.{putAll}
+use Rattle.words.proofs.WordLaws.{length-putAll, putAll-behind, putAll-front}
 use Rattle.network.specs.View.{Landing, nothing, landed}
-use Rattle.network.specs.Inner.Machine.{nextState, nextMemory}
 use Rattle.session.specs.declared.Landed.{Landed}
 use Rattle.session.specs.declared.Landed.the-variants.{Nothing, Word as LandedWord, Refused as LandedRefused}
 use Rattle.session.specs.Answers.{landedOf}
-use Rattle.session.specs.Calls.{memoryNumber, cycleNumber, lastLanding, Lent, cycle, number, does, after}
+use Rattle.session.specs.Calls.{memoryNumber, lastLanding, Lent, lend, cycle, number, after}
 use Rattle.session.proofs.KeptLaws.{state-length-kept, memory-length-kept}
+use Rattle.session.proofs.WritingLaws.{state-kept, memory-kept}
 use Rattle.listing.specs.Text.{landingLine}
-use Rattle.listing.proofs.TextLaws.{least-is, line-short, put-behind, putAll-front}
-use Rattle.landings.specs.Lines.{lent, lineFor, cycleLines, cyclesLines, cyclesOn}
-use Rattle.landings.specs.Inner.Pages.{cycleRoom, pageCycles}
-use Rattle.landings.proofs.ReadyLaws.{ready-kept}
+use Rattle.listing.proofs.TextLaws.{line-short}
+use Rattle.landings.specs.Lines.{lineFor, cycleLines, cyclesLines, cyclesOn}
+use Rattle.landings.specs.Inner.Pages.{Paged}
+use Rattle.session.proofs.ReadyLaws.{after-has, ready-after}
 
 -- the line of an answer
-abbrev pub textOf : ℕ → ℕ → Landed → List ℕ
-textOf time node Nothing = []
-textOf time node (LandedWord kind address payload) = landingLine time node address payload kind
-textOf time node (LandedRefused n) = []
+abbrev pub landingText : ℕ → ℕ → Landed → List ℕ
+landingText time node Nothing = []
+landingText time node (LandedWord kind address payload) = landingLine time node address payload kind
+landingText time node (LandedRefused n) = []
 
-text-is : (time node : ℕ) (l : Landing) → textOf time node (landedOf 0 l) ≡ lineFor time node l
+text-is : (time node : ℕ) (l : Landing) → landingText time node (landedOf 0 l) ≡ lineFor time node l
 text-is time node nothing = refl
 text-is time node (landed kind address payload) = refl
 
@@ -41,10 +38,10 @@ line-for-short time node nothing = omega arith
 line-for-short time node (landed kind address payload) = line-short time node address payload kind
 
 module _ (time node : ℕ) (l : Landing) {o : Landed} (p : o ≡ landedOf 0 l) where
-  line-of : textOf time node o ≡ lineFor time node l
-  line-of = ap (textOf time node) p ∙ text-is time node l
+  line-of : landingText time node o ≡ lineFor time node l
+  line-of = ap (landingText time node) p ∙ text-is time node l
 
-  pub none-put : textOf time node o ≡ [] → (at : ℕ) (buffer : List ℕ)
+  pub none-put : landingText time node o ≡ [] → (at : ℕ) (buffer : List ℕ)
       → (at ≡ at + length (lineFor time node l)) × (buffer ≡ putAll buffer at (lineFor time node l))
   unfolding putAll
   none-put e at buffer =
@@ -57,7 +54,7 @@ module _ (time node : ℕ) (l : Landing) {o : Landed} (p : o ≡ landedOf 0 l) w
       → written ≡ putAll buffer at (landingLine time node address payload kind)
       → (place ≡ at + length (lineFor time node l)) × (written ≡ putAll buffer at (lineFor time node l))
   some-put kind address payload at buffer e f g =
-      let same : landingLine time node address payload kind ≡ lineFor time node l = sym (ap (textOf time node) e) ∙ line-of in
+      let same : landingLine time node address payload kind ≡ lineFor time node l = sym (ap (landingText time node) e) ∙ line-of in
       (f ∙ ap (λ (x : List ℕ). at + length x) same, g ∙ ap (λ (x : List ℕ). putAll buffer at x) same)
 
 -- the loop over the nodes
@@ -97,7 +94,7 @@ lines-more nodes time s start buffer at place node {next} {written} i l p b =
       long = ap length b ∙ length-putAll buffer line place ∙ i .long;
       placed = omega (arith, p, i .placed, more);
       bytes =
-          put-behind start before line at place (i .bytes) (i .placed) b
+          putAll-behind start before line at place (i .bytes) (i .placed) b
           ∙ ap (λ (x : List ℕ). putAll start at x) (sym (cycle-more node time s));
       short = omega (arith, more, i .short, line-for-short time node (lastLanding s node));
     }
@@ -123,81 +120,17 @@ lines-short (suc n) time s =
     )
 
 -- a cycle, from what it leaves of state and memory
-lent-either : (t : Bool) (a b s m : List ℕ) → lent (pick t a s) (pick t b m) ≡ pick t (lent a b) (lent s m)
-lent-either true a b s m = refl
-lent-either false a b s m = refl
-
 pub cycle-after : (s m : List ℕ) {s′ m′ : List ℕ}
-    → s′ ≡ pick (cycleNumber s m =? 0) (nextState s m) s
-    → m′ ≡ pick (cycleNumber s m =? 0) (nextMemory s m) m
-    → lent s′ m′ ≡ after cycle (lent s m)
-unfolding after
-cycle-after s m {s′} {m′} e f =
-    ap (λ (x : List ℕ). lent x m′) e
-    ∙ ap (λ (y : List ℕ). lent (pick (cycleNumber s m =? 0) (nextState s m) s) y) f
-    ∙ lent-either (cycleNumber s m =? 0) (nextState s m) (nextMemory s m) s m
-
--- what holds of words that stay, and of words after a cycle that is carried out, holds of the words after a cycle
-after-has : (P : Lent → Type 0) (w : Lent) → (number cycle w ≡ 0 → P (does cycle w)) → P w → P (after cycle w)
-unfolding after
-after-has P w a b = go (number cycle w =? 0) refl
-  where
-    go : (t : Bool) → (number cycle w =? 0) ≡ t → P (pick t (does cycle w) w)
-    go true e = a (is= _ _ e)
-    go false e = b
-
--- how many cycles a page has: none of those before it fills the page
-least-none : (test : ℕ → Bool) (n k : ℕ) → ((j : ℕ) → k ≤ j → j < k + n → test j ≡ false) → leastFrom n k test ≡ k + n
-unfolding leastFrom
-least-none test zero k f = sym (add-zero k)
-least-none test (suc n) k f =
-    let here : test k ≡ false = f k (omega arith) (omega arith) in
-    let next : k + 1 + n ≡ k + suc n = omega arith in
-    rw (here, leastFrom) (least-none test n (k + 1) (λ j a b. f j (omega arith) (omega arith)) ∙ next)
-
-least-from : (test : ℕ → Bool) (n k : ℕ) → k ≤ leastFrom n k test
-unfolding leastFrom
-least-from test zero k = omega arith
-least-from test (suc n) k = go (test k) (least-from test n (k + 1))
-  where
-    go : (t : Bool) → k + 1 ≤ leastFrom n (k + 1) test → k ≤ elim t [ true ↦ k | false ↦ leastFrom n (k + 1) test ]
-    go true h = omega arith
-    go false h = omega arith
-
-module _ (size nodes first left : ℕ) (w : Lent) where
-  -- the page has no room for another cycle
-  abbrev isFull : ℕ → Bool
-  isFull k = size <? length (cyclesLines nodes first k w) + cycleRoom
-
-  page-stopped : (n : ℕ) → n < left → isFull n ≡ true → ((j : ℕ) → j < n → isFull j ≡ false) → n ≡ pageCycles size nodes first left w
-  unfolding pageCycles
-  page-stopped n l e f = sym (least-is isFull left 0 n (omega arith) (omega arith) e (λ j a b. f j b))
-
-  page-over : ((j : ℕ) → j < left → isFull j ≡ false) → left ≡ pageCycles size nodes first left w
-  unfolding pageCycles
-  page-over f = sym (least-none isFull left 0 (λ j a b. f j (omega arith)) ∙ zero-add left)
-
-  -- it has no more than are left, and at least one where any is
-  pub page-most : pageCycles size nodes first left w ≤ left
-  unfolding pageCycles
-  page-most = omega (arith, leastFrom-most isFull left 0)
-
-  pub page-some : cycleRoom ≤ size → 0 < left → 0 < pageCycles size nodes first left w
-  unfolding pageCycles cyclesLines leastFrom
-  page-some r l = go left l
-    where
-      none : isFull 0 ≡ false
-      none = no< (omega arith)
-
-      go : (n : ℕ) → 0 < n → 0 < leastFrom n 0 isFull
-      go zero h = absurd (let z : ⊥ = omega arith in z)
-      go (suc n) h = rw (none, leastFrom) (omega (arith, least-from isFull n 1))
+    → s′ ≡ after cycle (lend s m) .state
+    → m′ ≡ after cycle (lend s m) .memory
+    → lend s′ m′ ≡ after cycle (lend s m)
+cycle-after s m e f = ap₂ lend e f
 
 -- the loop over the cycles of a page
 pub record Filling (nodes first last : ℕ) (w : Lent) (start s m buffer : List ℕ) (at time : ℕ) : Type 0 where
   pub begun : first ≤ time
   pub in-time : time ≤ last
-  pub words : lent s m ≡ cyclesOn (time - first) w
+  pub words : lend s m ≡ cyclesOn (time - first) w
   pub ready : memoryNumber s m ≡ 0
   pub state-long : length s ≡ length (w .state)
   pub memory-long : length m ≡ length (w .memory)
@@ -205,10 +138,10 @@ pub record Filling (nodes first last : ℕ) (w : Lent) (start s m buffer : List 
   pub placed : at ≡ length (cyclesLines nodes first (time - first) w)
   pub bytes : buffer ≡ putAll start 0 (cyclesLines nodes first (time - first) w)
   pub fits : at ≤ length start
-  pub roomy : (j : ℕ) → j < time - first → isFull (length start) nodes first (last - first) w j ≡ false
+  pub carried : (j : ℕ) → j < time - first → number cycle (cyclesOn j w) ≡ 0
 
 pub fill-start : (nodes first last : ℕ) (start s m : List ℕ) → first ≤ last → memoryNumber s m ≡ 0
-    → Filling nodes first last (lent s m) start s m start 0 first
+    → Filling nodes first last (lend s m) start s m start 0 first
 unfolding cyclesOn cyclesLines putAll
 fill-start nodes first last start s m l r =
     let none : first - first ≡ 0 = omega arith in
@@ -223,31 +156,31 @@ fill-start nodes first last start s m l r =
       placed = rw none refl;
       bytes = rw none refl;
       fits = omega arith;
-      roomy = λ j h. absurd (let z : ⊥ = omega arith in z);
+      carried = λ j h. absurd (let z : ⊥ = omega arith in z);
     }
 
 module _ (nodes first last : ℕ) (w : Lent) (start s m buffer : List ℕ) (at time : ℕ)
     (i : Filling nodes first last w start s m buffer at time)
     {s′ m′ : List ℕ}
-    (f : lent s′ m′ ≡ after cycle (lent s m)) where
+    (f : lend s′ m′ ≡ after cycle (lend s m)) where
   still-ready : memoryNumber s′ m′ ≡ 0
   still-ready =
       ap (λ (x : Lent). memoryNumber (x .state) (x .memory)) f
-      ∙ after-has (λ (x : Lent). memoryNumber (x .state) (x .memory) ≡ 0) (lent s m) (λ e. ready-kept cycle (lent s m) refl e (i .ready)) (i .ready)
+      ∙ ready-after cycle (lend s m) refl (i .ready)
 
-  still-long : length s′ ≡ length (w .state)
+  pub still-long : length s′ ≡ length (w .state)
   still-long =
       ap (λ (x : Lent). length (x .state)) f
-      ∙ after-has (λ (x : Lent). length (x .state) ≡ length s) (lent s m) (λ e. state-length-kept cycle (lent s m) e) refl
+      ∙ after-has (λ (x : Lent). length (x .state) ≡ length s) cycle (lend s m) (λ e. state-length-kept cycle (lend s m) e) refl
       ∙ i .state-long
 
-  still-wide : length m′ ≡ length (w .memory)
+  pub still-wide : length m′ ≡ length (w .memory)
   still-wide =
       ap (λ (x : Lent). length (x .memory)) f
-      ∙ after-has (λ (x : Lent). length (x .memory) ≡ length m) (lent s m) (λ e. memory-length-kept cycle (lent s m)) refl
+      ∙ after-has (λ (x : Lent). length (x .memory) ≡ length m) cycle (lend s m) (λ e. memory-length-kept cycle (lend s m)) refl
       ∙ i .memory-long
 
-  more-cycles : lent s′ m′ ≡ cyclesOn (suc (time - first)) w
+  more-cycles : lend s′ m′ ≡ cyclesOn (suc (time - first)) w
   unfolding cyclesOn
   more-cycles = f ∙ ap (after cycle) (i .words)
 
@@ -258,24 +191,24 @@ module _ (nodes first last : ℕ) (w : Lent) (start s m buffer : List ℕ) (at t
       ap (λ (x : Lent). cyclesLines nodes first (time - first) w ++ cycleLines nodes (first + (time - first)) (x .state)) (sym more-cycles)
       ∙ ap (λ k. cyclesLines nodes first (time - first) w ++ cycleLines nodes k s′) now
 
-  still-roomy : at + cycleRoom ≤ length buffer → (j : ℕ) → j < suc (time - first) → isFull (length start) nodes first (last - first) w j ≡ false
-  still-roomy free j h = go (decLt j (time - first))
+  still-carried : number cycle (lend s m) ≡ 0 → (j : ℕ) → j < suc (time - first) → number cycle (cyclesOn j w) ≡ 0
+  still-carried z j h = go (decLt j (time - first))
     where
-      go : Dec (j < time - first) → isFull (length start) nodes first (last - first) w j ≡ false
-      go (yes p) = i .roomy j p
+      go : Dec (j < time - first) → number cycle (cyclesOn j w) ≡ 0
+      go (yes p) = i .carried j p
       go (no p) =
-          let e : time - first ≡ j = omega (arith, p, h) in
-          let lines : at ≡ length (cyclesLines nodes first j w) = i .placed ∙ ap (λ k. length (cyclesLines nodes first k w)) e in
-          no< (omega (arith, lines, i .long, free))
+          let e : j ≡ time - first = omega (arith, p, h) in
+          ap (λ k. number cycle (cyclesOn k w)) e ∙ ap (number cycle) (sym (i .words)) ∙ z
 
   pub fill-more : {place : ℕ} {written : List ℕ}
       → time < last
       → nodes ≤ 16
-      → at + cycleRoom ≤ length buffer
+      → at + 960 ≤ length buffer
+      → number cycle (lend s m) ≡ 0
       → place ≡ at + length (cycleLines nodes time s′)
       → written ≡ putAll buffer at (cycleLines nodes time s′)
       → Filling nodes first last w start s′ m′ written place (time + 1)
-  fill-more {place} {written} l few free p b =
+  fill-more {place} {written} l few free z p b =
       let lines = cycleLines nodes time s′ in
       let before = cyclesLines nodes first (time - first) w in
       let next : time + 1 - first ≡ suc (time - first) = omega (arith, i .begun) in
@@ -289,12 +222,12 @@ module _ (nodes first last : ℕ) (w : Lent) (start s m buffer : List ℕ) (at t
         memory-long = still-wide;
         long = ap length b ∙ length-putAll buffer lines at ∙ i .long;
         placed = rw (next, more-lines) (omega (arith, p, i .placed, length-append before lines));
-        bytes = rw (next, more-lines) (put-behind start before lines 0 at (i .bytes) behind b);
+        bytes = rw (next, more-lines) (putAll-behind start before lines 0 at (i .bytes) behind b);
         fits = omega (arith, p, i .long, lines-short nodes time s′);
-        roomy = rw next (still-roomy free);
+        carried = rw next (still-carried z);
       }
 
--- what a page has: the fewest cycles that fill it, or all
+-- what a page has: cycles until the buffer could overflow, one is refused, or all are run
 module _ (nodes first last : ℕ) (w : Lent) (start s m buffer : List ℕ) (at time : ℕ)
     (i : Filling nodes first last w start s m buffer at time) where
   page-lines : take at buffer ≡ cyclesLines nodes first (time - first) w
@@ -304,23 +237,57 @@ module _ (nodes first last : ℕ) (w : Lent) (start s m buffer : List ℕ) (at t
       ∙ ap (λ k. take k (putAll start 0 text)) (i .placed)
       ∙ putAll-front start text (omega (arith, i .placed, i .fits))
 
-  abbrev PageMade : Type 0
-  PageMade =
-      (time - first ≡ pageCycles (length start) nodes first (last - first) w)
-      × ((lent s m ≡ cyclesOn (time - first) w)
+  -- the page as it is handed back, with the words that are left and what ended it
+  abbrev PageMade : List ℕ → List ℕ → ℕ → Type 0
+  PageMade s′ m′ refusal =
+      (Paged first last w (time - first) refusal)
+      × ((lend s′ m′ ≡ cyclesOn (time - first) w)
       × ((take at buffer ≡ cyclesLines nodes first (time - first) w)
       × ((buffer ≡ putAll start 0 (cyclesLines nodes first (time - first) w))
-      × ((at ≤ length buffer) × (memoryNumber s m ≡ 0)))))
+      × ((at ≤ length buffer) × (memoryNumber s′ m′ ≡ 0)))))
 
-  page-made : time - first ≡ pageCycles (length start) nodes first (last - first) w → PageMade
-  page-made e = (e, (i .words, (page-lines, (i .bytes, (omega (arith, i .fits, i .long), i .ready)))))
+  page-made : {s′ m′ : List ℕ} {refusal : ℕ} → lend s′ m′ ≡ lend s m → Paged first last w (time - first) refusal → PageMade s′ m′ refusal
+  page-made f e =
+      let ready = ap (λ (x : Lent). memoryNumber (x .state) (x .memory)) f ∙ i .ready in
+      (e, (f ∙ i .words, (page-lines, (i .bytes, (omega (arith, i .fits, i .long), ready)))))
 
-  pub fill-stop : time < last → length buffer < at + cycleRoom → PageMade
-  fill-stop l full =
-      page-made
-      (page-stopped (length start) nodes first (last - first) w (time - first) (omega (arith, i .begun)) (yes< (omega (arith, i .placed, i .long))) (i .roomy))
+  no-lines : length (cyclesLines nodes first 0 w) ≡ 0
+  unfolding cyclesLines
+  no-lines = refl
 
-  pub fill-done : last ≤ time → PageMade
+  -- the buffer is full: it was not before the first cycle
+  pub fill-stop : {room : ℕ} → length buffer < at + room → length start ≡ 65536 → room ≤ 65536 → PageMade s m 0
+  fill-stop full all free =
+      page-made refl (record {
+        in-time = omega (arith, i .begun, i .in-time);
+        carried-out = i .carried;
+        some = λ z h. some (ℕ-discrete (time - first) 0);
+        stopped = λ ne. absurd (ne refl);
+      })
+    where
+      some : Dec (time - first ≡ 0) → 0 < time - first
+      some (yes z) =
+          let none : at ≡ 0 = i .placed ∙ ap (λ k. length (cyclesLines nodes first k w)) z ∙ no-lines in
+          absurd (let y : ⊥ = omega (arith, full, i .long, all, free, none) in y)
+      some (no ne) = omega (arith, ne)
+
+  -- a cycle is refused, and changes nothing
+  pub fill-refused : {s′ m′ : List ℕ} {n : ℕ} → lend s′ m′ ≡ after cycle (lend s m) → n ≡ number cycle (lend s m) → (n ≡ 0 → ⊥)
+      → time < last
+      → PageMade s′ m′ n
+  fill-refused f e ne l =
+      page-made (f ∙ ap₂ lend (sym (state-kept cycle (lend s m) e ne)) (sym (memory-kept cycle (lend s m) e ne))) (record {
+        in-time = omega (arith, i .begun, l);
+        carried-out = i .carried;
+        some = λ z. absurd (ne z);
+        stopped = λ no. (omega (arith, i .begun, l), e ∙ ap (number cycle) (i .words));
+      })
+
+  pub fill-done : last ≤ time → PageMade s m 0
   fill-done l =
-      let all : time - first ≡ last - first = omega (arith, i .in-time, l) in
-      page-made (all ∙ page-over (length start) nodes first (last - first) w (λ j h. i .roomy j (omega (arith, all))))
+      page-made refl (record {
+        in-time = omega (arith, i .begun, i .in-time);
+        carried-out = i .carried;
+        some = λ z h. omega (arith, i .begun, h, l);
+        stopped = λ ne. absurd (ne refl);
+      })

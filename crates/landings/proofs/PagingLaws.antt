@@ -1,114 +1,180 @@
--- The loop over the pages: each is the next part of the output, and has at least one cycle, so that the last page ends it.
+-- The loop over the pages: each is the next part of the output, and has at least one cycle or ends in a refusal, so that the last ends it.
 -- Assumes nothing.
 use Prim.Native.Nat.{ℕ, _+_, _-_, _≤_, _<_}
-use mathlib.Core.List.{List, _++_, append-assoc}
+use mathlib.Core.List.{List, _++_, append-assoc, append-nil}
 use mathlib.Core.Path.{_≡_, refl, sym, _∙_, ap}
 use native.Mathlib.Omega.{arith}
 use native.Mathlib.Nat.{add-zero, zero-add}
+use native.Mathlib.Decide.{decLt}
 use lib.ListN.{length, length-append}
-use Rattle.sheet.specs.Sheet.{nodes}
-use Rattle.session.specs.Calls.{memoryNumber, Lent}
-use Rattle.landings.specs.declared.input.Message.the-variants.{Runs}
-use Rattle.landings.specs.Input.{sheetOf, cyclesAsked}
-use Rattle.landings.specs.Messages.{message}
-use Rattle.landings.specs.Lines.{lent, cyclesLines, cyclesOn}
-use Rattle.landings.specs.Inner.Pages.{pageCycles}
+use Rattle.session.specs.Calls.{memoryNumber, Lent, lend, cycle, number}
+use Rattle.landings.specs.Lines.{cyclesLines, cyclesOn, carriedOut, refusedLine, lastLine}
+use Rattle.landings.specs.Inner.Pages.{Started, Paged}
 use Rattle.landings.specs.Output.{heading, beforeCycles, printout, HasAt}
-use Rattle.landings.proofs.PageLaws.{page-most, page-some}
-use Rattle.landings.proofs.OutputLaws.{has-between, cycles-behind, lines-behind, before-ready, lines-are}
+use Rattle.landings.specs.Inner.Ended.{cyclesDone}
+use Rattle.landings.proofs.CarriedLaws.{carried-past, carried-stop, carried-all, last-none, last-refused}
+use Rattle.landings.proofs.OutputLaws.{has-between, has-back, cycles-behind, lines-behind, before-ready, lines-are}
 
 pub record Paging (bytes : List ℕ) (n last : ℕ) (s₀ m₀ buffer₀ s m buffer : List ℕ) (place time : ℕ) : Type 0 where
   pub in-time : time ≤ last
-  pub words : lent s m ≡ cyclesOn time (beforeCycles bytes)
+  pub words : lend s m ≡ cyclesOn time (beforeCycles bytes)
   pub ready : memoryNumber s m ≡ 0
   pub placed : place ≡ length heading + length (cyclesLines n 0 time (beforeCycles bytes))
+  pub carried : (j : ℕ) → j < time → number cycle (cyclesOn j (beforeCycles bytes)) ≡ 0
   pub state-long : length s ≡ length s₀
   pub memory-long : length m ≡ length m₀
   pub long : length buffer ≡ length buffer₀
 
 pub page-start : (bytes : List ℕ) (n last : ℕ) (s m buffer : List ℕ) (place : ℕ)
-    → message bytes ≡ Runs
-    → lent s m ≡ beforeCycles bytes
+    → Started bytes s m n last
     → place ≡ length heading
     → Paging bytes n last s m buffer s m buffer place 0
 unfolding cyclesOn cyclesLines
-page-start bytes n last s m buffer place e f p = record {
+page-start bytes n last s m buffer place g p = record {
   in-time = omega arith;
-  words = f;
-  ready = before-ready bytes e f;
+  words = g .words;
+  ready = before-ready bytes (g .runs) (g .words);
   placed = p ∙ sym (add-zero (length heading));
+  carried = λ j h. absurd (let z : ⊥ = omega (arith, h) in z);
   state-long = refl;
   memory-long = refl;
   long = refl;
 }
 
+-- a page more
 module _ (bytes : List ℕ) (n last : ℕ) (s₀ m₀ buffer₀ s m buffer : List ℕ) (place time : ℕ)
     (i : Paging bytes n last s₀ m₀ buffer₀ s m buffer place time)
-    {count : ℕ} (c : count ≡ pageCycles (length buffer) n time (last - time) (lent s m)) where
-  pub count-most : time < last → time + count ≤ last
-  count-most l = omega (arith, c, page-most (length buffer) n time (last - time) (lent s m))
+    {count refusal : ℕ} (d : Paged time last (lend s m) count refusal) where
+  abbrev words₀ : Lent
+  words₀ = beforeCycles bytes
 
-  pub count-some : time < last → length buffer ≡ 65536 → 0 < count
-  count-some l b = omega (arith, c, page-some (length buffer) n time (last - time) (lent s m) (omega (arith, b)) (omega (arith, l)))
+  still-carried : (j : ℕ) → j < time + count → number cycle (cyclesOn j words₀) ≡ 0
+  still-carried j h = go (decLt j time)
+    where
+      go : Dec (j < time) → number cycle (cyclesOn j words₀) ≡ 0
+      go (yes p) = i .carried j p
+      go (no p) =
+          let e : j ≡ time + (j - time) = omega (arith, p) in
+          ap (λ k. number cycle (cyclesOn k words₀)) e
+          ∙ ap (number cycle) (cycles-behind time (j - time) words₀)
+          ∙ ap (λ (w : Lent). number cycle (cyclesOn (j - time) w)) (sym (i .words))
+          ∙ d .carried-out (j - time) (omega (arith, p, h))
 
-  module _ (l : time < last) {part : List ℕ} (t : part ≡ cyclesLines n time count (lent s m)) where
-    page-is : part ≡ cyclesLines n (0 + time) count (cyclesOn time (beforeCycles bytes))
+  module _ {part : List ℕ} (t : part ≡ cyclesLines n time count (lend s m)) where
+    page-is : part ≡ cyclesLines n (0 + time) count (cyclesOn time words₀)
     page-is =
         t
         ∙ ap (λ (w : Lent). cyclesLines n time count w) (i .words)
-        ∙ ap (λ k. cyclesLines n k count (cyclesOn time (beforeCycles bytes))) (sym (zero-add time))
+        ∙ ap (λ k. cyclesLines n k count (cyclesOn time words₀)) (sym (zero-add time))
 
-    lines-with : cyclesLines n 0 (time + count) (beforeCycles bytes) ≡ cyclesLines n 0 time (beforeCycles bytes) ++ part
+    lines-with : cyclesLines n 0 (time + count) words₀ ≡ cyclesLines n 0 time words₀ ++ part
     lines-with =
-        lines-behind n 0 time count (beforeCycles bytes)
-        ∙ ap (λ (x : List ℕ). cyclesLines n 0 time (beforeCycles bytes) ++ x) (sym page-is)
+        lines-behind n 0 time count words₀ ∙ ap (λ (x : List ℕ). cyclesLines n 0 time words₀ ++ x) (sym page-is)
 
-    pub page-has : message bytes ≡ Runs → n ≡ nodes (sheetOf bytes) → last ≡ cyclesAsked bytes → HasAt (printout bytes) place part
-    page-has e p q =
-        let before = cyclesLines n 0 time (beforeCycles bytes) in
-        let rest = cyclesLines n (0 + (time + count)) (last - (time + count)) (cyclesOn (time + count) (beforeCycles bytes)) in
-        let all : time + count + (last - (time + count)) ≡ last = omega (arith, count-most l) in
-        has-between (heading ++ before) part rest
-        (lines-are bytes n last e p q
-        ∙ ap (λ k. heading ++ cyclesLines n 0 k (beforeCycles bytes)) (sym all)
-        ∙ ap (λ (x : List ℕ). heading ++ x) (lines-behind n 0 (time + count) (last - (time + count)) (beforeCycles bytes))
-        ∙ ap (λ (x : List ℕ). heading ++ (x ++ rest)) lines-with
-        ∙ ap (λ (x : List ℕ). heading ++ x) (append-assoc before part rest)
-        ∙ sym (append-assoc heading before (part ++ rest)))
+    pub page-has : Started bytes s₀ m₀ n last → HasAt (printout bytes) place part
+    page-has g =
+        let done = carriedOut last words₀ in
+        let before = cyclesLines n 0 time words₀ in
+        let rest = cyclesLines n (0 + (time + count)) (done - (time + count)) (cyclesOn (time + count) words₀) in
+        let end = lastLine last words₀ in
+        let all : time + count + (done - (time + count)) ≡ done = omega (arith, carried-past last words₀ (time + count) still-carried (d .in-time)) in
+        has-between (heading ++ before) part (rest ++ end)
+        (lines-are bytes n last (g .runs) (g .all-nodes) (g .all-cycles)
+        ∙ ap (λ k. heading ++ (cyclesLines n 0 k words₀ ++ end)) (sym all)
+        ∙ ap (λ (x : List ℕ). heading ++ (x ++ end)) (lines-behind n 0 (time + count) (done - (time + count)) words₀)
+        ∙ ap (λ (x : List ℕ). heading ++ ((x ++ rest) ++ end)) lines-with
+        ∙ ap (λ (x : List ℕ). heading ++ (x ++ end)) (append-assoc before part rest)
+        ∙ ap (λ (x : List ℕ). heading ++ x) (append-assoc before (part ++ rest) end)
+        ∙ ap (λ (x : List ℕ). heading ++ (before ++ x)) (append-assoc part rest end)
+        ∙ sym (append-assoc heading before (part ++ (rest ++ end))))
         (i .placed ∙ sym (length-append heading before))
 
     pub page-next : {s′ m′ buffer′ : List ℕ} {next : ℕ}
-        → lent s′ m′ ≡ cyclesOn count (lent s m)
+        → lend s′ m′ ≡ cyclesOn count (lend s m)
         → memoryNumber s′ m′ ≡ 0
         → next ≡ place + length part
         → length s′ ≡ length s
         → length m′ ≡ length m
         → length buffer′ ≡ length buffer
         → Paging bytes n last s₀ m₀ buffer₀ s′ m′ buffer′ next (time + count)
-    page-next f r p a b d =
-        let before = cyclesLines n 0 time (beforeCycles bytes) in
+    page-next f r p a b e =
         record {
-          in-time = count-most l;
-          words = f ∙ ap (cyclesOn count) (i .words) ∙ sym (cycles-behind time count (beforeCycles bytes));
+          in-time = d .in-time;
+          words = f ∙ ap (cyclesOn count) (i .words) ∙ sym (cycles-behind time count words₀);
           ready = r;
-          placed = omega (arith, p, i .placed, ap length lines-with, length-append before part);
+          placed = omega (arith, p, i .placed, ap length lines-with, length-append (cyclesLines n 0 time words₀) part);
+          carried = still-carried;
           state-long = a ∙ i .state-long;
           memory-long = b ∙ i .memory-long;
-          long = d ∙ i .long;
+          long = e ∙ i .long;
         }
 
+    -- it ends in a refusal: then so does the output
+    module _ (g : Started bytes s₀ m₀ n last) (ne : refusal ≡ 0 → ⊥) {next : ℕ} (p : next ≡ place + length part) where
+      refusal-is : refusal ≡ number cycle (cyclesOn (time + count) words₀)
+      refusal-is =
+          d .stopped ne .1
+          ∙ ap (λ (w : Lent). number cycle (cyclesOn count w)) (i .words)
+          ∙ ap (number cycle) (sym (cycles-behind time count words₀))
+
+      stopped : carriedOut last words₀ ≡ time + count
+      stopped = carried-stop last words₀ (time + count) still-carried (d .stopped ne .0) (λ z. ne (refusal-is ∙ z))
+
+      abbrev lines : List ℕ
+      lines = cyclesLines n 0 (time + count) words₀
+
+      output-ends : printout bytes ≡ (heading ++ lines) ++ refusedLine refusal
+      output-ends =
+          lines-are bytes n last (g .runs) (g .all-nodes) (g .all-cycles)
+          ∙ ap (λ k. heading ++ (cyclesLines n 0 k words₀ ++ lastLine last words₀)) stopped
+          ∙ ap (λ (x : List ℕ). heading ++ (lines ++ x))
+          (last-refused last words₀ (time + count) refusal stopped (d .stopped ne .0) refusal-is)
+          ∙ sym (append-assoc heading lines (refusedLine refusal))
+
+      next-placed : next ≡ length (heading ++ lines)
+      next-placed =
+          omega (
+            arith,
+            p,
+            i .placed,
+            ap length lines-with,
+            length-append (cyclesLines n 0 time words₀) part,
+            length-append heading lines,
+          )
+
+      pub refusal-has : HasAt (printout bytes) next (refusedLine refusal)
+      refusal-has = has-back (heading ++ lines) (refusedLine refusal) output-ends next-placed
+
+      pub refusal-done : {end : ℕ} {s′ m′ : List ℕ}
+          → end ≡ next + length (refusedLine refusal)
+          → lend s′ m′ ≡ cyclesOn count (lend s m)
+          → (end ≡ length (printout bytes)) × (lend s′ m′ ≡ cyclesOn (cyclesDone bytes) words₀)
+      refusal-done r f = (
+        omega (arith, r, next-placed, ap length output-ends, length-append (heading ++ lines) (refusedLine refusal)),
+        f
+            ∙ ap (cyclesOn count) (i .words)
+            ∙ sym (cycles-behind time count words₀)
+            ∙ ap (λ k. cyclesOn k words₀) (sym stopped ∙ ap (λ k. carriedOut k words₀) (g .all-cycles)),
+      )
+
+-- no cycle is left
 pub page-done : (bytes : List ℕ) (n last : ℕ) (s₀ m₀ buffer₀ s m buffer : List ℕ) (place time : ℕ)
     → Paging bytes n last s₀ m₀ buffer₀ s m buffer place time
     → last ≤ time
-    → message bytes ≡ Runs
-    → n ≡ nodes (sheetOf bytes)
-    → last ≡ cyclesAsked bytes
-    → (place ≡ length (printout bytes)) × (lent s m ≡ cyclesOn (cyclesAsked bytes) (beforeCycles bytes))
-page-done bytes n last s₀ m₀ buffer₀ s m buffer place time i l e p q =
-    let end : time ≡ last = omega (arith, i .in-time, l) in (
+    → Started bytes s₀ m₀ n last
+    → (place ≡ length (printout bytes)) × (lend s m ≡ cyclesOn (cyclesDone bytes) (beforeCycles bytes))
+page-done bytes n last s₀ m₀ buffer₀ s m buffer place time i l g =
+    let w = beforeCycles bytes in
+    let end : time ≡ last = omega (arith, i .in-time, l) in
+    let all : carriedOut last w ≡ last = carried-all last w (λ j h. i .carried j (omega (arith, end, h))) in
+    let whole : printout bytes ≡ heading ++ cyclesLines n 0 last w =
+    lines-are bytes n last (g .runs) (g .all-nodes) (g .all-cycles)
+    ∙ ap (λ k. heading ++ (cyclesLines n 0 k w ++ lastLine last w)) all
+    ∙ ap (λ (x : List ℕ). heading ++ (cyclesLines n 0 last w ++ x)) (last-none last w all)
+    ∙ ap (λ (x : List ℕ). heading ++ x) (append-nil (cyclesLines n 0 last w)) in (
       i .placed
-          ∙ ap (λ k. length heading + length (cyclesLines n 0 k (beforeCycles bytes))) end
-          ∙ sym (length-append heading (cyclesLines n 0 last (beforeCycles bytes)))
-          ∙ sym (ap length (lines-are bytes n last e p q)),
-      i .words ∙ ap (λ k. cyclesOn k (beforeCycles bytes)) (end ∙ q),
+          ∙ ap (λ k. length heading + length (cyclesLines n 0 k w)) end
+          ∙ sym (length-append heading (cyclesLines n 0 last w))
+          ∙ sym (ap length whole),
+      i .words ∙ ap (λ k. cyclesOn k w) (end ∙ sym all ∙ ap (λ k. carriedOut k w) (g .all-cycles)),
     )

@@ -5,22 +5,25 @@ use mathlib.Core.Bool.{Bool, true, false, false≢true}
 use mathlib.Core.List.{List, [], _∷_, _++_}
 use mathlib.Core.Path.{_≡_, refl, sym, _∙_, ap}
 use native.Mathlib.Omega.{arith}
-use lib.ListN.{length, take, replicate, length-append, length-replicate, getD-replicate}
+use lib.ListN.{length, take, replicate, getD, length-append, length-replicate, getD-replicate}
 use lib.Seq.{take-append-add, getD-append-add}
 use Rattle.words.specs.Tests.{_=?_}
 use Rattle.words.specs.Words.{pick}
 use Rattle.words.proofs.TestLaws.{yes=, is=}
-use Rattle.octets.specs.Octets.{wordIn}
 use Rattle.network.specs.Registers.{stateWords}
-use Rattle.session.specs.Calls.{loadNumber, loaded, Lent, Call, start, cycle, isLoad, number, does, after}
-use Rattle.isolation.specs.Sessions.{isCycle, run, LoadsRefused, Session, standing}
-use Rattle.isolation.specs.Demand.{CycleAt}
+use Rattle.session.specs.Calls.{loaded, Lent, lend, lendState, Call, load, cycle, isLoad, number, after}
+use Rattle.session.proofs.AloneLaws.{after-alone}
+use Rattle.session.proofs.WritingLaws.{state-written}
+use Rattle.isolation.specs.Sessions.{run, LoadsRefused, Session, standing}
 use Rattle.isolation.proofs.DemandProved.{demand3}
 use Rattle.landings.specs.declared.input.Message.the-variants.{Runs}
 use Rattle.landings.specs.Input.{sheetOf, memoryOf, transfers, transferPlace, cyclesAsked}
-use Rattle.landings.specs.Messages.{Called, called, transferNumber, transferStarted, startNext, startsOn, callsOn, calls, message}
-use Rattle.landings.specs.Lines.{lent, cyclesOn}
+use Rattle.landings.specs.Messages.{Called, called, startAt, startsOn, callsOn, calls, message}
+use Rattle.landings.specs.Lines.{cyclesOn, lastLine}
 use Rattle.landings.specs.Output.{beforeCycles}
+use Rattle.landings.specs.Inner.Ended.{cyclesDone}
+use Rattle.landings.proofs.CarriedLaws.{carried-all, last-none}
+use Rattle.landings.proofs.CallLaws.{start-alone}
 use Rattle.landings.proofs.OutputLaws.{runs-called}
 
 -- calls one behind the other
@@ -56,66 +59,51 @@ run-cycles (suc n) w = run-cycles n (after cycle w) ∙ cycles-later n w
 
 -- the first k starts of an input
 startCall : List ℕ → ℕ → Call
-startCall bytes k =
-    start
-    (wordIn bytes (transferPlace bytes k))
-    (wordIn bytes (transferPlace bytes k + 1))
-    (wordIn bytes (transferPlace bytes k + 2))
-    (wordIn bytes (transferPlace bytes k + 3))
-    (wordIn bytes (transferPlace bytes k + 4))
+startCall bytes k = startAt bytes (transferPlace bytes k)
 
 startCalls : List ℕ → ℕ → List Call
 startCalls bytes zero = []
 startCalls bytes (suc k) = startCalls bytes k ++ (startCall bytes k ∷ [])
 
 no-load-starts : (bytes : List ℕ) (k : ℕ) → NoLoads (startCalls bytes k)
-unfolding startCalls startCall
+unfolding startCalls startCall startAt
 no-load-starts bytes zero w = tt
 no-load-starts bytes (suc k) w =
     no-load-behind (startCalls bytes k) (startCall bytes k ∷ []) w (no-load-starts bytes k w) (no-load-one (startCall bytes k) refl)
 
--- a start that is carried out
-start-done : (bytes s m : List ℕ) (k : ℕ) → startNext bytes s k .refusal ≡ 0
-    → after (startCall bytes k) (lent s m) ≡ lent (startNext bytes s k .state) m
-unfolding startNext transferNumber transferStarted startCall after
-start-done bytes s m k e = go (transferNumber bytes s k =? 0) refl e
-  where
-    go : (t : Bool) → (transferNumber bytes s k =? 0) ≡ t
-        → pick t (called 0 (transferStarted bytes s k)) (called (transferNumber bytes s k) s) .refusal ≡ 0
-        → pick t (does (startCall bytes k) (lent s m)) (lent s m)
-        ≡ lent (pick t (called 0 (transferStarted bytes s k)) (called (transferNumber bytes s k) s) .state) m
-    go true q h = refl
-    go false q h = absurd (false≢true (sym q ∙ yes= h))
-
 starts-run : (bytes s m : List ℕ) (k : ℕ) → startsOn bytes s k .refusal ≡ 0
-    → run (startCalls bytes k) (lent s m) ≡ lent (startsOn bytes s k .state) m
-unfolding startsOn startCalls
+    → run (startCalls bytes k) (lend s m) ≡ lend (startsOn bytes s k .state) m
+unfolding startsOn startCalls startCall
 starts-run bytes s m zero e = refl
 starts-run bytes s m (suc k) e = go (startsOn bytes s k .refusal =? 0) refl e (starts-run bytes s m k)
   where
     go : (t : Bool) → (startsOn bytes s k .refusal =? 0) ≡ t
-        → pick t (startNext bytes (startsOn bytes s k .state) k) (startsOn bytes s k) .refusal ≡ 0
-        → (startsOn bytes s k .refusal ≡ 0 → run (startCalls bytes k) (lent s m) ≡ lent (startsOn bytes s k .state) m)
-        → run (startCalls bytes k ++ (startCall bytes k ∷ [])) (lent s m)
-        ≡ lent (pick t (startNext bytes (startsOn bytes s k .state) k) (startsOn bytes s k) .state) m
+        → pick t (called (startCall bytes k) (lendState (startsOn bytes s k .state))) (startsOn bytes s k) .refusal ≡ 0
+        → (startsOn bytes s k .refusal ≡ 0 → run (startCalls bytes k) (lend s m) ≡ lend (startsOn bytes s k .state) m)
+        → run (startCalls bytes k ++ (startCall bytes k ∷ [])) (lend s m)
+        ≡ lend (pick t (called (startCall bytes k) (lendState (startsOn bytes s k .state))) (startsOn bytes s k) .state) m
     go true q h before =
-        run-append (startCalls bytes k) (startCall bytes k ∷ []) (lent s m)
+        run-append (startCalls bytes k) (startCall bytes k ∷ []) (lend s m)
         ∙ ap (after (startCall bytes k)) (before (is= _ _ q))
-        ∙ start-done bytes (startsOn bytes s k .state) m k h
+        ∙ after-alone (startsOn bytes s k .state) m (startCall bytes k) (start-alone bytes (transferPlace bytes k))
     go false q h before = absurd (false≢true (sym q ∙ yes= h))
 
 -- the load is carried out where no call is refused, and the starts upon it
 load-first : (bytes s m : List ℕ) → callsOn bytes s m .refusal ≡ 0
-    → (loadNumber (sheetOf bytes) s m ≡ 0) × (callsOn bytes s m ≡ startsOn bytes (loaded (sheetOf bytes) s) (transfers bytes))
+    → (number (load (sheetOf bytes)) (lend s m) ≡ 0)
+    × (callsOn bytes s m ≡ startsOn bytes (loaded (sheetOf bytes) s) (transfers bytes))
 unfolding callsOn
-load-first bytes s m e = go (loadNumber (sheetOf bytes) s m =? 0) refl e
+load-first bytes s m e = go (number (load (sheetOf bytes)) (lend s m) =? 0) refl e
   where
-    go : (t : Bool) → (loadNumber (sheetOf bytes) s m =? 0) ≡ t
-        → pick t (startsOn bytes (loaded (sheetOf bytes) s) (transfers bytes)) (called (loadNumber (sheetOf bytes) s m) s) .refusal ≡ 0
-        → (loadNumber (sheetOf bytes) s m ≡ 0)
-        × (pick t (startsOn bytes (loaded (sheetOf bytes) s) (transfers bytes)) (called (loadNumber (sheetOf bytes) s m) s)
-        ≡ startsOn bytes (loaded (sheetOf bytes) s) (transfers bytes))
-    go true q h = (is= _ _ q, refl)
+    starts : List ℕ → Called
+    starts x = startsOn bytes x (transfers bytes)
+
+    go : (t : Bool) → (number (load (sheetOf bytes)) (lend s m) =? 0) ≡ t
+        → pick t (starts (after (load (sheetOf bytes)) (lend s m) .state)) (called (load (sheetOf bytes)) (lend s m)) .refusal ≡ 0
+        → (number (load (sheetOf bytes)) (lend s m) ≡ 0)
+        × (pick t (starts (after (load (sheetOf bytes)) (lend s m) .state)) (called (load (sheetOf bytes)) (lend s m))
+        ≡ starts (loaded (sheetOf bytes) s))
+    go true q h = (is= _ _ q, ap starts (sym (state-written (load (sheetOf bytes)) (lend s m) refl (is= _ _ q) refl)))
     go false q h = absurd (false≢true (sym q ∙ yes= h))
 
 -- the load, the starts and so many cycles, as a session
@@ -127,45 +115,51 @@ take-cycles (suc t) (suc n) l = ap {B = List Call} (λ r. cycle ∷ r) (take-cyc
 module _ (bytes s m : List ℕ) (n : ℕ) (e : callsOn bytes s m .refusal ≡ 0) where
   sessionOf : Session
   sessionOf = record {
-    lent = lent s m;
+    lent = lend s m;
     sheet = sheetOf bytes;
     calls = startCalls bytes (transfers bytes) ++ replicate n cycle;
     carried-out = load-first bytes s m e .0;
     loads-refused =
-        no-load-behind (startCalls bytes (transfers bytes)) (replicate n cycle) (lent (loaded (sheetOf bytes) s) m)
-        (no-load-starts bytes (transfers bytes) (lent (loaded (sheetOf bytes) s) m))
+        no-load-behind (startCalls bytes (transfers bytes)) (replicate n cycle) (lend (loaded (sheetOf bytes) s) m)
+        (no-load-starts bytes (transfers bytes) (lend (loaded (sheetOf bytes) s) m))
         (no-load-cycles n);
   }
 
-  started-is : run (startCalls bytes (transfers bytes)) (lent (loaded (sheetOf bytes) s) m) ≡ lent (callsOn bytes s m .state) m
+  started-is : run (startCalls bytes (transfers bytes)) (lend (loaded (sheetOf bytes) s) m) ≡ lend (callsOn bytes s m .state) m
   started-is =
       let same = load-first bytes s m e .1 in
       starts-run bytes (loaded (sheetOf bytes) s) m (transfers bytes) (sym (ap (λ (c : Called). c .refusal) same) ∙ e)
-      ∙ ap (λ (c : Called). lent (c .state) m) (sym same)
+      ∙ ap (λ (c : Called). lend (c .state) m) (sym same)
 
   module _ (t : ℕ) (l : t < n) where
-    call-is-cycle : CycleAt sessionOf (length (startCalls bytes (transfers bytes)) + t)
-    unfolding sessionOf
-    call-is-cycle =
-        let starts = startCalls bytes (transfers bytes) in (
-          omega (arith, length-append starts (replicate n cycle), length-replicate n cycle),
-          ap isCycle (getD-append-add starts (replicate n cycle) t cycle ∙ getD-replicate n t cycle cycle l),
-        )
+    abbrev place : ℕ
+    place = length (startCalls bytes (transfers bytes)) + t
 
-    stands-so : standing sessionOf (length (startCalls bytes (transfers bytes)) + t) ≡ cyclesOn t (lent (callsOn bytes s m .state) m)
+    place-inside : place < length (sessionOf .calls)
+    unfolding sessionOf
+    place-inside =
+        let starts = startCalls bytes (transfers bytes) in
+        omega (arith, length-append starts (replicate n cycle), length-replicate n cycle)
+
+    place-cycle : getD (sessionOf .calls) place cycle ≡ cycle
+    unfolding sessionOf
+    place-cycle =
+        getD-append-add (startCalls bytes (transfers bytes)) (replicate n cycle) t cycle ∙ getD-replicate n t cycle cycle l
+
+    stands-so : standing sessionOf place ≡ cyclesOn t (lend (callsOn bytes s m .state) m)
     unfolding sessionOf
     stands-so =
         let starts = startCalls bytes (transfers bytes) in
-        let loaded-words = lent (loaded (sheetOf bytes) s) m in
+        let loaded-words = lend (loaded (sheetOf bytes) s) m in
         ap (λ (x : List Call). run x loaded-words) (take-append-add starts (replicate n cycle) t)
         ∙ ap (λ (x : List Call). run (starts ++ x) loaded-words) (take-cycles t n (omega arith))
         ∙ run-append starts (replicate t cycle) loaded-words
         ∙ ap (run (replicate t cycle)) started-is
-        ∙ run-cycles t (lent (callsOn bytes s m .state) m)
+        ∙ run-cycles t (lend (callsOn bytes s m .state) m)
 
-    session-cycles : number cycle (cyclesOn t (lent (callsOn bytes s m .state) m)) ≡ 0
+    session-cycles : number cycle (cyclesOn t (lend (callsOn bytes s m .state) m)) ≡ 0
     session-cycles =
-        ap (number cycle) (sym stands-so) ∙ demand3 .cycles-carried-out sessionOf (length (startCalls bytes (transfers bytes)) + t) call-is-cycle
+        ap (number cycle) (sym stands-so) ∙ demand3 .cycles-carried-out sessionOf place place-inside place-cycle
 
 -- no cycle of an input that runs is refused
 pub cycles-carried-out : (bytes : List ℕ) → message bytes ≡ Runs → (t : ℕ) → t < cyclesAsked bytes
@@ -173,3 +167,10 @@ pub cycles-carried-out : (bytes : List ℕ) → message bytes ≡ Runs → (t : 
 unfolding beforeCycles calls
 cycles-carried-out bytes e t l =
     session-cycles bytes (replicate stateWords 0) (memoryOf bytes) (cyclesAsked bytes) (runs-called bytes e) t l
+
+-- so all are carried out, and no refusal is printed behind their lines
+pub all-carried-out : (bytes : List ℕ) → message bytes ≡ Runs
+    → (cyclesDone bytes ≡ cyclesAsked bytes) × (lastLine (cyclesAsked bytes) (beforeCycles bytes) ≡ [])
+all-carried-out bytes e =
+    let all = carried-all (cyclesAsked bytes) (beforeCycles bytes) (cycles-carried-out bytes e) in
+    (all, last-none (cyclesAsked bytes) (beforeCycles bytes) all)

@@ -9,10 +9,7 @@ use Rattle.words.specs.Words.{tab}
 use Rattle.sheet.specs.Sheet.{nodes, memoryWords}
 use Rattle.octets.specs.Octets.{wordIn}
 
--- the most that the program takes
-abbrev pub mostSheet : ℕ
-mostSheet = 8597
-
+-- the most that the program takes, besides a sheet of any length that a sheet can have
 abbrev pub mostMemory : ℕ
 mostMemory = 4096
 

@@ -1,13 +1,11 @@
--- The listing of `landings`: cycle by cycle, then node by node, what landed.
+-- The listing of `landings`: cycle by cycle, then node by node, what landed; a cycle that is refused ends it, with its number.
 use Prim.Native.Nat.{ℕ, zero, suc, _+_}
 use mathlib.Core.List.{List, [], _++_}
+use Rattle.words.specs.Tests.{_≤?_, _=?_}
+use Rattle.words.specs.Words.{pick, leastFrom}
 use Rattle.network.specs.View.{Landing, nothing, landed}
-use Rattle.session.specs.Calls.{Lent, cycle, after, lastLanding}
-use Rattle.listing.specs.Text.{landingLine}
-
--- what is lent, as one
-abbrev pub lent : List ℕ → List ℕ → Lent
-lent s m = record { state = s; memory = m }
+use Rattle.session.specs.Calls.{Lent, cycle, number, after, lastLanding}
+use Rattle.listing.specs.Text.{lineEnd, field, landingLine, refused}
 
 -- what was lent after so many cycles
 unfoldable pub cyclesOn : ℕ → Lent → Lent
@@ -28,3 +26,15 @@ cycleLines (suc n) time s = cycleLines n time s ++ lineFor time n (lastLanding s
 unfoldable pub cyclesLines : ℕ → ℕ → ℕ → Lent → List ℕ
 cyclesLines nodes first zero w = []
 cyclesLines nodes first (suc k) w = cyclesLines nodes first k w ++ cycleLines nodes (first + k) (cyclesOn (suc k) w .state)
+
+-- how many of so many cycles are carried out: those before the first that is refused, or all
+unfoldable pub carriedOut : ℕ → Lent → ℕ
+carriedOut n w = leastFrom n 0 (λ k. 1 ≤? number cycle (cyclesOn k w))
+
+-- `refused N`, and a line end
+abbrev pub refusedLine : ℕ → List ℕ
+refusedLine n = refused ++ field n lineEnd
+
+-- the line behind theirs: none where all are carried out
+unfoldable pub lastLine : ℕ → Lent → List ℕ
+lastLine n w = pick (carriedOut n w =? n) [] (refusedLine (number cycle (cyclesOn (carriedOut n w) w)))

@@ -5,13 +5,13 @@ use mathlib.Core.List.{List, [], _∷_, _++_}
 use mathlib.Core.Path.{_≡_}
 use lib.ListN.{length, take, drop}
 use Rattle.sheet.specs.Sheet.{nodes}
-use Rattle.session.specs.Calls.{Lent}
-use Rattle.listing.specs.Text.{lineEnd, field, tooLarge, inputEnds, refused}
+use Rattle.session.specs.Calls.{Lent, lend}
+use Rattle.listing.specs.Text.{tooLarge, inputEnds}
 use Rattle.landings.specs.declared.input.Message.{Message}
 use Rattle.landings.specs.declared.input.Message.the-variants.{TooLarge, InputEnds, Refused, Runs}
 use Rattle.landings.specs.Input.{sheetOf, memoryOf, cyclesAsked}
 use Rattle.landings.specs.Messages.{calls, message}
-use Rattle.landings.specs.Lines.{lent, cyclesOn, cyclesLines}
+use Rattle.landings.specs.Lines.{cyclesOn, cyclesLines, carriedOut, refusedLine, lastLine}
 
 -- `cycle node address word kind`, and a line end
 unfoldable pub heading : List ℕ
@@ -21,17 +21,19 @@ heading =
 
 -- the lent words before the first cycle: after the load and the starts
 unfoldable pub beforeCycles : List ℕ → Lent
-beforeCycles bytes = lent (calls bytes .state) (memoryOf bytes)
+beforeCycles bytes = lend (calls bytes .state) (memoryOf bytes)
 
--- the lines of all cycles of an input
+-- the lines of the cycles that are carried out, which are all of them (proofs/SessionLaws, `all-carried-out`), and that of a refusal
 unfoldable pub allLines : List ℕ → List ℕ
-allLines bytes = cyclesLines (nodes (sheetOf bytes)) 0 (cyclesAsked bytes) (beforeCycles bytes)
+allLines bytes =
+    cyclesLines (nodes (sheetOf bytes)) 0 (carriedOut (cyclesAsked bytes) (beforeCycles bytes)) (beforeCycles bytes)
+    ++ lastLine (cyclesAsked bytes) (beforeCycles bytes)
 
 -- what is printed for a message; where the input runs, the heading and its lines
 abbrev pub printed : Message → List ℕ → List ℕ
 printed TooLarge lines = tooLarge
 printed InputEnds lines = inputEnds
-printed (Refused n) lines = refused ++ field n lineEnd
+printed (Refused n) lines = refusedLine n
 printed Runs lines = heading ++ lines
 
 -- every byte that an input gets
@@ -41,14 +43,3 @@ printout bytes = printed (message bytes) (allLines bytes)
 -- a text has a part at a place
 abbrev pub HasAt : List ℕ → ℕ → List ℕ → Type 0
 HasAt text place part = (place + length part ≤ length text) × (take (length part) (drop place text) ≡ part)
-
--- how many cycles are carried out: all of them, unless a message is printed instead of the listing
-abbrev pub cyclesRun : Message → ℕ → ℕ
-cyclesRun TooLarge n = 0
-cyclesRun InputEnds n = 0
-cyclesRun (Refused number) n = 0
-cyclesRun Runs n = n
-
--- the lent words at the end of the program
-unfoldable pub atEnd : List ℕ → Lent
-atEnd bytes = cyclesOn (cyclesRun (message bytes) (cyclesAsked bytes)) (beforeCycles bytes)

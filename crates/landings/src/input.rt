@@ -2,19 +2,21 @@
 ghost use mathlib.Core.Path.{_≡_};
 ghost use Prim.Native.Nat.{ℕ, _+_, _*_, _<_, _≤_};
 ghost use lib.ListN.{length};
-ghost use Rattle.sheet.specs.Sheet.{nodes, memoryWords};
+ghost use Rattle.sheet.specs.Sheet.{nodes, memoryWords, sheetWords};
 ghost use Rattle.sheet.specs.Rules.{verdict};
-ghost use Rattle.landings.specs.Input.{statedLength, memoryPlace, memorySize, transfersPlace, cyclesPlace, cyclesAsked};
+ghost use Rattle.landings.specs.Input.{mostMemory, mostTransfers, statedLength, memoryPlace, memorySize, transfersPlace, cyclesPlace, cyclesAsked};
 ghost use Rattle.landings.specs.declared.input.Message.the-variants.{Runs};
 ghost use Rattle.landings.specs.Messages.{cyclesMessage, transfersMessage, memoryMessage, checkedMessage, inputMessage};
-
-pub const MOST_SHEET: u32 = 8597;
 
 const MOST_MEMORY: u32 = 4096;
 
 const MOST_TRANSFERS: u32 = 64;
 
 const MOST_CYCLES: u32 = 65536;
+
+// The bytes of the longest input that is taken: three words that count, the sheet, the memories, and five words a transfer.
+pub const MOST_BYTES: usize = 4
+    * (3 + (sheet::SHEET_WORDS + MOST_MEMORY + 5 * MOST_TRANSFERS) as usize);
 
 // The line to print instead of a listing, or Runs.
 pub enum Message {
@@ -26,7 +28,7 @@ pub enum Message {
 
 // The cycles' word, at its place, which transfers_message has reckoned.
 fn cycles_message(bytes: &[u8], at: usize) -> Message
-    requires { ⌜ (at ≡ cyclesPlace (now bytes)) × (at ≤ 13015) ⌝ }
+    requires { ⌜ (at ≡ cyclesPlace (now bytes)) × (at ≤ 2 + sheetWords + mostMemory + 5 * mostTransfers) ⌝ }
     ensures { λ r. ⌜ r ≡ cyclesMessage (now (bytes .entry)) ⌝ }
 {
     if bytes.len() < 4 * (at + 1) {
@@ -40,7 +42,7 @@ fn cycles_message(bytes: &[u8], at: usize) -> Message
 
 // The number of transfers, at its place, which memory_message has reckoned.
 fn transfers_message(bytes: &[u8], at: usize) -> Message
-    requires { ⌜ (at ≡ transfersPlace (now bytes)) × (at ≤ 12694) ⌝ }
+    requires { ⌜ (at ≡ transfersPlace (now bytes)) × (at ≤ 1 + sheetWords + mostMemory) ⌝ }
     ensures { λ r. ⌜ r ≡ transfersMessage (now (bytes .entry)) ⌝ }
 {
     if bytes.len() < 4 * (at + 1) {
@@ -69,12 +71,12 @@ pub fn memory_size(sheet: &[u32]) -> u32
     requires { ⌜ verdict (now sheet) ≡ 0 ⌝ }
     ensures { λ r. ⌜ r ≡ nodes (now (sheet .entry)) * memoryWords (now (sheet .entry)) ⌝ }
 {
-    words::get(sheet, 0) * words::get(sheet, 1) * words::get(sheet, 2)
+    sheet::whole_memory_of(sheet)
 }
 
 // The checker's number for a sheet whose words are all there, and what follows; input_message lends room for the sheet.
 fn checked_message(bytes: &[u8], sheet: &mut [u32]) -> Message
-    requires { ⌜ (4 * (1 + length (now sheet)) ≤ length (now bytes)) × (length (now sheet) ≡ statedLength (now bytes)) × (length (now sheet) ≤ 8597) ⌝ }
+    requires { ⌜ (4 * (1 + length (now sheet)) ≤ length (now bytes)) × (length (now sheet) ≡ statedLength (now bytes)) × (length (now sheet) ≤ sheetWords) ⌝ }
     ensures { λ r. ⌜ r ≡ checkedMessage (now (bytes .entry)) ⌝ }
 {
     octets::read_words(bytes, 1, sheet);
@@ -94,14 +96,14 @@ pub fn input_message(bytes: &[u8]) -> Message
         return Message::InputEnds;
     }
     let count = octets::word_in(bytes, 0);
-    if count > MOST_SHEET {
+    if count > sheet::SHEET_WORDS {
         return Message::TooLarge;
     }
     let n = count as usize;
     if bytes.len() < 4 * (1 + n) {
         return Message::InputEnds;
     }
-    let mut sheet = [0u32; 8597];
+    let mut sheet = [0u32; sheet::SHEET_WORDS as usize];
     checked_message(bytes, &mut sheet[..n])
 }
 
@@ -110,7 +112,7 @@ pub fn nodes_of(sheet: &[u32]) -> u32
     requires { ⌜ verdict (now sheet) ≡ 0 ⌝ }
     ensures { λ r. ⌜ (r ≡ nodes (now (sheet .entry))) × (r ≤ 16) ⌝ }
 {
-    words::get(sheet, 0) * words::get(sheet, 1)
+    sheet::nodes_of(sheet)
 }
 
 // The cycles of an input whose words are all there, behind its transfers, which begin at a place.

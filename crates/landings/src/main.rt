@@ -5,24 +5,25 @@ mod output;
 mod pages;
 
 ghost use mathlib.Core.Path.{_≡_};
-ghost use Prim.Native.Nat.{ℕ, _≤_};
-ghost use lib.ListN.{length, replicate};
-ghost use Rattle.sheet.specs.Sheet.{nodes as nodesIn};
-ghost use Rattle.network.specs.Registers.{stateWords};
-ghost use Rattle.landings.specs.declared.input.Message.the-variants.{Refused, Runs};
-ghost use Rattle.landings.specs.Input.{statedLength, sheetOf, memorySize, cyclesAsked};
-ghost use Rattle.landings.specs.Messages.{inputMessage, message};
-ghost use Rattle.landings.specs.Lines.{lent, cyclesOn};
-ghost use Rattle.landings.specs.Output.{heading, beforeCycles, printout, atEnd};
+ghost use Prim.Native.Nat.{ℕ, _+_, _≤_};
+ghost use lib.ListN.{length};
+ghost use Rattle.session.specs.Calls.{lend};
+ghost use Rattle.landings.specs.declared.input.Message.the-variants.{Runs};
+ghost use Rattle.landings.specs.Input.{statedLength, sheetOf};
+ghost use Rattle.landings.specs.Messages.{inputMessage};
+ghost use Rattle.landings.specs.Lines.{cyclesOn, refusedLine};
+ghost use Rattle.landings.specs.Output.{heading, beforeCycles, printout, HasAt};
+ghost use Rattle.landings.specs.Inner.Ended.{cyclesDone, atEnd};
+ghost use Rattle.landings.specs.Inner.Pages.{Started, Lendable};
 use input::Message;
 use output::write_part;
 
 const LINE_END: u8 = 10;
 
-// Prints the line of a refusal; the callers have its number from the input.
+// Prints the line of a refusal, where the output has it.
 fn print_refused(bytes: &[u8], place: &mut usize, number: u32)
-    requires { ⌜ (message (now bytes) ≡ Refused number) × (now place ≡ 0) ⌝ }
-    ensures { λ _. ⌜ now (place .exit) ≡ length (printout (now (bytes .entry))) ⌝ }
+    requires { ⌜ HasAt (printout (now bytes)) (now place) (refusedLine number) ⌝ }
+    ensures { λ _. ⌜ now (place .exit) ≡ now (place .entry) + length (refusedLine number) ⌝ }
 {
     write_part(bytes, place, b"refused ");
     let mut line = [0u8; 12];
@@ -30,7 +31,7 @@ fn print_refused(bytes: &[u8], place: &mut usize, number: u32)
     write_part(bytes, place, &line[..end]);
 }
 
-// Runs all cycles and writes their lines, page by page, behind the heading; `list` has written that.
+// Runs the cycles and writes their lines, page by page, behind the heading, which `list` has written; a refusal ends them.
 fn write_pages(
     bytes: &[u8],
     place: &mut usize,
@@ -40,23 +41,27 @@ fn write_pages(
     last: u32,
     buffer: &mut [u8],
 )
-    requires { ⌜ (message (now bytes) ≡ Runs) × (lent (now s) (now m) ≡ beforeCycles (now bytes)) × (nodes ≡ nodesIn (sheetOf (now bytes))) × (last ≡ cyclesAsked (now bytes)) × (now place ≡ length heading) × (length (now buffer) ≡ 65536) ⌝ }
+    requires { ⌜ (Started (now bytes) (now s) (now m) nodes last) × (now place ≡ length heading) × (length (now buffer) ≡ 65536) ⌝ }
     ensures place { λ _. ⌜ now (place .exit) ≡ length (printout (now (bytes .entry))) ⌝ }
-    ensures words { λ _. ⌜ lent (now (s .exit)) (now (m .exit)) ≡ cyclesOn (cyclesAsked (now (bytes .entry))) (beforeCycles (now (bytes .entry))) ⌝ }
+    ensures words { λ _. ⌜ lend (now (s .exit)) (now (m .exit)) ≡ cyclesOn (cyclesDone (now (bytes .entry))) (beforeCycles (now (bytes .entry))) ⌝ }
 {
     let mut time: u32 = 0;
     while time < last {
         let page = pages::fill(s, m, nodes, time, last, buffer);
         write_part(bytes, place, &buffer[..page.place]);
+        if page.refusal != 0 {
+            print_refused(bytes, place, page.refusal);
+            return;
+        }
         time += page.cycles;
     }
 }
 
 // Prints the listing of all cycles; run_session has loaded and started.
 fn list(bytes: &[u8], place: &mut usize, s: &mut [u32], m: &mut [u32], nodes: u32, last: u32)
-    requires { ⌜ (message (now bytes) ≡ Runs) × (lent (now s) (now m) ≡ beforeCycles (now bytes)) × (nodes ≡ nodesIn (sheetOf (now bytes))) × (last ≡ cyclesAsked (now bytes)) × (now place ≡ 0) ⌝ }
+    requires { ⌜ (Started (now bytes) (now s) (now m) nodes last) × (now place ≡ 0) ⌝ }
     ensures place { λ _. ⌜ now (place .exit) ≡ length (printout (now (bytes .entry))) ⌝ }
-    ensures words { λ _. ⌜ lent (now (s .exit)) (now (m .exit)) ≡ cyclesOn (cyclesAsked (now (bytes .entry))) (beforeCycles (now (bytes .entry))) ⌝ }
+    ensures words { λ _. ⌜ lend (now (s .exit)) (now (m .exit)) ≡ cyclesOn (cyclesDone (now (bytes .entry))) (beforeCycles (now (bytes .entry))) ⌝ }
 {
     write_part(bytes, place, b"cycle node address word kind\n");
     let mut buffer = [0u8; 65536];
@@ -65,9 +70,9 @@ fn list(bytes: &[u8], place: &mut usize, s: &mut [u32], m: &mut [u32], nodes: u3
 
 // Runs the session of a sheet on a state of zeros and room for its memories.
 fn run_session(bytes: &[u8], place: &mut usize, sheet: &[u32], s: &mut [u32], m: &mut [u32])
-    requires { ⌜ (inputMessage (now bytes) ≡ Runs) × (now sheet ≡ sheetOf (now bytes)) × (now s ≡ replicate stateWords 0) × (length (now m) ≡ memorySize (now bytes)) × (now place ≡ 0) ⌝ }
+    requires { ⌜ (Lendable (now bytes) (now sheet) (now s) (now m)) × (now place ≡ 0) ⌝ }
     ensures place { λ _. ⌜ now (place .exit) ≡ length (printout (now (bytes .entry))) ⌝ }
-    ensures words { λ _. ⌜ lent (now (s .exit)) (now (m .exit)) ≡ atEnd (now (bytes .entry)) ⌝ }
+    ensures words { λ _. ⌜ lend (now (s .exit)) (now (m .exit)) ≡ atEnd (now (bytes .entry)) ⌝ }
 {
     let number = calls::prepare(bytes, sheet, s, m);
     if number != 0 {
@@ -87,7 +92,7 @@ fn run(bytes: &[u8], place: &mut usize, sheet: &mut [u32])
 {
     octets::read_words(bytes, 1, sheet);
     let size = input::memory_size(sheet) as usize;
-    let mut state = [0u32; 10278];
+    let mut state = [0u32; network::STATE_WORDS];
     let mut memory = [0u32; 4096];
     run_session(bytes, place, sheet, &mut state, &mut memory[..size]);
 }
@@ -98,7 +103,7 @@ fn run_input(bytes: &[u8], place: &mut usize)
     ensures { λ _. ⌜ now (place .exit) ≡ length (printout (now (bytes .entry))) ⌝ }
 {
     let n = octets::word_in(bytes, 0) as usize;
-    let mut sheet = [0u32; 8597];
+    let mut sheet = [0u32; sheet::SHEET_WORDS as usize];
     run(bytes, place, &mut sheet[..n]);
 }
 
@@ -116,7 +121,7 @@ fn answer(bytes: &[u8], place: &mut usize)
 }
 
 fn main() {
-    let mut bytes = [0u8; 52064];
+    let mut bytes = [0u8; input::MOST_BYTES];
     let n = io::read_full(libc::STDIN_FILENO, &mut bytes);
     let mut place = 0;
     answer(&bytes[..n], &mut place);

@@ -1,20 +1,21 @@
 // The listing, page by page: cycles are run, and their lines put into a buffer, until it could overflow.
 ghost use mathlib.Core.Path.{_≡_};
-ghost use Prim.Native.Nat.{ℕ, _+_, _-_, _*_, _≤_};
+ghost use Prim.Native.Nat.{ℕ, _+_, _*_, _≤_};
 ghost use lib.ListN.{length, take};
-ghost use Rattle.words.specs.Words.{putAll};
-ghost use Rattle.session.specs.Calls.{memoryNumber, lastLanding};
-ghost use Rattle.landings.specs.Lines.{lent, lineFor, cycleLines, cyclesLines, cyclesOn};
-ghost use Rattle.landings.specs.Inner.Pages.{pageCycles};
+ghost use Rattle.words.specs.Inner.Puts.{putAll};
+ghost use Rattle.session.specs.Calls.{memoryNumber, lastLanding, lend};
+ghost use Rattle.landings.specs.Lines.{lineFor, cycleLines, cyclesLines, cyclesOn};
+ghost use Rattle.landings.specs.Inner.Pages.{Paged};
 use session::Landed;
 
 // Room for a cycle's lines, 16 of at most 60 bytes, and some more.
 const CYCLE_BYTES: usize = 1024;
 
-// How far a page's lines reach in the buffer, and how many cycles they are of.
+// How far a page's lines reach in the buffer, how many cycles they are of, and the number of the cycle that was refused behind them, or 0.
 pub struct Page {
     pub place: usize,
     pub cycles: u32,
+    pub refusal: u32,
 }
 
 // Puts a node's line for a cycle, where something landed; put_cycle has seen that it fits.
@@ -49,8 +50,8 @@ fn put_cycle(s: &[u32], nodes: u32, time: u32, buffer: &mut [u8], at: usize) -> 
     place
 }
 
-// Runs the cycles from `first` on and before `last`, and fills the buffer with their lines, as many as surely fit. No cycle of a session is
-// refused (`cycles-carried-out`), so its answer is not looked at. The program meets the requires: load and starts were carried out.
+// Runs the cycles from `first` on and before `last`, up to one that is refused, and fills the buffer with their lines, as many as surely
+// fit. The program meets the requires: load and starts were carried out.
 pub fn fill(
     s: &mut [u32],
     m: &mut [u32],
@@ -60,10 +61,10 @@ pub fn fill(
     buffer: &mut [u8],
 ) -> Page
     requires { ⌜ (memoryNumber (now s) (now m) ≡ 0) × (nodes ≤ 16) × (first ≤ last) × (length (now buffer) ≡ 65536) ⌝ }
-    ensures cycles { λ r. ⌜ r .cycles ≡ pageCycles (length (now (buffer .entry))) nodes first (last - first) (lent (now (s .entry)) (now (m .entry))) ⌝ }
-    ensures words { λ r. ⌜ lent (now (s .exit)) (now (m .exit)) ≡ cyclesOn (r .cycles) (lent (now (s .entry)) (now (m .entry))) ⌝ }
-    ensures lines { λ r. ⌜ take (r .place) (now (buffer .exit)) ≡ cyclesLines nodes first (r .cycles) (lent (now (s .entry)) (now (m .entry))) ⌝ }
-    ensures buffer { λ r. ⌜ now (buffer .exit) ≡ putAll (now (buffer .entry)) 0 (cyclesLines nodes first (r .cycles) (lent (now (s .entry)) (now (m .entry)))) ⌝ }
+    ensures cycles { λ r. ⌜ Paged first last (lend (now (s .entry)) (now (m .entry))) (r .cycles) (r .refusal) ⌝ }
+    ensures words { λ r. ⌜ lend (now (s .exit)) (now (m .exit)) ≡ cyclesOn (r .cycles) (lend (now (s .entry)) (now (m .entry))) ⌝ }
+    ensures lines { λ r. ⌜ take (r .place) (now (buffer .exit)) ≡ cyclesLines nodes first (r .cycles) (lend (now (s .entry)) (now (m .entry))) ⌝ }
+    ensures buffer { λ r. ⌜ now (buffer .exit) ≡ putAll (now (buffer .entry)) 0 (cyclesLines nodes first (r .cycles) (lend (now (s .entry)) (now (m .entry)))) ⌝ }
     ensures fits { λ r. ⌜ r .place ≤ length (now (buffer .exit)) ⌝ }
     ensures ready { λ _. ⌜ memoryNumber (now (s .exit)) (now (m .exit)) ≡ 0 ⌝ }
 {
@@ -74,14 +75,23 @@ pub fn fill(
             return Page {
                 place: at,
                 cycles: time - first,
+                refusal: 0,
             };
         }
-        session::cycle_sound(s, m);
+        let number = session::number_of(session::cycle_sound(s, m));
+        if number != 0 {
+            return Page {
+                place: at,
+                cycles: time - first,
+                refusal: number,
+            };
+        }
         at = put_cycle(s, nodes, time, buffer, at);
         time += 1;
     }
     Page {
         place: at,
         cycles: time - first,
+        refusal: 0,
     }
 }

@@ -1,46 +1,21 @@
 -- Texts put into a buffer one behind the other, how long a field is, and its digits from those that `io` counts.
 -- Assumes nothing.
 use Prim.Native.Nat.{ℕ, zero, suc, _+_, _-_, _^_, _≤_, _<_}
-use mathlib.Core.Bool.{Bool, true, false, false≢true}
 use mathlib.Core.List.{List, [], _∷_, _++_}
 use mathlib.Core.Path.{_≡_, refl, sym, _∙_, ap}
 use native.Mathlib.Omega.{arith}
-use native.Mathlib.Nat.{add-zero, zero-add, pow-le-pow-right}
+use native.Mathlib.Nat.{pow-le-pow-right}
 use native.Mathlib.Numerals.{add-one}
-use native.Mathlib.Decide.{ℕ-discrete, decLe}
+use native.Mathlib.Decide.{decLe}
 use lib.ListN.{length, take, set, length-append, length-set}
-use lib.Seq.{take-suc, length-take-le, ext-getD, getD-take}
+use lib.Seq.{take-suc, length-take-le}
 use Rattle.io.specs.Digits.{digits, Fewest}
 use Rattle.words.specs.Tests.{_<?_}
-use Rattle.words.specs.Words.{word, putAll, leastFrom}
+use Rattle.words.specs.Words.{word}
+use Rattle.words.specs.Inner.Puts.{putAll}
 use Rattle.words.proofs.TestLaws.{yes<, no<}
-use Rattle.words.proofs.WordLaws.{length-putAll, putAll-at, leastFrom-most}
+use Rattle.words.proofs.WordLaws.{leastFrom-most, putAll-one, putAll-behind, leastFrom-is}
 use Rattle.listing.specs.Text.{places, field, landingLine, space, lineEnd}
-
--- one text behind another
-pub putAll-append : (s xs ys : List ℕ) (at : ℕ) → putAll s at (xs ++ ys) ≡ putAll (putAll s at xs) (at + length xs) ys
-unfolding putAll
-putAll-append s [] ys at = rw add-zero refl
-putAll-append s (x ∷ xs) ys at =
-    let e : at + 1 + length xs ≡ at + suc (length xs) = omega arith in
-    putAll-append (set s at x) xs ys (at + 1) ∙ ap (λ k. putAll (putAll (set s at x) (at + 1) xs) k ys) e
-
--- and one byte behind a text
-pub putAll-one : (s xs : List ℕ) (at x k : ℕ) → k ≡ at + length xs → set (putAll s at xs) k x ≡ putAll s at (xs ++ (x ∷ []))
-unfolding putAll
-putAll-one s xs at x k e = ap (λ j. set (putAll s at xs) j x) e ∙ sym (putAll-append s xs (x ∷ []) at)
-
--- a text that fits from the front on is what the buffer then begins with
-pub putAll-front : (s xs : List ℕ) → length xs ≤ length s → take (length xs) (putAll s 0 xs) ≡ xs
-putAll-front s xs l =
-    let long : length xs ≤ length (putAll s 0 xs) = omega (arith, length-putAll s xs 0) in
-    let same : length (take (length xs) (putAll s 0 xs)) ≡ length xs = length-take-le (length xs) (putAll s 0 xs) long in
-    ext-getD 0 (take (length xs) (putAll s 0 xs)) xs same
-    (λ k h.
-    let inside : k < length xs = omega arith in
-    getD-take (length xs) (putAll s 0 xs) k 0 inside
-    ∙ ap (λ j. word (putAll s 0 xs) j) (sym (zero-add k))
-    ∙ putAll-at s xs 0 (omega arith) k inside)
 
 -- the loop that copies a text
 pub record Copying (text : List ℕ) (count : ℕ) (start buffer : List ℕ) (at k : ℕ) : Type 0 where
@@ -48,16 +23,16 @@ pub record Copying (text : List ℕ) (count : ℕ) (start buffer : List ℕ) (at
   pub long : length buffer ≡ length start
   pub bytes : buffer ≡ putAll start at (take k text)
 
-pub copy-start : (text : List ℕ) (count : ℕ) (start : List ℕ) (at : ℕ) → Copying text count start start at 0
+pub copying-start : (text : List ℕ) (count : ℕ) (start : List ℕ) (at : ℕ) → Copying text count start start at 0
 unfolding putAll
-copy-start text count start at = record { within = omega arith; long = refl; bytes = refl }
+copying-start text count start at = record { within = omega arith; long = refl; bytes = refl }
 
-pub copy-more : (text : List ℕ) (count : ℕ) (start buffer : List ℕ) (at k : ℕ)
+pub copying-more : (text : List ℕ) (count : ℕ) (start buffer : List ℕ) (at k : ℕ)
     → Copying text count start buffer at k
     → count ≤ length text
     → k < count
     → Copying text count start (set buffer (at + k) (word text k)) at (k + 1)
-copy-more text count start buffer at k c l h =
+copying-more text count start buffer at k c l h =
     let inside : k < length text = omega arith in
     let so-far : length (take k text) ≡ k = length-take-le k text (omega arith) in
     let next : at + k ≡ at + length (take k text) = omega arith in
@@ -71,32 +46,13 @@ copy-more text count start buffer at k c l h =
           ∙ ap (λ j. putAll start at (take j text)) (sym (add-one k));
     }
 
-pub copy-done : (text : List ℕ) (count : ℕ) (start buffer : List ℕ) (at k : ℕ)
+pub copying-done : (text : List ℕ) (count : ℕ) (start buffer : List ℕ) (at k : ℕ)
     → Copying text count start buffer at k
     → count ≤ k
     → buffer ≡ putAll start at (take count text)
-copy-done text count start buffer at k c l =
+copying-done text count start buffer at k c l =
     let e : k ≡ count = omega (arith, c .within) in
     c .bytes ∙ ap (λ j. putAll start at (take j text)) e
-
--- the least number at which a test holds, from the test
-pub least-is : (test : ℕ → Bool) (n k r : ℕ) → k ≤ r → r < k + n → test r ≡ true → ((j : ℕ) → k ≤ j → j < r → test j ≡ false)
-    → leastFrom n k test ≡ r
-unfolding leastFrom
-least-is test zero k r a b e f = absurd (let z : ⊥ = omega arith in z)
-least-is test (suc n) k r a b e f = go (test k) refl (least-is test n (k + 1) r)
-  where
-    go : (t : Bool) → test k ≡ t
-        → (k + 1 ≤ r → r < k + 1 + n → test r ≡ true → ((j : ℕ) → k + 1 ≤ j → j < r → test j ≡ false) → leastFrom n (k + 1) test ≡ r)
-        → leastFrom (suc n) k test ≡ r
-    go true q rest = rw (q, leastFrom) (here (ℕ-discrete k r))
-      where
-        here : Dec (k ≡ r) → k ≡ r
-        here (yes p) = p
-        here (no p) = absurd (false≢true (sym (f k (omega arith) (omega arith)) ∙ q))
-    go false q rest =
-        let other : k ≡ r → ⊥ = λ p. false≢true (sym q ∙ ap test p ∙ e) in
-        rw (q, leastFrom) (rest (omega (arith, other)) (omega arith) e (λ j c d. f j (omega arith) d))
 
 -- a power of ten with a larger exponent is no less
 tens : (i j : ℕ) → i ≤ j → 10 ^ i ≤ 10 ^ j
@@ -117,7 +73,7 @@ fewest-few n r l f = go (decLe r 10)
 pub places-is : (n r : ℕ) → n < 4294967296 → Fewest 10 1 n r → r ≡ places n
 unfolding places
 places-is n r l f =
-    sym (least-is (λ k. n <? 10 ^ k) 10 1 r (f .0) (omega (arith, fewest-few n r l f)) (yes< (f .1))
+    sym (leastFrom-is (λ k. n <? 10 ^ k) 10 1 r (f .0) (omega (arith, fewest-few n r l f)) (yes< (f .1))
     (λ j a b.
     let step : 10 ^ j ≤ 10 ^ (r - 1) = tens j (r - 1) (omega arith) in
     let least : 10 ^ (r - 1) ≤ n = f .2 (omega arith) in
@@ -154,18 +110,6 @@ module _ (n end r : ℕ) (text : List ℕ) (l : n < 4294967296) (few : Fewest 10
       ap (λ (b : List ℕ). set b (at + r) end) q
       ∙ putAll-one start (take r text) at end (at + r) there
       ∙ ap (λ (x : List ℕ). putAll start at x) field-is
-
--- a text put in behind another: the two are one text
-pub put-behind : (s x y : List ℕ) (a b : ℕ) {t u : List ℕ}
-    → t ≡ putAll s a x
-    → b ≡ a + length x
-    → u ≡ putAll t b y
-    → u ≡ putAll s a (x ++ y)
-put-behind s x y a b e f g =
-    g
-    ∙ ap (λ (r : List ℕ). putAll r b y) e
-    ∙ ap (λ k. putAll (putAll s a x) k y) f
-    ∙ sym (putAll-append s x y a)
 
 -- a landing's line is as long as its fields, at most sixty bytes
 line-length : (cycle node address payload kind : ℕ)
@@ -211,4 +155,4 @@ module _ (at cycle node address payload kind : ℕ) {a b c d : ℕ}
       → y ≡ putAll start at (landingLine cycle node address payload kind)
   unfolding landingLine
   line-bytes start f g h i j =
-      put-behind _ _ _ _ _ f p (put-behind _ _ _ _ _ g q (put-behind _ _ _ _ _ h r (put-behind _ _ _ _ _ i s j)))
+      putAll-behind _ _ _ _ _ f p (putAll-behind _ _ _ _ _ g q (putAll-behind _ _ _ _ _ h r (putAll-behind _ _ _ _ _ i s j)))

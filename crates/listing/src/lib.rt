@@ -2,7 +2,7 @@
 ghost use mathlib.Core.Path.{_≡_};
 ghost use Prim.Native.Nat.{ℕ, _+_, _≤_};
 ghost use lib.ListN.{length, take};
-ghost use Rattle.words.specs.Words.{putAll};
+ghost use Rattle.words.specs.Inner.Puts.{putAll};
 ghost use Rattle.listing.specs.Text.{field, landingLine};
 
 const SPACE: u8 = 32;

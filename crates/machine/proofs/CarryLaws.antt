@@ -9,7 +9,7 @@ use lib.ListN.{length}
 use Rattle.words.specs.Tests.{any}
 use Rattle.sheet.specs.Sheet.{circuits, nodes}
 use Rattle.sheet.specs.Inner.Passed.{Headed}
-use Rattle.network.specs.Registers.{sheetIn, room, movingWords}
+use Rattle.network.specs.Registers.{sheetIn, room, movingWords, rowWords, clockRow, clockWords, linkMark, linkWord, headMark, latchRow, outMark, outWord, receiveMark, landingWord, leftRow, toGoRow}
 use Rattle.network.specs.Inner.Machine.{nextInRow, straysIn, nextState, nextMemory}
 use Rattle.network.specs.Inner.Stages.{stage, linkFrom, outFrom}
 use Rattle.sources.specs.Inner.Slots.{slotTable}
@@ -22,37 +22,37 @@ use Rattle.machine.proofs.JoinLaws.{headed-ready, linked-ready, memory-
 module _ {s m slots marks cells outs values : List ℕ} (T : Tables s m slots marks cells outs values) (R : Ready s m)
     (calm : any (nodes (sheetIn s)) (straysIn s) ≡ false) {count size : ℕ} (e : count ≡ nodes (sheetIn s)) (few : count ≤ 16)
     (f : size ≡ room s) where
-  pub heads-ready : (movingWords ≤ length s) × (count * 5 ≤ 80)
+  pub heads-ready : (movingWords ≤ length s) × (count * 5 ≤ rowWords)
   heads-ready = (R .steppable .long, omega (arith, few))
 
-  module _ {headed : List ℕ} (heads : headed ≡ stage 3 6 (count * 5) (nextInRow s []) s) where
-    by-heads : headed ≡ stage 3 6 (nodes (sheetIn s) * 5) (nextInRow s []) s
-    by-heads = heads ∙ ap (λ (n : ℕ). stage 3 6 (n * 5) (nextInRow s []) s) e
+  module _ {headed : List ℕ} (heads : headed ≡ stage headMark latchRow (count * 5) (nextInRow s []) s) where
+    by-heads : headed ≡ stage headMark latchRow (nodes (sheetIn s) * 5) (nextInRow s []) s
+    by-heads = heads ∙ ap (λ (n : ℕ). stage headMark latchRow (n * 5) (nextInRow s []) s) e
 
     pub links-ready : (Headed (sheetIn headed)) × (movingWords ≤ length headed)
     links-ready = headed-ready s m slots marks cells outs values T R headed by-heads
 
-    module _ {linked : List ℕ} (links : linked ≡ stage 1 2 (nodes (sheetIn headed) * 5) (linkFrom marks cells headed) headed) where
+    module _ {linked : List ℕ} (links : linked ≡ stage linkMark linkWord (nodes (sheetIn headed) * 5) (linkFrom marks cells headed) headed) where
       pub units-ready : Receivable linked m count size
       units-ready = linked-ready s m slots marks cells outs values T R headed by-heads linked links calm count size e f
 
-      module _ {received : List ℕ} (units : received ≡ stage 9 15 (nodes (sheetIn linked)) (nextInRow linked []) linked) where
-        pub outs-ready : (movingWords ≤ length received) × (count * 5 ≤ 80)
+      module _ {received : List ℕ} (units : received ≡ stage receiveMark landingWord (nodes (sheetIn linked)) (nextInRow linked []) linked) where
+        pub outs-ready : (movingWords ≤ length received) × (count * 5 ≤ rowWords)
         outs-ready = (received-long s m slots marks cells outs values T R headed by-heads linked links received units, omega (arith, few))
 
-        module _ {crossed : List ℕ} (crossing : crossed ≡ stage 7 8 (count * 5) (outFrom outs values) received) where
-          by-outs : crossed ≡ stage 7 8 (nodes (sheetIn s) * 5) (outFrom outs values) received
-          by-outs = crossing ∙ ap (λ (n : ℕ). stage 7 8 (n * 5) (outFrom outs values) received) e
+        module _ {crossed : List ℕ} (crossing : crossed ≡ stage outMark outWord (count * 5) (outFrom outs values) received) where
+          by-outs : crossed ≡ stage outMark outWord (nodes (sheetIn s) * 5) (outFrom outs values) received
+          by-outs = crossing ∙ ap (λ (n : ℕ). stage outMark outWord (n * 5) (outFrom outs values) received) e
 
           pub senders-ready : (Steppable crossed) × (slots ≡ slotTable crossed)
           senders-ready = crossed-ready s m slots marks cells outs values T R headed by-heads linked links received units crossed by-outs
 
-          module _ {sent : List ℕ} (senders : sent ≡ stage 16 20 (circuits (sheetIn crossed)) (nextInRow crossed []) crossed) where
+          module _ {sent : List ℕ} (senders : sent ≡ stage leftRow toGoRow (circuits (sheetIn crossed)) (nextInRow crossed []) crossed) where
             pub clock-ready : Clocked sent
             clock-ready =
                 sent-ready s m slots marks cells outs values T R headed by-heads linked links received units crossed by-outs sent senders
 
-            module _ {clocked after : List ℕ} (clock : clocked ≡ stage 0 0 6 (nextInRow sent []) sent) (stores : after ≡ nextMemory linked m) where
+            module _ {clocked after : List ℕ} (clock : clocked ≡ stage clockRow clockRow clockWords (nextInRow sent []) sent) (stores : after ≡ nextMemory linked m) where
               pub carried-out : (clocked ≡ nextState s m) × (after ≡ nextMemory s m)
               carried-out = (
                 state-is s m slots marks cells outs values T R headed by-heads linked links received units crossed by-outs sent senders

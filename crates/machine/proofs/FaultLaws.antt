@@ -5,10 +5,9 @@ use mathlib.Core.Bool.{Bool, true, false}
 use mathlib.Core.Path.{_≡_, refl, sym, _∙_, ap, ap₂}
 use mathlib.Core.List.{List}
 use Rattle.words.specs.Tests.{any, _or_}
-use Rattle.words.proofs.AllLaws.{any-same}
+use Rattle.words.proofs.AllLaws.{any-same, any-or}
 use Rattle.sheet.specs.Sheet.{circuits, nodes}
 use Rattle.network.specs.Registers.{sheetIn}
-use Rattle.routers.proofs.PlaceLaws.{any-or}
 use Rattle.network.specs.Inner.Machine.{collidesIn, unheldIn, unchosenIn, headlessIn, crowdsIn, straysIn, reopensIn, faultyIn}
 
 true-or : (a : Bool) → (true or a) ≡ true
@@ -42,10 +41,6 @@ second-first false true true d = refl
 second-first false true false d = refl
 second-first false false c d = refl
 
--- some place passes one of two tests
-some-or : (n : ℕ) (f g : ℕ → Bool) → any n (λ k. f k or g k) ≡ (any n f or any n g)
-some-or n f g = sym (any-or n f g)
-
 module _ (s : List ℕ) where
   abbrev pub collided : Bool
   collided = any (nodes (sheetIn s)) (λ node. any 5 (collidesIn s node))
@@ -73,17 +68,17 @@ module _ (s : List ℕ) where
   headless-are : any (nodes (sheetIn s)) (λ node. any 5 (headlessIn s node)) ≡ (unheld or unchosen)
   unfolding headlessIn
   headless-are =
-      any-same (nodes (sheetIn s)) _ _ (λ node _. some-or 5 (unheldIn s node) (unchosenIn s node))
-      ∙ some-or (nodes (sheetIn s)) (λ node. any 5 (unheldIn s node)) (λ node. any 5 (unchosenIn s node))
+      any-same (nodes (sheetIn s)) _ _ (λ node _. sym (any-or 5 (unheldIn s node) (unchosenIn s node)))
+      ∙ sym (any-or (nodes (sheetIn s)) (λ node. any 5 (unheldIn s node)) (λ node. any 5 (unchosenIn s node)))
 
   faults-are : faultyIn s ≡ ((crossed or (unheld or (crowded or strayed))) or reopened)
   unfolding faultyIn
   faults-are =
       ap (λ (b : Bool). b or reopened)
-      (some-or (nodes (sheetIn s)) (λ node. any 5 (collidesIn s node)) (λ node. any 5 (headlessIn s node) or crowdsIn s node or straysIn s node)
+      (sym (any-or (nodes (sheetIn s)) (λ node. any 5 (collidesIn s node)) (λ node. any 5 (headlessIn s node) or crowdsIn s node or straysIn s node))
       ∙ ap (λ (b : Bool). collided or b)
-      (some-or (nodes (sheetIn s)) (λ node. any 5 (headlessIn s node)) (λ node. crowdsIn s node or straysIn s node)
-      ∙ ap₂ _or_ headless-are (some-or (nodes (sheetIn s)) (crowdsIn s) (straysIn s)))
+      (sym (any-or (nodes (sheetIn s)) (λ node. any 5 (headlessIn s node)) (λ node. crowdsIn s node or straysIn s node))
+      ∙ ap₂ _or_ headless-are (sym (any-or (nodes (sheetIn s)) (crowdsIn s) (straysIn s))))
       ∙ second-first collided unheld unchosen (crowded or strayed))
 
   -- a fault of the kind that is looked for, or none of the kinds so far

@@ -1,30 +1,36 @@
 -- The stages of a cycle, each on the words that the one before it left, are together the cycle.
 -- Assumes nothing.
-use Prim.Native.Nat.{ℕ, _+_, _*_, _/_, _%_, _≤_, _<_}
-use mathlib.Core.Bool.{Bool, true, false}
+use Prim.Native.Nat.{ℕ, _*_, _/_, _%_, _≤_, _<_}
+use mathlib.Core.Bool.{Bool, false}
 use mathlib.Core.Path.{_≡_, refl, sym, _∙_, ap, ap₂, subst}
 use mathlib.Core.List.{List, []}
 use native.Mathlib.Omega.{arith}
 use native.Mathlib.Decide.{decLt}
-use native.Mathlib.Nat.{div-lt-iff-lt-mul, mul-le-mul}
-use lib.ListN.{length, drop, List·getD-append}
-use lib.Seq.{drop-at}
-use Rattle.words.specs.Tests.{any, _and_, _or_, _≤?_, _<?_, _=?_}
-use Rattle.words.specs.Words.{word, pick, tab}
-use Rattle.words.proofs.TestLaws.{yes=, no=, yes≤, no≤, yes<, no<}
+use native.Mathlib.Nat.{div-lt-iff-lt-mul}
+use lib.ListN.{length, drop}
+use Rattle.words.specs.Tests.{any, _=?_}
+use Rattle.words.specs.Words.{word, pick}
+use Rattle.words.proofs.TestLaws.{yes<, or-false}
 use Rattle.words.proofs.WordLaws.{length-tab, tab-at, tab-is}
-use Rattle.torus.specs.Torus.{InGrid, neighbourOf, oppositeOf}
+use Rattle.torus.specs.Torus.{neighbourOf, oppositeOf}
 use Rattle.torus.proofs.NeighbourLaws.{neighbour-inside, opposite-side}
 use Rattle.sheet.specs.Sheet.{columns, rows, memoryWords, circuits, schedules, nodes, period}
 use Rattle.sheet.specs.Inner.Passed.{Headed, Framed}
 use Rattle.sheet.specs.Slots.{slotLength}
+use Rattle.sheet.proofs.PassedLaws.{nodes-few, in-grid}
 use Rattle.network.specs.View.{Sender}
 use Rattle.network.specs.Cycle.{move, stepSender}
-use Rattle.network.specs.Registers.{reg, sheetIn, room, movingWords, clockRow, cyclePlace, numberPlace, inForcePlace, orderMarkPlace, orderSchedulePlace, orderPeriodPlace, linkMark, linkWord, outMark, outWord, receiveMark, receiveKind, receiveAddress, leftRow, readRow, writeRow, kindRow, toGoRow, at}
+use Rattle.network.specs.Registers.{reg, sheetIn, room, movingWords, clockRow, cyclePlace, numberPlace, inForcePlace, orderMarkPlace}
+use Rattle.network.specs.Registers.{orderSchedulePlace, orderPeriodPlace, linkMark, linkWord, outMark, outWord, receiveMark, receiveKind}
+use Rattle.network.specs.Registers.{receiveAddress, leftRow, readRow, writeRow, kindRow, toGoRow, at, rowCount, rowWords, clockWords, headMark}
+use Rattle.network.specs.Registers.{headWord, choiceRow, latchRow, landingMark, landingKind, landingAddress, landingWord}
 use Rattle.network.specs.Seen.{seenSender}
-use Rattle.network.specs.Inner.Machine.{neighbourPlace, slotIn, nextSender, sourceMark, sourceWord, nextLinkMark, nextLinkWord, nextOutMark, nextOutWord, memoryMark, memoryWord, nextReceiveMark, nextReceiveKind, nextReceiveAddress, nextLandingMark, memoryAfter, straysIn, turns, isDue, nextClock, nextRows, nextInRow, exists, nextWord, nextState, nextMemory}
+use Rattle.network.specs.Inner.Machine.{neighbourPlace, slotIn, nextSender, sourceMark, sourceWord, nextLinkMark, nextLinkWord, nextOutMark}
+use Rattle.network.specs.Inner.Machine.{nextOutWord, memoryMark, memoryWord, nextReceiveMark, nextReceiveKind, nextReceiveAddress, nextLandingMark}
+use Rattle.network.specs.Inner.Machine.{memoryAfter, straysIn, turns, isDue, nextClock, rowIn, nextRows, nextInRow, nextState, nextMemory}
 use Rattle.network.specs.Inner.Stages.{stage, linkFrom, outFrom}
-use Rattle.network.proofs.RowLaws.{next-row, sender-same}
+use Rattle.network.proofs.RowCases.{Each, that-is-all, _also_, found-number, by-row, clock-extent, router-extent, node-extent, circuit-extent}
+use Rattle.network.proofs.RowLaws.{next-row, next-off, next-rest, sender-same}
 use Rattle.network.proofs.StepLaws.{state-length}
 use Rattle.network.proofs.FillLaws.{restated, stage-length, stage-rest, stage-sheet, stage-here, stage-off}
 use Rattle.sources.specs.Inner.Slots.{slotTable}
@@ -33,71 +39,14 @@ use Rattle.receivers.specs.Inner.Required.{Receivable, Clocked}
 use Rattle.receivers.proofs.StrayLaws.{none-strays}
 use Rattle.machine.specs.Inner.Ready.{Ready}
 use Rattle.machine.specs.Inner.Tables.{Tables}
-use Rattle.machine.proofs.RowCases.{by-row}
 
 -- words with the same registers and the same behind them are the same
 same-words : (a b : List ℕ) → movingWords ≤ length a → movingWords ≤ length b → drop movingWords a ≡ drop movingWords b
-    → ((row k : ℕ) → row < 21 → k < 80 → reg a row k ≡ reg b row k) → a ≡ b
+    → ((row k : ℕ) → row < rowCount → k < rowWords → reg a row k ≡ reg b row k) → a ≡ b
 same-words a b la lb rest e = restated (reg b) b a la rest e ∙ sym (restated (reg b) b b lb refl (λ row k rl kl. refl))
 
--- a register that does not exist stays
-next-off : (s m : List ℕ) (row k : ℕ) → row < 21 → k < 80 → exists s row k ≡ false → reg (nextState s m) row k ≡ reg s row k
-unfolding reg nextState nextWord
-next-off s m row k rl kl e =
-    let inside : row * 80 + k < 1680 = omega arith in
-    let a : (row * 80 + k) / 80 ≡ row = omega arith in
-    let b : (row * 80 + k) % 80 ≡ k = omega arith in
-    List·getD-append (tab movingWords (nextWord s m)) (drop movingWords s) 0 (row * 80 + k) (rw length-tab inside)
-    ∙ tab-at movingWords (nextWord s m) (row * 80 + k) inside
-    ∙ rw (a, b, e) refl
-
-next-rest : (s m : List ℕ) → drop movingWords (nextState s m) ≡ drop movingWords s
-unfolding nextState
-next-rest s m = drop-at (tab movingWords (nextWord s m)) (drop movingWords s) movingWords (length-tab movingWords _)
-
--- how many registers a row has
-unfoldable count : List ℕ → ℕ → ℕ
-count s row =
-    pick (row =? 0) 6 (pick (row ≤? 8) (nodes (sheetIn s) * 5) (pick (row ≤? 15) (nodes (sheetIn s)) (circuits (sheetIn s))))
-
-module _ (s : List ℕ) (row : ℕ) where
-  count-clock : row ≡ 0 → count s row ≡ 6
-  unfolding count
-  count-clock e = rw (yes= e) refl
-
-  count-router : 1 ≤ row → row ≤ 8 → count s row ≡ nodes (sheetIn s) * 5
-  unfolding count
-  count-router a b = rw (no= {a = row} {b = 0} (λ e. omega arith), yes≤ b) refl
-
-  count-node : 9 ≤ row → row ≤ 15 → count s row ≡ nodes (sheetIn s)
-  unfolding count
-  count-node a b = rw (no= {a = row} {b = 0} (λ e. omega arith), no≤ {a = row} {b = 8} (omega arith), yes≤ b) refl
-
-  count-circuit : 16 ≤ row → count s row ≡ circuits (sheetIn s)
-  unfolding count
-  count-circuit a = rw (no= {a = row} {b = 0} (λ e. omega arith), no≤ {a = row} {b = 8} (omega arith), no≤ {a = row} {b = 15} (omega arith)) refl
-
-or-none : (a : Bool) → (a or false) ≡ a
-unfolding _or_
-or-none true = refl
-or-none false = refl
-
-exists-is : (s : List ℕ) (k row : ℕ) → row < 21 → exists s row k ≡ (k <? count s row)
-unfolding exists count _=?_ _≤?_ _and_ _or_
-exists-is s k =
-    let router : ((k <? nodes (sheetIn s) * 5) or false) ≡ (k <? nodes (sheetIn s) * 5) = or-none _ in
-    let node : ((k <? nodes (sheetIn s)) or false) ≡ (k <? nodes (sheetIn s)) = or-none _ in
-    by-row (λ row. exists s row k ≡ (k <? count s row))
-    (or-none (k <? 6)) router router router router router router router router node node node node node node node refl refl refl refl refl
-
-next-inside : (s m : List ℕ) (row k : ℕ) → row < 21 → k < 80 → k < count s row → reg (nextState s m) row k ≡ nextInRow s m row k
-next-inside s m row k rl kl l = next-row s m row k rl kl (exists-is s k row rl ∙ yes< l)
-
-next-outside : (s m : List ℕ) (row k : ℕ) → row < 21 → k < 80 → count s row ≤ k → reg (nextState s m) row k ≡ reg s row k
-next-outside s m row k rl kl l = next-off s m row k rl kl (exists-is s k row rl ∙ no< l)
-
 -- a stage's words, by the equation that its function ensures
-module _ (low high n : ℕ) (f : ℕ → ℕ → ℕ) (s now : List ℕ) (e : now ≡ stage low high n f s) (row k : ℕ) (rl : row < 21) (kl : k < 80) where
+module _ (low high n : ℕ) (f : ℕ → ℕ → ℕ) (s now : List ℕ) (e : now ≡ stage low high n f s) (row k : ℕ) (rl : row < rowCount) (kl : k < rowWords) where
   off : (low ≤ row → row ≤ high → k < n → ⊥) → reg now row k ≡ reg s row k
   off h = ap (λ (x : List ℕ). reg x row k) e ∙ stage-off low high n f s row k rl kl h
 
@@ -118,20 +67,20 @@ module _ (s m slots source-marks source-words out-marks out-words : List ℕ)
   H = R .steppable .framed .headed
 
   few : nodes (sheetIn s) ≤ 16
-  few = mul-le-mul (H .columns-high) (H .rows-high)
+  few = nodes-few (sheetIn s) H
 
   few-circuits : circuits (sheetIn s) ≤ 64
   few-circuits = H .circuits-high
 
-  module _ (headed : List ℕ) (by-heads : headed ≡ stage 3 6 places (nextInRow s []) s) where
-    headed-off : (row k : ℕ) → row < 21 → k < 80 → (3 ≤ row → row ≤ 6 → k < places → ⊥) → reg headed row k ≡ reg s row k
-    headed-off row k rl kl h = off 3 6 places (nextInRow s []) s headed by-heads row k rl kl h
+  module _ (headed : List ℕ) (by-heads : headed ≡ stage headMark latchRow places (nextInRow s []) s) where
+    headed-off : (row k : ℕ) → row < rowCount → k < rowWords → (headMark ≤ row → row ≤ latchRow → k < places → ⊥) → reg headed row k ≡ reg s row k
+    headed-off row k rl kl h = off headMark latchRow places (nextInRow s []) s headed by-heads row k rl kl h
 
     pub headed-sheet : sheetIn headed ≡ sheetIn s
-    headed-sheet = ap sheetIn by-heads ∙ stage-sheet 3 6 places (nextInRow s []) s
+    headed-sheet = ap sheetIn by-heads ∙ stage-sheet headMark latchRow places (nextInRow s []) s
 
     headed-length : length headed ≡ length s
-    headed-length = ap length by-heads ∙ stage-length 3 6 places (nextInRow s []) s long
+    headed-length = ap length by-heads ∙ stage-length headMark latchRow places (nextInRow s []) s long
 
     -- what the links require
     pub headed-ready : (Headed (sheetIn headed)) × (movingWords ≤ length headed)
@@ -142,23 +91,14 @@ module _ (s m slots source-marks source-words out-marks out-words : List ℕ)
       node-small : k / 5 < nodes (sheetIn s)
       node-small = omega arith
 
-      place-small : neighbourPlace s (k / 5) (k % 5) < 80
-      place-small = omega (arith, neighbour-inside in-grid (k % 5), opposite-side (k % 5), few)
-        where
-          in-grid : InGrid (columns (sheetIn s)) (rows (sheetIn s)) (k / 5)
-          in-grid = record {
-            cols-low = H .columns-low;
-            cols-high = H .columns-high;
-            rows-low = H .rows-low;
-            rows-high = H .rows-high;
-            inside = node-small;
-          }
+      place-small : neighbourPlace s (k / 5) (k % 5) < rowWords
+      place-small = omega (arith, neighbour-inside (in-grid (sheetIn s) H (k / 5) node-small) (k % 5), opposite-side (k % 5), few)
 
       neighbour-same : neighbourPlace headed (k / 5) (k % 5) ≡ neighbourPlace s (k / 5) (k % 5)
       neighbour-same =
           ap (λ (z : List ℕ). at (neighbourOf (columns z) (rows z) (k / 5) (k % 5)) (oppositeOf (k % 5))) headed-sheet
 
-      out-same : (row : ℕ) → 7 ≤ row → row ≤ 8
+      out-same : (row : ℕ) → outMark ≤ row → row ≤ outWord
           → reg headed row (neighbourPlace headed (k / 5) (k % 5)) ≡ reg s row (neighbourPlace s (k / 5) (k % 5))
       out-same row a b =
           ap (reg headed row) neighbour-same
@@ -184,34 +124,34 @@ module _ (s m slots source-marks source-words out-marks out-words : List ℕ)
       out-mark : outFrom out-marks out-words outMark k ≡ nextOutMark s (k / 5) (k % 5)
       unfolding outFrom _=?_
       out-mark =
-          ap (λ (x : List ℕ). word x k) (T .out-mark) ∙ tab-at 80 _ k (omega (arith, few))
+          ap (λ (x : List ℕ). word x k) (T .out-mark) ∙ tab-at rowWords _ k (omega (arith, few))
           ∙ ap (λ (t : Bool). pick t (nextOutMark s (k / 5) (k % 5)) 0) (yes< l)
 
       out-word : outFrom out-marks out-words outWord k ≡ nextOutWord s (k / 5) (k % 5)
       unfolding outFrom _=?_
       out-word =
-          ap (λ (x : List ℕ). word x k) (T .out-word) ∙ tab-at 80 _ k (omega (arith, few))
+          ap (λ (x : List ℕ). word x k) (T .out-word) ∙ tab-at rowWords _ k (omega (arith, few))
           ∙ ap (λ (t : Bool). pick t (nextOutWord s (k / 5) (k % 5)) 0) (yes< l)
 
-    module _ (linked : List ℕ) (by-links : linked ≡ stage 1 2 (nodes (sheetIn headed) * 5) (linkFrom source-marks source-words headed) headed) where
+    module _ (linked : List ℕ) (by-links : linked ≡ stage linkMark linkWord (nodes (sheetIn headed) * 5) (linkFrom source-marks source-words headed) headed) where
       link-places : nodes (sheetIn headed) * 5 ≡ places
       link-places = ap (λ (z : List ℕ). nodes z * 5) headed-sheet
 
-      linked-off : (row k : ℕ) → row < 21 → k < 80 → (1 ≤ row → row ≤ 6 → k < places → ⊥) → reg linked row k ≡ reg s row k
+      linked-off : (row k : ℕ) → row < rowCount → k < rowWords → (linkMark ≤ row → row ≤ latchRow → k < places → ⊥) → reg linked row k ≡ reg s row k
       linked-off row k rl kl h =
-          off 1 2 (nodes (sheetIn headed) * 5) (linkFrom source-marks source-words headed) headed linked by-links row k rl kl
+          off linkMark linkWord (nodes (sheetIn headed) * 5) (linkFrom source-marks source-words headed) headed linked by-links row k rl kl
           (λ a b l. h a (omega arith) (omega (arith, link-places)))
           ∙ headed-off row k rl kl (λ a b l. h (omega arith) b l)
 
       pub linked-sheet : sheetIn linked ≡ sheetIn s
       linked-sheet =
           ap sheetIn by-links
-          ∙ stage-sheet 1 2 (nodes (sheetIn headed) * 5) (linkFrom source-marks source-words headed) headed ∙ headed-sheet
+          ∙ stage-sheet linkMark linkWord (nodes (sheetIn headed) * 5) (linkFrom source-marks source-words headed) headed ∙ headed-sheet
 
       linked-length : length linked ≡ length s
       linked-length =
           ap length by-links
-          ∙ stage-length 1 2 (nodes (sheetIn headed) * 5) (linkFrom source-marks source-words headed) headed (headed-ready .1)
+          ∙ stage-length linkMark linkWord (nodes (sheetIn headed) * 5) (linkFrom source-marks source-words headed) headed (headed-ready .1)
           ∙ headed-length
 
       -- the nodes' registers
@@ -222,7 +162,7 @@ module _ (s m slots source-marks source-words out-marks out-words : List ℕ)
         memory-word : memoryWord linked node ≡ memoryWord s node
         memory-word = linked-off outWord (at node 4) (omega arith) (omega (arith, few)) (λ a b h. omega arith)
 
-        unit : (row : ℕ) → 9 ≤ row → row ≤ 11 → reg linked row node ≡ reg s row node
+        unit : (row : ℕ) → receiveMark ≤ row → row ≤ receiveAddress → reg linked row node ≡ reg s row node
         unit row a b = linked-off row node (omega arith) (omega (arith, few)) (λ x y h. omega arith)
 
         receive-mark : nextReceiveMark linked node ≡ nextReceiveMark s node
@@ -277,47 +217,47 @@ module _ (s m slots source-marks source-words out-marks out-words : List ℕ)
         calm = λ node l. strays-same node (omega (arith, e, l)) ∙ none-strays s (nodes (sheetIn s)) calm node (omega (arith, e, l));
       }
 
-      module _ (received : List ℕ) (by-units : received ≡ stage 9 15 (nodes (sheetIn linked)) (nextInRow linked []) linked) where
+      module _ (received : List ℕ) (by-units : received ≡ stage receiveMark landingWord (nodes (sheetIn linked)) (nextInRow linked []) linked) where
         unit-count : nodes (sheetIn linked) ≡ nodes (sheetIn s)
         unit-count = ap nodes linked-sheet
 
-        received-off : (row k : ℕ) → row < 21 → k < 80 → (1 ≤ row → row ≤ 6 → k < places → ⊥)
-            → (9 ≤ row → row ≤ 15 → k < nodes (sheetIn s) → ⊥) → reg received row k ≡ reg s row k
+        received-off : (row k : ℕ) → row < rowCount → k < rowWords → (linkMark ≤ row → row ≤ latchRow → k < places → ⊥)
+            → (receiveMark ≤ row → row ≤ landingWord → k < nodes (sheetIn s) → ⊥) → reg received row k ≡ reg s row k
         received-off row k rl kl h g =
-            off 9 15 (nodes (sheetIn linked)) (nextInRow linked []) linked received by-units row k rl kl
+            off receiveMark landingWord (nodes (sheetIn linked)) (nextInRow linked []) linked received by-units row k rl kl
             (λ a b l. g a b (omega (arith, unit-count)))
             ∙ linked-off row k rl kl h
 
         received-sheet : sheetIn received ≡ sheetIn s
-        received-sheet = ap sheetIn by-units ∙ stage-sheet 9 15 (nodes (sheetIn linked)) (nextInRow linked []) linked ∙ linked-sheet
+        received-sheet = ap sheetIn by-units ∙ stage-sheet receiveMark landingWord (nodes (sheetIn linked)) (nextInRow linked []) linked ∙ linked-sheet
 
         received-length : length received ≡ length s
         received-length =
             ap length by-units
-            ∙ stage-length 9 15 (nodes (sheetIn linked)) (nextInRow linked []) linked (omega (arith, linked-length, long))
+            ∙ stage-length receiveMark landingWord (nodes (sheetIn linked)) (nextInRow linked []) linked (omega (arith, linked-length, long))
             ∙ linked-length
 
         pub received-long : movingWords ≤ length received
         received-long = omega (arith, received-length, long)
 
-        module _ (crossed : List ℕ) (by-outs : crossed ≡ stage 7 8 places (outFrom out-marks out-words) received) where
-          crossed-off : (row k : ℕ) → row < 21 → k < 80 → (1 ≤ row → row ≤ 8 → k < places → ⊥)
-              → (9 ≤ row → row ≤ 15 → k < nodes (sheetIn s) → ⊥) → reg crossed row k ≡ reg s row k
+        module _ (crossed : List ℕ) (by-outs : crossed ≡ stage outMark outWord places (outFrom out-marks out-words) received) where
+          crossed-off : (row k : ℕ) → row < rowCount → k < rowWords → (linkMark ≤ row → row ≤ outWord → k < places → ⊥)
+              → (receiveMark ≤ row → row ≤ landingWord → k < nodes (sheetIn s) → ⊥) → reg crossed row k ≡ reg s row k
           crossed-off row k rl kl h g =
-              off 7 8 places (outFrom out-marks out-words) received crossed by-outs row k rl kl (λ a b l. h (omega arith) b l)
+              off outMark outWord places (outFrom out-marks out-words) received crossed by-outs row k rl kl (λ a b l. h (omega arith) b l)
               ∙ received-off row k rl kl (λ a b l. h a (omega arith) l) g
 
           crossed-sheet : sheetIn crossed ≡ sheetIn s
-          crossed-sheet = ap sheetIn by-outs ∙ stage-sheet 7 8 places (outFrom out-marks out-words) received ∙ received-sheet
+          crossed-sheet = ap sheetIn by-outs ∙ stage-sheet outMark outWord places (outFrom out-marks out-words) received ∙ received-sheet
 
           crossed-length : length crossed ≡ length s
           crossed-length =
-              ap length by-outs ∙ stage-length 7 8 places (outFrom out-marks out-words) received received-long ∙ received-length
+              ap length by-outs ∙ stage-length outMark outWord places (outFrom out-marks out-words) received received-long ∙ received-length
 
-          crossed-clock : (k : ℕ) → k < 80 → reg crossed clockRow k ≡ reg s clockRow k
+          crossed-clock : (k : ℕ) → k < rowWords → reg crossed clockRow k ≡ reg s clockRow k
           crossed-clock k l = crossed-off clockRow k (omega arith) l (λ a b h. omega arith) (λ a b h. omega arith)
 
-          crossed-sender : (row c : ℕ) → 16 ≤ row → row ≤ 20 → c < 64 → reg crossed row c ≡ reg s row c
+          crossed-sender : (row c : ℕ) → leftRow ≤ row → row ≤ toGoRow → c < 64 → reg crossed row c ≡ reg s row c
           crossed-sender row c a b l = crossed-off row c (omega arith) (omega arith) (λ x y z. omega arith) (λ x y z. omega arith)
 
           -- the senders
@@ -368,31 +308,31 @@ module _ (s m slots source-marks source-words out-marks out-words : List ℕ)
                 sending = sending;
               }
 
-          module _ (sent : List ℕ) (by-senders : sent ≡ stage 16 20 (circuits (sheetIn crossed)) (nextInRow crossed []) crossed) where
+          module _ (sent : List ℕ) (by-senders : sent ≡ stage leftRow toGoRow (circuits (sheetIn crossed)) (nextInRow crossed []) crossed) where
             sender-count : circuits (sheetIn crossed) ≡ circuits (sheetIn s)
             sender-count = ap circuits crossed-sheet
 
-            sent-off : (row k : ℕ) → row < 21 → k < 80 → (1 ≤ row → row ≤ 8 → k < places → ⊥)
-                → (9 ≤ row → row ≤ 15 → k < nodes (sheetIn s) → ⊥) → (16 ≤ row → row ≤ 20 → k < circuits (sheetIn s) → ⊥)
+            sent-off : (row k : ℕ) → row < rowCount → k < rowWords → (linkMark ≤ row → row ≤ outWord → k < places → ⊥)
+                → (receiveMark ≤ row → row ≤ landingWord → k < nodes (sheetIn s) → ⊥) → (leftRow ≤ row → row ≤ toGoRow → k < circuits (sheetIn s) → ⊥)
                 → reg sent row k ≡ reg s row k
             sent-off row k rl kl h g f =
-                off 16 20 (circuits (sheetIn crossed)) (nextInRow crossed []) crossed sent by-senders row k rl kl
+                off leftRow toGoRow (circuits (sheetIn crossed)) (nextInRow crossed []) crossed sent by-senders row k rl kl
                 (λ a b l. f a b (omega (arith, sender-count)))
                 ∙ crossed-off row k rl kl h g
 
             sent-sheet : sheetIn sent ≡ sheetIn s
-            sent-sheet = ap sheetIn by-senders ∙ stage-sheet 16 20 (circuits (sheetIn crossed)) (nextInRow crossed []) crossed ∙ crossed-sheet
+            sent-sheet = ap sheetIn by-senders ∙ stage-sheet leftRow toGoRow (circuits (sheetIn crossed)) (nextInRow crossed []) crossed ∙ crossed-sheet
 
             sent-length : length sent ≡ length s
             sent-length =
                 ap length by-senders
-                ∙ stage-length 16 20 (circuits (sheetIn crossed)) (nextInRow crossed []) crossed (crossed-ready .0 .long) ∙ crossed-length
+                ∙ stage-length leftRow toGoRow (circuits (sheetIn crossed)) (nextInRow crossed []) crossed (crossed-ready .0 .long) ∙ crossed-length
 
-            sent-clock : (k : ℕ) → k < 80 → reg sent clockRow k ≡ reg s clockRow k
+            sent-clock : (k : ℕ) → k < rowWords → reg sent clockRow k ≡ reg s clockRow k
             sent-clock k l = sent-off clockRow k (omega arith) l (λ a b h. omega arith) (λ a b h. omega arith) (λ a b h. omega arith)
 
             -- the clock
-            next-clock : (k : ℕ) → k < 80 → nextClock sent k ≡ nextClock s k
+            next-clock : (k : ℕ) → k < rowWords → nextClock sent k ≡ nextClock s k
             unfolding nextClock isDue turns
             next-clock k l =
                 rw (
@@ -420,117 +360,126 @@ module _ (s m slots source-marks source-words out-marks out-words : List ℕ)
                   (omega (arith, R .clocked .in-time, sent-clock cyclePlace (omega arith))));
             }
 
-            module _ (clocked : List ℕ) (by-clock : clocked ≡ stage 0 0 6 (nextInRow sent []) sent) where
+            module _ (clocked : List ℕ) (by-clock : clocked ≡ stage clockRow clockRow clockWords (nextInRow sent []) sent) where
               -- rows that the stages to come leave
-              module _ (row k : ℕ) (rl : row < 21) (kl : k < 80) where
-                clocked-same : 1 ≤ row → reg clocked row k ≡ reg sent row k
-                clocked-same h = off 0 0 6 (nextInRow sent []) sent clocked by-clock row k rl kl (λ a b l. omega arith)
+              module _ (row k : ℕ) (rl : row < rowCount) (kl : k < rowWords) where
+                clocked-same : linkMark ≤ row → reg clocked row k ≡ reg sent row k
+                clocked-same h = off clockRow clockRow clockWords (nextInRow sent []) sent clocked by-clock row k rl kl (λ a b l. omega arith)
 
-                sent-same : 1 ≤ row → row ≤ 15 → reg clocked row k ≡ reg crossed row k
+                sent-same : linkMark ≤ row → row ≤ landingWord → reg clocked row k ≡ reg crossed row k
                 sent-same h g =
                     clocked-same h
-                    ∙ off 16 20 (circuits (sheetIn crossed)) (nextInRow crossed []) crossed sent by-senders row k rl kl (λ a b l. omega arith)
+                    ∙ off leftRow toGoRow (circuits (sheetIn crossed)) (nextInRow crossed []) crossed sent by-senders row k rl kl (λ a b l. omega arith)
 
-                crossed-same : 1 ≤ row → row ≤ 15 → (7 ≤ row → row ≤ 8 → ⊥) → reg clocked row k ≡ reg received row k
+                crossed-same : linkMark ≤ row → row ≤ landingWord → (outMark ≤ row → row ≤ outWord → ⊥) → reg clocked row k ≡ reg received row k
                 crossed-same h g f =
-                    sent-same h g ∙ off 7 8 places (outFrom out-marks out-words) received crossed by-outs row k rl kl (λ a b l. f a b)
+                    sent-same h g ∙ off outMark outWord places (outFrom out-marks out-words) received crossed by-outs row k rl kl (λ a b l. f a b)
 
-                received-same : 1 ≤ row → row ≤ 6 → reg clocked row k ≡ reg linked row k
+                received-same : linkMark ≤ row → row ≤ latchRow → reg clocked row k ≡ reg linked row k
                 received-same h g =
                     crossed-same h (omega arith) (λ a b. omega arith)
-                    ∙ off 9 15 (nodes (sheetIn linked)) (nextInRow linked []) linked received by-units row k rl kl (λ a b l. omega arith)
+                    ∙ off receiveMark landingWord (nodes (sheetIn linked)) (nextInRow linked []) linked received by-units row k rl kl (λ a b l. omega arith)
 
                 -- each stage's own rows, in the end
-                head-row : 3 ≤ row → row ≤ 6 → k < places → reg clocked row k ≡ nextInRow s [] row k
+                head-row : headMark ≤ row → row ≤ latchRow → k < places → reg clocked row k ≡ nextInRow s [] row k
                 head-row a b l =
                     received-same (omega arith) b
-                    ∙ off 1 2 (nodes (sheetIn headed) * 5) (linkFrom source-marks source-words headed) headed linked by-links row k rl kl
+                    ∙ off linkMark linkWord (nodes (sheetIn headed) * 5) (linkFrom source-marks source-words headed) headed linked by-links row k rl kl
                     (λ x y z. omega arith)
-                    ∙ here 3 6 places (nextInRow s []) s headed by-heads row k rl kl a b l
+                    ∙ here headMark latchRow places (nextInRow s []) s headed by-heads row k rl kl a b l
 
-                link-row : 1 ≤ row → row ≤ 2 → k < places → reg clocked row k ≡ linkFrom source-marks source-words headed row k
+                link-row : linkMark ≤ row → row ≤ linkWord → k < places → reg clocked row k ≡ linkFrom source-marks source-words headed row k
                 link-row a b l =
                     received-same a (omega arith)
-                    ∙ here 1 2 (nodes (sheetIn headed) * 5) (linkFrom source-marks source-words headed) headed linked by-links row k rl kl a b
+                    ∙ here linkMark linkWord (nodes (sheetIn headed) * 5) (linkFrom source-marks source-words headed) headed linked by-links row k rl kl a b
                     (omega (arith, link-places, l))
 
-                node-row : 9 ≤ row → row ≤ 15 → k < nodes (sheetIn s) → reg clocked row k ≡ nextInRow linked [] row k
+                node-row : receiveMark ≤ row → row ≤ landingWord → k < nodes (sheetIn s) → reg clocked row k ≡ nextInRow linked [] row k
                 node-row a b l =
                     crossed-same (omega arith) b (λ x y. omega arith)
-                    ∙ here 9 15 (nodes (sheetIn linked)) (nextInRow linked []) linked received by-units row k rl kl a b
+                    ∙ here receiveMark landingWord (nodes (sheetIn linked)) (nextInRow linked []) linked received by-units row k rl kl a b
                     (omega (arith, unit-count, l))
 
-                out-row : 7 ≤ row → row ≤ 8 → k < places → reg clocked row k ≡ outFrom out-marks out-words row k
+                out-row : outMark ≤ row → row ≤ outWord → k < places → reg clocked row k ≡ outFrom out-marks out-words row k
                 out-row a b l =
                     sent-same (omega arith) (omega arith)
-                    ∙ here 7 8 places (outFrom out-marks out-words) received crossed by-outs row k rl kl a b l
+                    ∙ here outMark outWord places (outFrom out-marks out-words) received crossed by-outs row k rl kl a b l
 
-                sender-row : 16 ≤ row → row ≤ 20 → k < circuits (sheetIn s) → reg clocked row k ≡ nextInRow crossed [] row k
+                sender-row : leftRow ≤ row → row ≤ toGoRow → k < circuits (sheetIn s) → reg clocked row k ≡ nextInRow crossed [] row k
                 sender-row a b l =
                     clocked-same (omega arith)
-                    ∙ here 16 20 (circuits (sheetIn crossed)) (nextInRow crossed []) crossed sent by-senders row k rl kl a b
+                    ∙ here leftRow toGoRow (circuits (sheetIn crossed)) (nextInRow crossed []) crossed sent by-senders row k rl kl a b
                     (omega (arith, sender-count, l))
 
-                clock-row : row ≡ 0 → k < 6 → reg clocked row k ≡ nextInRow sent [] row k
-                clock-row e l = here 0 0 6 (nextInRow sent []) sent clocked by-clock row k rl kl (omega arith) (omega arith) l
+                clock-row : row ≡ clockRow → k < clockWords → reg clocked row k ≡ nextInRow sent [] row k
+                clock-row e l = here clockRow clockRow clockWords (nextInRow sent []) sent clocked by-clock row k rl kl (omega arith) (omega arith) l
 
-                clocked-off : count s row ≤ k → reg clocked row k ≡ reg s row k
+                clocked-off : rowIn (nextRows s m) row .extent ≤ k → reg clocked row k ≡ reg s row k
                 clocked-off l =
-                    off 0 0 6 (nextInRow sent []) sent clocked by-clock row k rl kl (λ a b h. omega (arith, count-clock s row (omega arith)))
-                    ∙ sent-off row k rl kl (λ a b h. omega (arith, count-router s row a b)) (λ a b h. omega (arith, count-node s row a b))
-                    (λ a b h. omega (arith, count-circuit s row a))
+                    off clockRow clockRow clockWords (nextInRow sent []) sent clocked by-clock row k rl kl
+                    (λ a b h. omega (arith, clock-extent s m row rl (omega arith)))
+                    ∙ sent-off row k rl kl (λ a b h. omega (arith, router-extent s m row rl a b))
+                    (λ a b h. omega (arith, node-extent s m row rl a b)) (λ a b h. omega (arith, circuit-extent s m row rl a b))
 
-              -- a register that exists
-              inside : (k : ℕ) → k < 80 → (row : ℕ) → row < 21 → k < count s row → reg clocked row k ≡ nextInRow s m row k
-              unfolding count nextInRow nextRows _=?_ _≤?_
-              inside k kl = by-row (λ row. k < count s row → reg clocked row k ≡ nextInRow s m row k)
-                  (λ l. clock-row 0 k (omega arith) kl refl l ∙ next-clock k kl)
-                  (λ l. link-row 1 k (omega arith) kl (omega arith) (omega arith) l ∙ link-mark k l)
-                  (λ l. link-row 2 k (omega arith) kl (omega arith) (omega arith) l ∙ link-word k l)
-                  (λ l. head-row 3 k (omega arith) kl (omega arith) (omega arith) l)
-                  (λ l. head-row 4 k (omega arith) kl (omega arith) (omega arith) l)
-                  (λ l. head-row 5 k (omega arith) kl (omega arith) (omega arith) l)
-                  (λ l. head-row 6 k (omega arith) kl (omega arith) (omega arith) l)
-                  (λ l. out-row 7 k (omega arith) kl (omega arith) (omega arith) l ∙ out-mark k l)
-                  (λ l. out-row 8 k (omega arith) kl (omega arith) (omega arith) l ∙ out-word k l)
-                  (λ l. node-row 9 k (omega arith) kl (omega arith) (omega arith) l ∙ receive-mark k l)
-                  (λ l. node-row 10 k (omega arith) kl (omega arith) (omega arith) l ∙ receive-kind k l)
-                  (λ l. node-row 11 k (omega arith) kl (omega arith) (omega arith) l ∙ receive-address k l)
-                  (λ l. node-row 12 k (omega arith) kl (omega arith) (omega arith) l ∙ landing-mark k l)
-                  (λ l. node-row 13 k (omega arith) kl (omega arith) (omega arith) l ∙ unit k l receiveKind (omega arith) (omega arith))
-                  (λ l. node-row 14 k (omega arith) kl (omega arith) (omega arith) l ∙ unit k l receiveAddress (omega arith) (omega arith))
-                  (λ l. node-row 15 k (omega arith) kl (omega arith) (omega arith) l ∙ memory-word k l)
-                  (λ l. sender-row 16 k (omega arith) kl (omega arith) (omega arith) l
-                  ∙ ap (λ (x : Sender). x .left) (next-sender k (omega (arith, l, few-circuits))))
-                  (λ l. sender-row 17 k (omega arith) kl (omega arith) (omega arith) l
-                  ∙ ap (λ (x : Sender). x .readAddress) (next-sender k (omega (arith, l, few-circuits))))
-                  (λ l. sender-row 18 k (omega arith) kl (omega arith) (omega arith) l
-                  ∙ ap (λ (x : Sender). x .writeAddress) (next-sender k (omega (arith, l, few-circuits))))
-                  (λ l. sender-row 19 k (omega arith) kl (omega arith) (omega arith) l
-                  ∙ ap (λ (x : Sender). x .kind) (next-sender k (omega (arith, l, few-circuits))))
-                  (λ l. sender-row 20 k (omega arith) kl (omega arith) (omega arith) l
-                  ∙ ap (λ (x : Sender). x .toGo) (next-sender k (omega (arith, l, few-circuits))))
+              sender-next : (k : ℕ) → k < circuits (sheetIn s) → nextSender crossed k ≡ nextSender s k
+              sender-next k l = next-sender k (omega (arith, l, few-circuits))
+
+              -- a register that the sheet has, row by row
+              each-inside : (k : ℕ) → k < rowWords → Each (λ x. k < x .extent → reg clocked (x .number) k ≡ x .next k) (nextRows s m)
+              unfolding nextInRow rowIn nextRows _=?_
+              each-inside k kl =
+                  (λ l. clock-row clockRow k (omega arith) kl refl l ∙ next-clock k kl)
+                  also (λ l. link-row linkMark k (omega arith) kl (omega arith) (omega arith) l ∙ link-mark k l)
+                  also (λ l. link-row linkWord k (omega arith) kl (omega arith) (omega arith) l ∙ link-word k l)
+                  also (λ l. head-row headMark k (omega arith) kl (omega arith) (omega arith) l)
+                  also (λ l. head-row headWord k (omega arith) kl (omega arith) (omega arith) l)
+                  also (λ l. head-row choiceRow k (omega arith) kl (omega arith) (omega arith) l)
+                  also (λ l. head-row latchRow k (omega arith) kl (omega arith) (omega arith) l)
+                  also (λ l. out-row outMark k (omega arith) kl (omega arith) (omega arith) l ∙ out-mark k l)
+                  also (λ l. out-row outWord k (omega arith) kl (omega arith) (omega arith) l ∙ out-word k l)
+                  also (λ l. node-row receiveMark k (omega arith) kl (omega arith) (omega arith) l ∙ receive-mark k l)
+                  also (λ l. node-row receiveKind k (omega arith) kl (omega arith) (omega arith) l ∙ receive-kind k l)
+                  also (λ l. node-row receiveAddress k (omega arith) kl (omega arith) (omega arith) l ∙ receive-address k l)
+                  also (λ l. node-row landingMark k (omega arith) kl (omega arith) (omega arith) l ∙ landing-mark k l)
+                  also (λ l. node-row landingKind k (omega arith) kl (omega arith) (omega arith) l ∙ unit k l receiveKind (omega arith) (omega arith))
+                  also (λ l. node-row landingAddress k (omega arith) kl (omega arith) (omega arith) l ∙ unit k l receiveAddress (omega arith) (omega arith))
+                  also (λ l. node-row landingWord k (omega arith) kl (omega arith) (omega arith) l ∙ memory-word k l)
+                  also (λ l. sender-row leftRow k (omega arith) kl (omega arith) (omega arith) l ∙ ap (λ (x : Sender). x .left) (sender-next k l))
+                  also (λ l. sender-row readRow k (omega arith) kl (omega arith) (omega arith) l ∙ ap (λ (x : Sender). x .readAddress) (sender-next k l))
+                  also (λ l. sender-row writeRow k (omega arith) kl (omega arith) (omega arith) l ∙ ap (λ (x : Sender). x .writeAddress) (sender-next k l))
+                  also (λ l. sender-row kindRow k (omega arith) kl (omega arith) (omega arith) l ∙ ap (λ (x : Sender). x .kind) (sender-next k l))
+                  also (λ l. sender-row toGoRow k (omega arith) kl (omega arith) (omega arith) l ∙ ap (λ (x : Sender). x .toGo) (sender-next k l))
+                  also that-is-all
+
+              clocked-inside : (row k : ℕ) → row < rowCount → k < rowWords → k < rowIn (nextRows s m) row .extent
+                  → reg clocked row k ≡ nextInRow s m row k
+              unfolding nextInRow
+              clocked-inside row k rl kl l =
+                  ap (λ (r : ℕ). reg clocked r k) (sym (found-number (nextRows s m) row))
+                  ∙ by-row s m (λ x. k < x .extent → reg clocked (x .number) k ≡ x .next k) (each-inside k kl) row rl l
 
               clocked-length : length clocked ≡ length s
-              clocked-length = ap length by-clock ∙ stage-length 0 0 6 (nextInRow sent []) sent (sent-ready .long) ∙ sent-length
+              clocked-length = ap length by-clock ∙ stage-length clockRow clockRow clockWords (nextInRow sent []) sent (sent-ready .long) ∙ sent-length
 
               clocked-rest : drop movingWords clocked ≡ drop movingWords s
               clocked-rest =
-                  ap (drop movingWords) by-clock ∙ stage-rest 0 0 6 (nextInRow sent []) sent
-                  ∙ ap (drop movingWords) by-senders ∙ stage-rest 16 20 (circuits (sheetIn crossed)) (nextInRow crossed []) crossed
-                  ∙ ap (drop movingWords) by-outs ∙ stage-rest 7 8 places (outFrom out-marks out-words) received
-                  ∙ ap (drop movingWords) by-units ∙ stage-rest 9 15 (nodes (sheetIn linked)) (nextInRow linked []) linked
+                  ap (drop movingWords) by-clock ∙ stage-rest clockRow clockRow clockWords (nextInRow sent []) sent
+                  ∙ ap (drop movingWords) by-senders ∙ stage-rest leftRow toGoRow (circuits (sheetIn crossed)) (nextInRow crossed []) crossed
+                  ∙ ap (drop movingWords) by-outs ∙ stage-rest outMark outWord places (outFrom out-marks out-words) received
+                  ∙ ap (drop movingWords) by-units ∙ stage-rest receiveMark landingWord (nodes (sheetIn linked)) (nextInRow linked []) linked
                   ∙ ap (drop movingWords) by-links
-                  ∙ stage-rest 1 2 (nodes (sheetIn headed) * 5) (linkFrom source-marks source-words headed) headed
-                  ∙ ap (drop movingWords) by-heads ∙ stage-rest 3 6 places (nextInRow s []) s
+                  ∙ stage-rest linkMark linkWord (nodes (sheetIn headed) * 5) (linkFrom source-marks source-words headed) headed
+                  ∙ ap (drop movingWords) by-heads ∙ stage-rest headMark latchRow places (nextInRow s []) s
 
               -- the words after the last stage are those after the cycle
               pub state-is : clocked ≡ nextState s m
               state-is =
                   same-words clocked (nextState s m) (omega (arith, clocked-length, long)) (omega (arith, state-length s m long, long))
-                  (clocked-rest ∙ sym (next-rest s m)) (λ row k rl kl. go row k rl kl (decLt k (count s row)))
+                  (clocked-rest ∙ sym (next-rest s m))
+                  (λ row k rl kl. go row k rl kl (decLt k (rowIn (nextRows s m) row .extent)))
                 where
-                  go : (row k : ℕ) → row < 21 → k < 80 → Dec (k < count s row) → reg clocked row k ≡ reg (nextState s m) row k
-                  go row k rl kl (yes l) = inside k kl row rl l ∙ sym (next-inside s m row k rl kl l)
+                  go : (row k : ℕ) → row < rowCount → k < rowWords → Dec (k < rowIn (nextRows s m) row .extent)
+                      → reg clocked row k ≡ reg (nextState s m) row k
+                  go row k rl kl (yes l) = clocked-inside row k rl kl l ∙ sym (next-row s m row k rl kl l)
                   go row k rl kl (no l) =
-                      clocked-off row k rl kl (omega (arith, l)) ∙ sym (next-outside s m row k rl kl (omega (arith, l)))
+                      clocked-off row k rl kl (omega (arith, l)) ∙ sym (next-off s m row k rl kl (omega (arith, l)))

@@ -1,4 +1,3 @@
-pub mod RowCases
 pub mod JoinLaws
 pub mod FaultLaws
 pub mod PrepareLaws

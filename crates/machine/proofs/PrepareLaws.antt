@@ -1,37 +1,37 @@
 -- What is worked out before a cycle writes, from what the functions that work it out ensure.
 -- Assumes nothing.
 use Prim.Native.Nat.{ℕ, _*_, _/_, _%_, _≤_}
-use mathlib.Core.Bool.{Bool, true, false, false≢true}
+use mathlib.Core.Bool.{Bool, true, false, false≢true, not}
 use mathlib.Core.List.{List}
-use mathlib.Core.Path.{_≡_, sym, _∙_, ap, ap₂, subst}
-use native.Mathlib.Omega.{arith}
-use native.Mathlib.Nat.{mul-le-mul}
+use mathlib.Core.Path.{_≡_, sym, _∙_, ap, subst, refl}
 use lib.ListN.{replicate}
-use Rattle.words.specs.Tests.{_<?_}
-use Rattle.words.specs.Words.{word, pick, tab}
-use Rattle.sheet.specs.Sheet.{columns, rows, memoryWords, nodes}
+use Rattle.words.specs.Tests.{_<?_, _=?_}
+use Rattle.words.specs.Words.{pick, tab}
+use Rattle.sheet.specs.Sheet.{memoryWords, nodes}
+use Rattle.sheet.specs.Inner.Passed.{Headed}
+use Rattle.words.specs.Numbers.{unless}
 use Rattle.sheet.specs.Rules.{rule8}
-use Rattle.network.specs.Registers.{sheetIn}
-use Rattle.network.specs.Inner.Machine.{sourceMark, sourceWord, nextOutMark, nextOutWord}
+use Rattle.network.specs.Registers.{sheetIn, rowWords}
+use Rattle.network.specs.Inner.Machine.{sourceMark, sourceWord, nextOutMark, nextOutWord, faultyIn}
+use Rattle.network.specs.OneMachine.{cycleFault}
+use Rattle.sheet.proofs.PassedLaws.{nodes-few, nodes-are}
 use Rattle.network.specs.Inner.Paired.{Paired, Sendable}
 use Rattle.sources.specs.Inner.Slots.{slotTable}
-use Rattle.sources.proofs.TableLaws.{tab-zeros}
+use Rattle.words.proofs.TableLaws.{tab-zeros}
 use Rattle.receivers.specs.Inner.Required.{Counted}
 use Rattle.machine.specs.Inner.Ready.{Ready}
 use Rattle.machine.specs.Inner.Tables.{Tables, Empty}
 
 -- the number of nodes, and the memory words of a node, read off the state's sheet
-module _ {s m z : List ℕ} {a b : ℕ} (R : Ready s m) (own : z ≡ sheetIn s) (ea : a ≡ word z 0) (eb : b ≡ word z 1) where
-  pub count-is : a * b ≡ nodes (sheetIn s)
-  count-is = ap₂ (λ x y. x * y) (ea ∙ ap columns own) (eb ∙ ap rows own)
+pub own-head : {s m z : List ℕ} → Ready s m → z ≡ sheetIn s → Headed z
+own-head R own = subst Headed (sym own) (R .steppable .framed .headed)
 
-  pub count-few : a * b ≤ 16
-  count-few =
-      let H = R .steppable .framed .headed in
-      omega (arith, count-is, mul-le-mul (H .columns-high) (H .rows-high))
+module _ {s m z : List ℕ} {count : ℕ} (R : Ready s m) (own : z ≡ sheetIn s) (e : (count ≡ nodes z) × (count ≤ 16)) where
+  pub count-is : count ≡ nodes (sheetIn s)
+  count-is = e .0 ∙ ap nodes own
 
-  pub counted : {r : ℕ} → r ≡ word z 2 → Counted s (a * b) r
-  counted e = record { all-nodes = count-is; few-nodes = count-few; own-room = e ∙ ap memoryWords own }
+  pub counted : {r : ℕ} → r ≡ memoryWords z → Counted s count r
+  counted q = record { all-nodes = count-is; few-nodes = e .1; own-room = q ∙ ap memoryWords own }
 
 -- what the sources require, of the state and its own sheet
 pub own-paired : {s m z : List ℕ} → Ready s m → z ≡ sheetIn s → Paired s z
@@ -49,18 +49,28 @@ faulty-answer A B e = (e, (λ h. absurd (false≢true (sym h)), λ h. absurd (fa
 
 pub tables : {s m slots marks cells outs values : List ℕ} → slots ≡ slotTable s → marks ≡ tab 16 (sourceMark s)
     → cells ≡ tab 16 (sourceWord s m)
-    → outs ≡ tab 80 (λ k. pick (k <? nodes (sheetIn s) * 5) (nextOutMark s (k / 5) (k % 5)) 0)
-    → values ≡ tab 80 (λ k. pick (k <? nodes (sheetIn s) * 5) (nextOutWord s (k / 5) (k % 5)) 0)
+    → outs ≡ tab rowWords (λ k. pick (k <? nodes (sheetIn s) * 5) (nextOutMark s (k / 5) (k % 5)) 0)
+    → values ≡ tab rowWords (λ k. pick (k <? nodes (sheetIn s) * 5) (nextOutWord s (k / 5) (k % 5)) 0)
     → Tables s m slots marks cells outs values
 tables a b c d e = record { slot = a; source-mark = b; source-word = c; out-mark = d; out-word = e }
 
 -- the five tables of zeros
-pub empty : Empty (replicate 64 0) (replicate 16 0) (replicate 16 0) (replicate 80 0) (replicate 80 0)
-empty = record { slot = tab-zeros 64; source-mark = tab-zeros 16; source-word = tab-zeros 16; out-mark = tab-zeros 80; out-word = tab-zeros 80 }
+pub empty : Empty (replicate 64 0) (replicate 16 0) (replicate 16 0) (replicate rowWords 0) (replicate rowWords 0)
+empty = record { slot = tab-zeros 64; source-mark = tab-zeros 16; source-word = tab-zeros 16; out-mark = tab-zeros rowWords; out-word = tab-zeros rowWords }
 
--- the words after a cycle that has a fault, or none
-pub kept : {f : Bool} {r : Bool} (old new : List ℕ) → r ≡ f → r ≡ true → old ≡ pick f old new
-kept {f} old new e h = sym (ap (λ (t : Bool). pick t old new) (sym e ∙ h))
+-- the number of a cycle that has a fault, or none, and the words after it
+pub fault-number : (s : List ℕ) {r : Bool} → r ≡ faultyIn s → r ≡ true → 20 ≡ cycleFault s
+unfolding cycleFault unless
+fault-number s e h = sym (ap (λ (t : Bool). pick (not t) 0 20) (sym e ∙ h))
 
-pub changed : {f : Bool} {r : Bool} (old new : List ℕ) {w : List ℕ} → r ≡ f → r ≡ false → w ≡ new → w ≡ pick f old new
-changed {f} old new e h g = g ∙ sym (ap (λ (t : Bool). pick t old new) (sym e ∙ h))
+pub no-fault : (s : List ℕ) {r : Bool} → r ≡ faultyIn s → r ≡ false → 0 ≡ cycleFault s
+unfolding cycleFault unless
+no-fault s e h = sym (ap (λ (t : Bool). pick (not t) 0 20) (sym e ∙ h))
+
+pub kept : (old new : List ℕ) → old ≡ pick (20 =? 0) new old
+unfolding _=?_
+kept old new = refl
+
+pub changed : (old new : List ℕ) {w : List ℕ} → w ≡ new → w ≡ pick (0 =? 0) new old
+unfolding _=?_
+changed old new e = e

@@ -3,11 +3,12 @@
 ghost use mathlib.Core.Bool.{false};
 ghost use mathlib.Core.Path.{_≡_};
 ghost use Prim.Native.Nat.{ℕ};
-ghost use Rattle.words.specs.Tests.{any};
+ghost use Rattle.words.specs.Tests.{any, _=?_};
 ghost use Rattle.words.specs.Words.{pick, tab};
 ghost use Rattle.sheet.specs.Sheet.{nodes as nodeCount};
 ghost use Rattle.network.specs.Registers.{sheetIn};
 ghost use Rattle.network.specs.Inner.Machine.{straysIn, faultyIn, nextState, nextMemory};
+ghost use Rattle.network.specs.OneMachine.{cycleFault};
 ghost use Rattle.machine.specs.Inner.Ready.{Ready};
 ghost use Rattle.machine.specs.Inner.Tables.{Tables, Empty};
 
@@ -28,7 +29,7 @@ fn prepare(
     ensures calm { λ r. ⌜ (r ≡ false → any (nodeCount (sheetIn (now (s .entry)))) (straysIn (now (s .entry))) ≡ false) ⌝ }
 {
     let z = network::sheet_of(s);
-    let nodes = words::get(z, 0) * words::get(z, 1);
+    let nodes = sheet::nodes_of(z);
     if routers::cross(s, nodes, outs, values) {
         return true;
     }
@@ -39,7 +40,7 @@ fn prepare(
     if sources::source_wires(s, z, m, slots, marks, cells) {
         return true;
     }
-    receivers::has_stray(s, nodes, words::get(z, 2))
+    receivers::has_stray(s, nodes, sheet::memory_of(z))
 }
 
 // Carries out a cycle that has no fault, each stage on what the one before it left: the links take the outputs before the outputs change,
@@ -53,13 +54,13 @@ fn carry_out(
     outs: &[u32],
     values: &[u32],
 )
-    requires { ⌜ (Ready (now s) (now m)) × (Tables (now s) (now m) (now slots) (now marks) (now cells) (now outs) (now values)) × (any (nodeCount (sheetIn (now s))) (straysIn (now s)) ≡ false) ⌝ }
+    requires { ⌜ Ready (now s) (now m) × Tables (now s) (now m) (now slots) (now marks) (now cells) (now outs) (now values) × (any (nodeCount (sheetIn (now s))) (straysIn (now s)) ≡ false) ⌝ }
     ensures state { λ _. ⌜ now (s .exit) ≡ nextState (now (s .entry)) (now (m .entry)) ⌝ }
     ensures memory { λ _. ⌜ now (m .exit) ≡ nextMemory (now (s .entry)) (now (m .entry)) ⌝ }
 {
     let z = network::sheet_of(s);
-    let nodes = words::get(z, 0) * words::get(z, 1);
-    let room = words::get(z, 2);
+    let nodes = sheet::nodes_of(z);
+    let room = sheet::memory_of(z);
     routers::step_heads(s, nodes * 5);
     routers::step_links(s, marks, cells);
     receivers::step_receivers(s, m, nodes, room);
@@ -68,13 +69,13 @@ fn carry_out(
     receivers::step_clock(s);
 }
 
-// One clock cycle; answers whether it has a fault, and then it has changed nothing. A session's state and memory that have passed 12 to 14
-// meet the requires.
-pub fn step(s: &mut [u32], m: &mut [u32]) -> bool
+// One clock cycle; answers 0, or the number of its fault, and then it has changed nothing. A session's state and memory that have passed 12
+// to 14 meet the requires.
+pub fn step(s: &mut [u32], m: &mut [u32]) -> u32
     requires { ⌜ Ready (now s) (now m) ⌝ }
-    ensures fault { λ r. ⌜ r ≡ faultyIn (now (s .entry)) ⌝ }
-    ensures state { λ _. ⌜ now (s .exit) ≡ pick (faultyIn (now (s .entry))) (now (s .entry)) (nextState (now (s .entry)) (now (m .entry))) ⌝ }
-    ensures memory { λ _. ⌜ now (m .exit) ≡ pick (faultyIn (now (s .entry))) (now (m .entry)) (nextMemory (now (s .entry)) (now (m .entry))) ⌝ }
+    ensures number { λ r. ⌜ r ≡ cycleFault (now (s .entry)) ⌝ }
+    ensures state { λ r. ⌜ now (s .exit) ≡ pick (r =? 0) (nextState (now (s .entry)) (now (m .entry))) (now (s .entry)) ⌝ }
+    ensures memory { λ r. ⌜ now (m .exit) ≡ pick (r =? 0) (nextMemory (now (s .entry)) (now (m .entry))) (now (m .entry)) ⌝ }
 {
     let mut slots = [0u32; 64];
     let mut marks = [0u32; 16];
@@ -90,8 +91,8 @@ pub fn step(s: &mut [u32], m: &mut [u32]) -> bool
         &mut outs,
         &mut values,
     ) {
-        return true;
+        return 20;
     }
     carry_out(s, m, &slots, &marks, &cells, &outs, &values);
-    false
+    0
 }

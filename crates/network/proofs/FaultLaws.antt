@@ -1,14 +1,14 @@
 -- Number 20 in words says what the machine's faults say, fault by fault.
 -- Assumes nothing.
-use Prim.Native.Nat.{ℕ, zero, suc, _<_}
+use Prim.Native.Nat.{ℕ, zero, suc}
 use mathlib.Core.Path.{_≡_, refl, _∙_, ap, ap₂}
-use mathlib.Core.Bool.{Bool, not}
+use mathlib.Core.Bool.{not}
 use mathlib.Core.List.{List}
 use native.Mathlib.Omega.{arith}
 use Rattle.words.specs.Tests.{_and_, _or_, _≤?_, _=?_}
-use Rattle.words.specs.Words.{pick, countOf}
 use Rattle.words.proofs.TestLaws.{yes≤, no≤, yes=, no=}
 use Rattle.words.proofs.AllLaws.{any-same}
+use Rattle.words.proofs.WordLaws.{countOf-same}
 use Rattle.sheet.specs.Sheet.{circuits, nodes}
 use Rattle.sheet.specs.Slots.{sourceOf}
 use Rattle.network.specs.Cycle.{isFull, isPayload, isNone, collides, crowds, reopens, headless, strays, faulty}
@@ -16,12 +16,6 @@ use Rattle.network.specs.Registers.{reg, sheetIn, room, linkMark, linkWo
 use Rattle.network.specs.Inner.Machine.{slotIn, askedMark, sentMark, sentWord, memoryMark, memoryWord, collidesIn, unheldIn, unchosenIn, headlessIn, crowdsIn, straysIn, reopensIn, faultyIn}
 use Rattle.network.specs.Seen.{seenCell, seenChoice, marked, view}
 use Rattle.network.proofs.ViewLaws.{asked-same, sent-same}
-
--- two tests that agree at each number below n
-count-same : (n : ℕ) (p q : ℕ → Bool) → ((k : ℕ) → k < n → p k ≡ q k) → countOf n p ≡ countOf n q
-unfolding countOf
-count-same zero p q h = refl
-count-same (suc n) p q h = ap₂ (λ b k. pick b (suc k) k) (h n (omega arith)) (count-same n p q (λ k l. h k (omega arith)))
 
 -- a cell is there, and is a payload word, by its mark
 pub full-cell : (mark w : ℕ) → (1 ≤? mark) ≡ isFull (seenCell mark w)
@@ -48,7 +42,7 @@ none-arriving (suc mark) = no= (λ e. omega arith)
 pub collides-is : (s m : List ℕ) (node o : ℕ) → collidesIn s node o ≡ collides (view s m) node o
 unfolding collidesIn collides
 collides-is s m node o =
-    ap (λ k. 2 ≤? k) (count-same 5 _ _ (λ input _.
+    ap (λ k. 2 ≤? k) (countOf-same 5 _ _ (λ input _.
     full-cell (askedMark s node o input) (reg s headWord (at node input)) ∙ ap isFull (asked-same s m node o input)))
 
 pub headless-is : (s m : List ℕ) (node input : ℕ) → headlessIn s node input ≡ headless (view s m) node input
@@ -63,7 +57,7 @@ headless-is s m node input =
 pub crowds-is : (s m : List ℕ) (node : ℕ) → crowdsIn s node ≡ crowds (sheetIn s) (view s m) node
 unfolding crowdsIn crowds
 crowds-is s m node =
-    ap (λ k. 2 ≤? k) (count-same (circuits (sheetIn s)) _ _ (λ c _.
+    ap (λ k. 2 ≤? k) (countOf-same (circuits (sheetIn s)) _ _ (λ c _.
     ap (λ b. sourceOf (sheetIn s) c =? node and b) (full-cell (sentMark s c) (sentWord s m c) ∙ ap isFull (sent-same s m c))))
 
 pub strays-is : (s m : List ℕ) (node : ℕ) → straysIn s node ≡ strays (sheetIn s) (view s m) node

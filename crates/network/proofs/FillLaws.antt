@@ -13,7 +13,7 @@ use Rattle.words.specs.Tests.{_and_, _≤?_, _<?_}
 use Rattle.words.specs.Words.{word, pick, tab}
 use Rattle.words.proofs.TestLaws.{and-both, and-left, and-right, is≤, is<, yes≤, yes<}
 use Rattle.words.proofs.WordLaws.{length-tab, tab-at, tab-is}
-use Rattle.network.specs.Registers.{reg, put, sheetIn, movingWords}
+use Rattle.network.specs.Registers.{reg, put, sheetIn, rowCount, rowWords, movingWords}
 use Rattle.network.specs.Inner.Stages.{restate, stage}
 use Rattle.network.proofs.PutLaws.{put-same, put-other, put-length, put-rest}
 
@@ -22,10 +22,10 @@ pub record Wrote (low high k : ℕ) (new : ℕ → ℕ) (s after : List ℕ) : T
   pub same-length : length after ≡ length s
   pub same-rest : drop movingWords after ≡ drop movingWords s
   pub written : (row : ℕ) → low ≤ row → row ≤ high → reg after row k ≡ new row
-  pub elsewhere : (row j : ℕ) → row < 21 → j < 80 → (low ≤ row → row ≤ high → j ≡ k → ⊥) → reg after row j ≡ reg s row j
+  pub elsewhere : (row j : ℕ) → row < rowCount → j < rowWords → (low ≤ row → row ≤ high → j ≡ k → ⊥) → reg after row j ≡ reg s row j
 
 -- one register set
-pub wrote-one : (row k w : ℕ) (new : ℕ → ℕ) (s : List ℕ) → row < 21 → k < 80 → movingWords ≤ length s → w ≡ new row
+pub wrote-one : (row k w : ℕ) (new : ℕ → ℕ) (s : List ℕ) → row < rowCount → k < rowWords → movingWords ≤ length s → w ≡ new row
     → Wrote row row k new s (put s row k w)
 wrote-one row k w new s rl kl long e = record {
   same-length = put-length s row k w;
@@ -37,7 +37,7 @@ wrote-one row k w new s rl kl long e = record {
 }
 
 -- a place of some rows, then the same place of the rows behind them
-pub wrote-then : (low middle high k : ℕ) (new : ℕ → ℕ) (s between after : List ℕ) → low ≤ middle → middle < high → high < 21 → k < 80
+pub wrote-then : (low middle high k : ℕ) (new : ℕ → ℕ) (s between after : List ℕ) → low ≤ middle → middle < high → high < rowCount → k < rowWords
     → Wrote low middle k new s between → Wrote (middle + 1) high k new between after → Wrote low high k new s after
 wrote-then low middle high k new s between after a b hl kl f g = record {
   same-length = g .same-length ∙ f .same-length;
@@ -66,7 +66,7 @@ pub record Staged (low high n : ℕ) (f : ℕ → ℕ → ℕ) (s now : List ℕ
   pub same-length : length now ≡ length s
   pub same-rest : drop movingWords now ≡ drop movingWords s
   pub done : (row k : ℕ) → low ≤ row → row ≤ high → k < n → reg now row k ≡ f row k
-  pub kept : (row k : ℕ) → row < 21 → k < 80 → (low ≤ row → row ≤ high → k < n → ⊥) → reg now row k ≡ reg s row k
+  pub kept : (row k : ℕ) → row < rowCount → k < rowWords → (low ≤ row → row ≤ high → k < n → ⊥) → reg now row k ≡ reg s row k
 
 pub stage-start : (low high : ℕ) (f : ℕ → ℕ → ℕ) (s : List ℕ) → Staged low high 0 f s s
 stage-start low high f s = record {
@@ -76,7 +76,7 @@ stage-start low high f s = record {
   kept = λ row k rl kl no. refl;
 }
 
-pub stage-more : (low high n : ℕ) (f : ℕ → ℕ → ℕ) (s now next : List ℕ) → high < 21 → n < 80 → Staged low high n f s now
+pub stage-more : (low high n : ℕ) (f : ℕ → ℕ → ℕ) (s now next : List ℕ) → high < rowCount → n < rowWords → Staged low high n f s now
     → Wrote low high n (λ row. f row n) now next → Staged low high (n + 1) f s next
 stage-more low high n f s now next hl nl g w = record {
   same-length = w .same-length ∙ g .same-length;
@@ -93,12 +93,12 @@ stage-more low high n f s now next hl nl g w = record {
 
 -- a place that is still to come
 pub still : (low high n : ℕ) (f : ℕ → ℕ → ℕ) (s now : List ℕ) → Staged low high n f s now
-    → (row k : ℕ) → row < 21 → k < 80 → n ≤ k → reg now row k ≡ reg s row k
+    → (row k : ℕ) → row < rowCount → k < rowWords → n ≤ k → reg now row k ≡ reg s row k
 still low high n f s now g row k rl kl l = g .kept row k rl kl (λ a b h. omega arith)
 
 -- a row that is not among those
 pub beside : (low high n : ℕ) (f : ℕ → ℕ → ℕ) (s now : List ℕ) → Staged low high n f s now
-    → (row k : ℕ) → row < 21 → k < 80 → (low ≤ row → row ≤ high → ⊥) → reg now row k ≡ reg s row k
+    → (row k : ℕ) → row < rowCount → k < rowWords → (low ≤ row → row ≤ high → ⊥) → reg now row k ≡ reg s row k
 beside low high n f s now g row k rl kl out = g .kept row k rl kl (λ a b l. out a b)
 
 -- the sheet, of which nothing is written
@@ -108,22 +108,22 @@ staged-sheet low high n f s now g = ap (λ rest. take (word rest 0) (drop 1 rest
 
 -- words by their registers
 module _ (f : ℕ → ℕ → ℕ) (s : List ℕ) where
-  word-restate : (k : ℕ) → k < 1680 → word (restate f s) k ≡ f (k / 80) (k % 80)
+  word-restate : (k : ℕ) → k < movingWords → word (restate f s) k ≡ f (k / rowWords) (k % rowWords)
   unfolding restate
   word-restate k l =
-      List·getD-append (tab movingWords (λ k. f (k / 80) (k % 80))) (drop movingWords s) 0 k (rw length-tab l)
-      ∙ tab-at movingWords (λ k. f (k / 80) (k % 80)) k l
+      List·getD-append (tab movingWords (λ k. f (k / rowWords) (k % rowWords))) (drop movingWords s) 0 k (rw length-tab l)
+      ∙ tab-at movingWords (λ k. f (k / rowWords) (k % rowWords)) k l
 
-  pub reg-restate : (row k : ℕ) → row < 21 → k < 80 → reg (restate f s) row k ≡ f row k
+  pub reg-restate : (row k : ℕ) → row < rowCount → k < rowWords → reg (restate f s) row k ≡ f row k
   unfolding reg
   reg-restate row k rl kl =
-      let a : (row * 80 + k) / 80 ≡ row = omega arith in
-      let b : (row * 80 + k) % 80 ≡ k = omega arith in
-      word-restate (row * 80 + k) (omega arith) ∙ ap₂ f a b
+      let a : (row * rowWords + k) / rowWords ≡ row = omega arith in
+      let b : (row * rowWords + k) % rowWords ≡ k = omega arith in
+      word-restate (row * rowWords + k) (omega arith) ∙ ap₂ f a b
 
   pub rest-restate : drop movingWords (restate f s) ≡ drop movingWords s
   unfolding restate
-  rest-restate = drop-at (tab movingWords (λ k. f (k / 80) (k % 80))) (drop movingWords s) movingWords (length-tab movingWords _)
+  rest-restate = drop-at (tab movingWords (λ k. f (k / rowWords) (k % rowWords))) (drop movingWords s) movingWords (length-tab movingWords _)
 
   pub length-restate : movingWords ≤ length s → length (restate f s) ≡ length s
   unfolding restate
@@ -131,20 +131,20 @@ module _ (f : ℕ → ℕ → ℕ) (s : List ℕ) where
 
 -- words that have those registers, and the same behind them, are those words
 pub restated : (f : ℕ → ℕ → ℕ) (s now : List ℕ) → movingWords ≤ length now → drop movingWords now ≡ drop movingWords s
-    → ((row k : ℕ) → row < 21 → k < 80 → reg now row k ≡ f row k) → now ≡ restate f s
+    → ((row k : ℕ) → row < rowCount → k < rowWords → reg now row k ≡ f row k) → now ≡ restate f s
 unfolding restate reg
 restated f s now long rest e =
     sym (take-append-drop movingWords now)
     ∙ ap₂ (λ (a b : List ℕ). a ++ b)
-    (tab-is (take movingWords now) movingWords (λ k. f (k / 80) (k % 80)) (length-take-le movingWords now long)
+    (tab-is (take movingWords now) movingWords (λ k. f (k / rowWords) (k % rowWords)) (length-take-le movingWords now long)
     (λ k l.
-    let q : k / 80 * 80 + k % 80 ≡ k = omega arith in
-    getD-take movingWords now k 0 l ∙ sym (ap (word now) q) ∙ e (k / 80) (k % 80) (omega arith) (omega arith)))
+    let q : k / rowWords * rowWords + k % rowWords ≡ k = omega arith in
+    getD-take movingWords now k 0 l ∙ sym (ap (word now) q) ∙ e (k / rowWords) (k % rowWords) (omega arith) (omega arith)))
     rest
 
 -- a stage's registers
 module _ (low high n : ℕ) (f : ℕ → ℕ → ℕ) (s : List ℕ) where
-  pub reg-stage : (row k : ℕ) → row < 21 → k < 80
+  pub reg-stage : (row k : ℕ) → row < rowCount → k < rowWords
       → reg (stage low high n f s) row k ≡ pick (low ≤? row and row ≤? high and k <? n) (f row k) (reg s row k)
   unfolding stage
   reg-stage row k rl kl = reg-restate _ s row k rl kl
@@ -161,11 +161,11 @@ module _ (low high n : ℕ) (f : ℕ → ℕ → ℕ) (s : List ℕ) where
   unfolding sheetIn
   stage-sheet = ap (λ rest. take (word rest 0) (drop 1 rest)) stage-rest
 
-  pub stage-here : (row k : ℕ) → row < 21 → k < 80 → low ≤ row → row ≤ high → k < n → reg (stage low high n f s) row k ≡ f row k
+  pub stage-here : (row k : ℕ) → row < rowCount → k < rowWords → low ≤ row → row ≤ high → k < n → reg (stage low high n f s) row k ≡ f row k
   stage-here row k rl kl a b l =
       reg-stage row k rl kl ∙ ap (λ (t : Bool). pick t (f row k) (reg s row k)) (and-both (yes≤ a) (and-both (yes≤ b) (yes< l)))
 
-  pub stage-off : (row k : ℕ) → row < 21 → k < 80 → (low ≤ row → row ≤ high → k < n → ⊥) → reg (stage low high n f s) row k ≡ reg s row k
+  pub stage-off : (row k : ℕ) → row < rowCount → k < rowWords → (low ≤ row → row ≤ high → k < n → ⊥) → reg (stage low high n f s) row k ≡ reg s row k
   stage-off row k rl kl out = reg-stage row k rl kl ∙ go (low ≤? row and row ≤? high and k <? n) refl
     where
       go : (b : Bool) → (low ≤? row and row ≤? high and k <? n) ≡ b → pick b (f row k) (reg s row k) ≡ reg s row k
@@ -181,7 +181,7 @@ unfolding stage
 staged-is low high n f s now long g =
     restated _ s now (omega (arith, g .same-length)) (g .same-rest) (λ row k rl kl. go row k rl kl (low ≤? row and row ≤? high and k <? n) refl)
   where
-    go : (row k : ℕ) → row < 21 → k < 80 → (b : Bool) → (low ≤? row and row ≤? high and k <? n) ≡ b
+    go : (row k : ℕ) → row < rowCount → k < rowWords → (b : Bool) → (low ≤? row and row ≤? high and k <? n) ≡ b
         → reg now row k ≡ pick b (f row k) (reg s row k)
     go row k rl kl true e =
         let inner = and-right (low ≤? row) _ e in

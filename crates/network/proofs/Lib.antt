@@ -1,3 +1,4 @@
+pub mod RowCases
 pub mod RowLaws
 pub mod ViewLaws
 pub mod FaultLaws
@@ -8,3 +9,4 @@ pub mod FirstLaws
 pub mod PartLaws
 pub mod PutLaws
 pub mod FillLaws
+pub mod OneMachineProved

@@ -39,10 +39,10 @@ module _ (s : List ℕ) where
   unfolding sheetIn
   sheet-short h = part-short movingWords s h
 
-  pub sheet-whole : (n : ℕ) → n ≡ word s movingWords → take (1681 + n - 1681) (drop 1681 s) ≡ sheetIn s
+  pub sheet-whole : (n : ℕ) → n ≡ word s movingWords → take (movingWords + 1 + n - (movingWords + 1)) (drop (movingWords + 1) s) ≡ sheetIn s
   unfolding sheetIn
   sheet-whole n e = part-whole movingWords s n e
 
-  pub sheet-cut : (n : ℕ) → n ≡ word s movingWords → length s - 1681 ≤ n → take (length s - 1681) (drop 1681 s) ≡ sheetIn s
+  pub sheet-cut : (n : ℕ) → n ≡ word s movingWords → length s - (movingWords + 1) ≤ n → take (length s - (movingWords + 1)) (drop (movingWords + 1) s) ≡ sheetIn s
   unfolding sheetIn
   sheet-cut n e h = part-cut movingWords s n e h

@@ -1,76 +1,57 @@
--- What stands in each register after a cycle, kind of row by kind of row; the sheet stays.
+-- What stands in each register after a cycle: one law for all rows, then each register by its name. The sheet stays.
 -- Assumes nothing.
 use Prim.Native.Nat.{ℕ, _+_, _*_, _/_, _%_, _≤_, _<_}
-use mathlib.Core.Path.{_≡_, refl, sym, _∙_, ap, ap₂}
-use mathlib.Core.Bool.{true}
-use mathlib.Core.List.{List, _++_}
+use mathlib.Core.Path.{_≡_, refl, _∙_, ap, ap₂}
+use mathlib.Core.Bool.{Bool}
+use mathlib.Core.List.{List}
 use native.Mathlib.Omega.{arith}
-use lib.ListN.{length, take, drop, List·getD-append}
+use lib.ListN.{take, drop, List·getD-append}
 use lib.Seq.{drop-at}
 use Rattle.words.specs.Tests.{_=?_}
 use Rattle.words.specs.Words.{word, pick, tab}
-use Rattle.words.proofs.TestLaws.{and-both, or-yes, or-skip, yes≤, yes<, yes=}
+use Rattle.words.proofs.TestLaws.{yes<, no<}
 use Rattle.words.proofs.WordLaws.{length-tab, tab-at}
 use Rattle.sheet.specs.Sheet.{circuits, nodes}
 use Rattle.network.specs.View.{Sender}
 use Rattle.network.specs.Cycle.{nextNumber}
-use Rattle.network.specs.Registers.{reg, sheetIn, movingWords, clockRow, cyclePlace, numberPlace, inForcePlace, orderMarkPlace, orderSchedulePlace, orderPeriodPlace, linkMark, linkWord, headMark, headWord, choiceRow, latchRow, outMark, outWord, receiveMark, receiveKind, receiveAddress, landingMark, landingKind, landingAddress, landingWord, leftRow, readRow, writeRow, kindRow, toGoRow, at}
+use Rattle.network.specs.Registers.{reg, sheetIn, rowCount, rowWords, movingWords, clockRow, cyclePlace, numberPlace, inForcePlace}
+use Rattle.network.specs.Registers.{orderMarkPlace, orderSchedulePlace, orderPeriodPlace, linkMark, linkWord, headMark, headWord, choiceRow}
+use Rattle.network.specs.Registers.{latchRow, outMark, outWord, receiveMark, receiveKind, receiveAddress, landingMark, landingKind}
+use Rattle.network.specs.Registers.{landingAddress, landingWord, leftRow, readRow, writeRow, kindRow, toGoRow, at}
 use Rattle.network.specs.Seen.{seenSender}
-use Rattle.network.specs.Inner.Machine.{nextSender, nextLinkMark, nextLinkWord, nextHeadWord, nextChoice, nextLatch, nextOutMark, nextOutWord, memoryWord, nextReceiveMark, nextReceiveKind, nextReceiveAddress, nextLandingMark, turns, isDue, nextClock, nextRows, nextInRow, exists, nextWord, nextState}
+use Rattle.network.specs.Inner.Machine.{nextSender, nextLinkMark, nextLinkWord, nextHeadWord, nextChoice, nextLatch, nextOutMark, nextOutWord}
+use Rattle.network.specs.Inner.Machine.{memoryWord, nextReceiveMark, nextReceiveKind, nextReceiveAddress, nextLandingMark, turns, isDue}
+use Rattle.network.specs.Inner.Machine.{nextClock, fiveANode, rowIn, nextRows, nextInRow, exists, nextWord, nextState}
+
+-- the one law of the table: register k of a row, where the sheet has it and where it has not
+module _ (s m : List ℕ) (row k : ℕ) (rl : row < rowCount) (kl : k < rowWords) where
+  next-at : reg (nextState s m) row k ≡ pick (exists s m row k) (nextInRow s m row k) (reg s row k)
+  unfolding reg nextState nextWord
+  next-at =
+      let inside : row * rowWords + k < movingWords = omega arith in
+      let a : (row * rowWords + k) / rowWords ≡ row = omega arith in
+      let b : (row * rowWords + k) % rowWords ≡ k = omega arith in
+      List·getD-append (tab movingWords (nextWord s m)) (drop movingWords s) 0 (row * rowWords + k) (rw length-tab inside)
+      ∙ tab-at movingWords (nextWord s m) (row * rowWords + k) inside
+      ∙ rw (a, b) refl
+
+  pub next-row : k < rowIn (nextRows s m) row .extent → reg (nextState s m) row k ≡ nextInRow s m row k
+  unfolding exists
+  next-row l = next-at ∙ ap (λ (b : Bool). pick b (nextInRow s m row k) (reg s row k)) (yes< l)
+
+  pub next-off : rowIn (nextRows s m) row .extent ≤ k → reg (nextState s m) row k ≡ reg s row k
+  unfolding exists
+  next-off l = next-at ∙ ap (λ (b : Bool). pick b (nextInRow s m row k) (reg s row k)) (no< l)
+
+-- what lies behind the rows
+pub next-rest : (s m : List ℕ) → drop movingWords (nextState s m) ≡ drop movingWords s
+unfolding nextState
+next-rest s m = drop-at (tab movingWords (nextWord s m)) (drop movingWords s) movingWords (length-tab movingWords _)
 
 -- a cycle leaves the sheet
 pub sheet-kept : (s m : List ℕ) → sheetIn (nextState s m) ≡ sheetIn s
-unfolding sheetIn nextState
-sheet-kept s m =
-    ap (λ r. take (word r 0) (drop 1 r)) (kept (tab movingWords (nextWord s m)) (length-tab movingWords (nextWord s m)))
-  where
-    kept : (l : List ℕ) → length l ≡ movingWords → drop movingWords (l ++ drop movingWords s) ≡ drop movingWords s
-    kept l e = drop-at l (drop movingWords s) movingWords e
-
--- the one law of the table: register k of a row, where it exists
-pub next-row : (s m : List ℕ) (row k : ℕ) → row < 21 → k < 80 → exists s row k ≡ true
-    → reg (nextState s m) row k ≡ nextInRow s m row k
-unfolding reg nextState nextWord
-next-row s m row k rl kl e =
-    let inside : row * 80 + k < 1680 = omega arith in
-    let a : (row * 80 + k) / 80 ≡ row = omega arith in
-    let b : (row * 80 + k) % 80 ≡ k = omega arith in
-    List·getD-append (tab movingWords (nextWord s m)) (drop movingWords s) 0 (row * 80 + k) (rw length-tab inside)
-    ∙ tab-at movingWords (nextWord s m) (row * 80 + k) inside
-    ∙ rw (a, b, e) refl
-
--- the six words of the clock
-pub next-clock : (s m : List ℕ) (k : ℕ) → k < 6 → reg (nextState s m) clockRow k ≡ nextClock s k
-unfolding exists nextInRow nextRows
-next-clock s m k l = next-row s m clockRow k (omega arith) (omega arith) (sym (or-yes _ (and-both (yes= refl) (yes< l))))
-
--- the rows of the routers, by place, and by node and input or output
-pub next-router-place : (s m : List ℕ) → nodes (sheetIn s) ≤ 16 → (row k : ℕ) → 1 ≤ row → row ≤ 8 → k < nodes (sheetIn s) * 5
-    → reg (nextState s m) row k ≡ nextInRow s m row k
-unfolding exists
-next-router-place s m few row k low high l =
-    next-row s m row k (omega arith) (omega arith)
-    (sym (or-skip _ (or-yes _ (and-both (yes≤ low) (and-both (yes≤ high) (yes< l))))))
-
-pub next-router : (s m : List ℕ) → nodes (sheetIn s) ≤ 16 → (row node i : ℕ) → 1 ≤ row → row ≤ 8 → node < nodes (sheetIn s) → i < 5
-    → reg (nextState s m) row (at node i) ≡ nextInRow s m row (at node i)
-next-router s m few row node i low high nl il = next-router-place s m few row (at node i) low high (omega arith)
-
--- the rows of the nodes
-pub next-node : (s m : List ℕ) → nodes (sheetIn s) ≤ 16 → (row node : ℕ) → 9 ≤ row → row ≤ 15 → node < nodes (sheetIn s)
-    → reg (nextState s m) row node ≡ nextInRow s m row node
-unfolding exists
-next-node s m few row node low high l =
-    next-row s m row node (omega arith) (omega arith)
-    (sym (or-skip _ (or-skip _ (or-yes _ (and-both (yes≤ low) (and-both (yes≤ high) (yes< l)))))))
-
--- the rows of the circuits
-pub next-circuit : (s m : List ℕ) → circuits (sheetIn s) ≤ 64 → (row circuit : ℕ) → 16 ≤ row → row ≤ 20 → circuit < circuits (sheetIn s)
-    → reg (nextState s m) row circuit ≡ nextInRow s m row circuit
-unfolding exists
-next-circuit s m few row circuit low high l =
-    next-row s m row circuit (omega arith) (omega arith)
-    (sym (or-skip _ (or-skip _ (or-skip _ (sym (and-both (yes≤ low) (and-both (yes≤ high) (yes< l))))))))
+unfolding sheetIn
+sheet-kept s m = ap (λ rest. take (word rest 0) (drop 1 rest)) (next-rest s m)
 
 -- the node and the input or output of a place in a router's row
 node-at : (node i : ℕ) → i < 5 → at node i / 5 ≡ node
@@ -93,24 +74,26 @@ pub record RouterAfter (s m : List ℕ) (node i : ℕ) : Type 0 where
   pub out-word : reg (nextState s m) outWord (at node i) ≡ nextOutWord s node i
 
 pub router-after : (s m : List ℕ) → nodes (sheetIn s) ≤ 16 → (node i : ℕ) → node < nodes (sheetIn s) → i < 5 → RouterAfter s m node i
-unfolding nextInRow nextRows
+unfolding nextInRow rowIn nextRows _=?_
 router-after s m few node i nl il =
     let k : ℕ = at node i in
     let n : k / 5 ≡ node = node-at node i il in
     let j : k % 5 ≡ i = input-at node i il in
+    let l : k < fiveANode s = omega arith in
+    let kl : k < rowWords = omega arith in
     record {
-      link-mark = next-router s m few linkMark node i (omega arith) (omega arith) nl il ∙ ap₂ (nextLinkMark s) n j;
-      link-word = next-router s m few linkWord node i (omega arith) (omega arith) nl il ∙ ap₂ (nextLinkWord s m) n j;
-      head-mark = next-router s m few headMark node i (omega arith) (omega arith) nl il;
-      head-word = next-router s m few headWord node i (omega arith) (omega arith) nl il;
+      link-mark = next-row s m linkMark k (omega arith) kl l ∙ ap₂ (nextLinkMark s) n j;
+      link-word = next-row s m linkWord k (omega arith) kl l ∙ ap₂ (nextLinkWord s m) n j;
+      head-mark = next-row s m headMark k (omega arith) kl l;
+      head-word = next-row s m headWord k (omega arith) kl l;
       choice-register =
-          next-router s m few choiceRow node i (omega arith) (omega arith) nl il
+          next-row s m choiceRow k (omega arith) kl l
           ∙ ap (λ i. nextChoice i (reg s latchRow k) (reg s linkMark k) (reg s linkWord k)) j;
       latch-register =
-          next-router s m few latchRow node i (omega arith) (omega arith) nl il
+          next-row s m latchRow k (omega arith) kl l
           ∙ ap (λ i. nextLatch i (reg s latchRow k) (reg s linkMark k) (reg s linkWord k)) j;
-      out-mark = next-router s m few outMark node i (omega arith) (omega arith) nl il ∙ ap₂ (nextOutMark s) n j;
-      out-word = next-router s m few outWord node i (omega arith) (omega arith) nl il ∙ ap₂ (nextOutWord s) n j;
+      out-mark = next-row s m outMark k (omega arith) kl l ∙ ap₂ (nextOutMark s) n j;
+      out-word = next-row s m outWord k (omega arith) kl l ∙ ap₂ (nextOutWord s) n j;
     }
 
 -- those of a node
@@ -124,15 +107,15 @@ pub record NodeAfter (s m : List ℕ) (node : ℕ) : Type 0 where
   pub landing-word : reg (nextState s m) landingWord node ≡ memoryWord s node
 
 pub node-after : (s m : List ℕ) → nodes (sheetIn s) ≤ 16 → (node : ℕ) → node < nodes (sheetIn s) → NodeAfter s m node
-unfolding nextInRow nextRows
+unfolding nextInRow rowIn nextRows _=?_
 node-after s m few node l = record {
-  receive-mark = next-node s m few receiveMark node (omega arith) (omega arith) l;
-  receive-kind = next-node s m few receiveKind node (omega arith) (omega arith) l;
-  receive-address = next-node s m few receiveAddress node (omega arith) (omega arith) l;
-  landing-mark = next-node s m few landingMark node (omega arith) (omega arith) l;
-  landing-kind = next-node s m few landingKind node (omega arith) (omega arith) l;
-  landing-address = next-node s m few landingAddress node (omega arith) (omega arith) l;
-  landing-word = next-node s m few landingWord node (omega arith) (omega arith) l;
+  receive-mark = next-row s m receiveMark node (omega arith) (omega arith) l;
+  receive-kind = next-row s m receiveKind node (omega arith) (omega arith) l;
+  receive-address = next-row s m receiveAddress node (omega arith) (omega arith) l;
+  landing-mark = next-row s m landingMark node (omega arith) (omega arith) l;
+  landing-kind = next-row s m landingKind node (omega arith) (omega arith) l;
+  landing-address = next-row s m landingAddress node (omega arith) (omega arith) l;
+  landing-word = next-row s m landingWord node (omega arith) (omega arith) l;
 }
 
 -- those of a circuit: its sender
@@ -142,14 +125,14 @@ sender-same x y a b c d e = λ i. record { left = a i; readAddress = b i; writeA
 
 pub sender-after : (s m : List ℕ) → circuits (sheetIn s) ≤ 64 → (circuit : ℕ) → circuit < circuits (sheetIn s)
     → seenSender (nextState s m) circuit ≡ nextSender s circuit
-unfolding nextInRow nextRows
+unfolding nextInRow rowIn nextRows _=?_
 sender-after s m few circuit l =
     sender-same _ _
-    (next-circuit s m few leftRow circuit (omega arith) (omega arith) l)
-    (next-circuit s m few readRow circuit (omega arith) (omega arith) l)
-    (next-circuit s m few writeRow circuit (omega arith) (omega arith) l)
-    (next-circuit s m few kindRow circuit (omega arith) (omega arith) l)
-    (next-circuit s m few toGoRow circuit (omega arith) (omega arith) l)
+    (next-row s m leftRow circuit (omega arith) (omega arith) l)
+    (next-row s m readRow circuit (omega arith) (omega arith) l)
+    (next-row s m writeRow circuit (omega arith) (omega arith) l)
+    (next-row s m kindRow circuit (omega arith) (omega arith) l)
+    (next-row s m toGoRow circuit (omega arith) (omega arith) l)
 
 -- those of the clock
 pub record ClockAfter (s m : List ℕ) : Type 0 where
@@ -163,12 +146,12 @@ pub record ClockAfter (s m : List ℕ) : Type 0 where
   pub order-period : reg (nextState s m) clockRow orderPeriodPlace ≡ reg s clockRow orderPeriodPlace
 
 pub clock-after : (s m : List ℕ) → ClockAfter s m
-unfolding nextClock _=?_
+unfolding nextInRow rowIn nextRows nextClock _=?_
 clock-after s m = record {
-  cycle = next-clock s m cyclePlace (omega arith);
-  number = next-clock s m numberPlace (omega arith);
-  schedule = next-clock s m inForcePlace (omega arith);
-  order-mark = next-clock s m orderMarkPlace (omega arith);
-  order-schedule = next-clock s m orderSchedulePlace (omega arith);
-  order-period = next-clock s m orderPeriodPlace (omega arith);
+  cycle = next-row s m clockRow cyclePlace (omega arith) (omega arith) (omega arith);
+  number = next-row s m clockRow numberPlace (omega arith) (omega arith) (omega arith);
+  schedule = next-row s m clockRow inForcePlace (omega arith) (omega arith) (omega arith);
+  order-mark = next-row s m clockRow orderMarkPlace (omega arith) (omega arith) (omega arith);
+  order-schedule = next-row s m clockRow orderSchedulePlace (omega arith) (omega arith) (omega arith);
+  order-period = next-row s m clockRow orderPeriodPlace (omega arith) (omega arith) (omega arith);
 }

@@ -6,14 +6,14 @@ use native.Mathlib.Nat.{mod-lt}
 use native.Mathlib.Omega.{arith}
 use Rattle.words.proofs.TestLaws.{yes=, no=, yes≤, no≤}
 use Rattle.packet.specs.Header.{routeOf, firstCode, shiftedWord}
-use Rattle.torus.proofs.RouteLaws.{output-small as output-at-most}
+use Rattle.torus.proofs.RouteLaws.{output-small}
 use Rattle.network.specs.Cycle.{outputFor}
 use Rattle.network.specs.Inner.Machine.{nextHeadWord, nextLatch}
 
 -- an output is one of five
-pub output-small : (input w o : ℕ) → o ≡ outputFor input w → o ≤ 4
+pub outputFor-small : (input w o : ℕ) → o ≡ outputFor input w → o ≤ 4
 unfolding outputFor
-output-small input w o e = output-at-most input (firstCode (routeOf w)) o e (mod-lt (routeOf w) (omega arith))
+outputFor-small input w o e = output-small input (firstCode (routeOf w)) o e (mod-lt (routeOf w) (omega arith))
 
 -- the word that leaves the header stage
 module _ (mark w : ℕ) where

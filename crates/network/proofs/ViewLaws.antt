@@ -17,11 +17,18 @@ use Rattle.torus.specs.Torus.{neighbourOf, oppositeOf}
 use Rattle.sheet.specs.Sheet.{columns, rows, memoryWords, circuits, nodes}
 use Rattle.sheet.specs.Slots.{sourceOf}
 use Rattle.network.specs.View.{Cell, empty, payload, sourceInput, Sender, Receiver, View, noOrder, pending}
-use Rattle.network.specs.Cycle.{advance, choose, hold, goesTo, asks, join, gather, stepRouters, Move, rests, opens, sends, sentCell, moveNow, headNow, readNow, sentNow, sourceWire, landingOf, stepReceiver, storedBy, nextNumber, scheduleAfter, orderAfter, periodEnds, tick}
-use Rattle.network.specs.Registers.{reg, sheetIn, room, clockRow, numberPlace, inForcePlace, orderMarkPlace, orderSchedulePlace, orderPeriodPlace, linkMark, linkWord, headMark, headWord, choiceRow, latchRow, receiveMark, receiveKind, receiveAddress, at}
+use Rattle.network.specs.Cycle.{advance, choose, hold, goesTo, asks, join, gather, stepRouters, Move, rests, opens, sends, sentCell, moveNow}
+use Rattle.network.specs.Cycle.{headNow, readNow, sentNow, sourceWire, landingOf, stepReceiver, storedBy, nextNumber, scheduleAfter, orderAfter}
+use Rattle.network.specs.Cycle.{periodEnds, tick}
+use Rattle.network.specs.Registers.{reg, sheetIn, room, clockRow, numberPlace, inForcePlace, orderMarkPlace, orderSchedulePlace}
+use Rattle.network.specs.Registers.{orderPeriodPlace, linkMark, linkWord, headMark, headWord, choiceRow, latchRow, receiveMark, receiveKind}
+use Rattle.network.specs.Registers.{receiveAddress, at}
 use Rattle.network.specs.Seen.{seenSender, seenCell, seenChoice, marked, seenLanding, seenOrder, view, Agree}
-use Rattle.network.specs.Inner.Machine.{firstMark, firstWord, slotIn, markOf, wordOf, sentMark, sentWord, ownMark, sourceMark, sourceWord, nextLinkMark, nextLinkWord, nextHeadWord, nextChoice, nextLatch, askedMark, nextOutMark, nextOutWord, memoryMark, memoryWord, nextReceiveMark, nextReceiveKind, nextReceiveAddress, nextLandingMark, memoryAfter, turns, isDue, nextSender, nextState, nextMemory}
-pub use Rattle.network.proofs.RowLaws.{sheet-kept, next-row, next-clock, next-router-place, next-router, next-node, next-circuit, RouterAfter, router-after, NodeAfter, node-after, sender-same, sender-after, ClockAfter, clock-after}
+use Rattle.network.specs.Inner.Machine.{firstMark, firstWord, slotIn, markOf, wordOf, sentMark, sentWord, ownMark, sourceMark, sourceWord}
+use Rattle.network.specs.Inner.Machine.{nextLinkMark, nextLinkWord, nextHeadWord, nextChoice, nextLatch, askedMark, nextOutMark, nextOutWord}
+use Rattle.network.specs.Inner.Machine.{memoryMark, memoryWord, nextReceiveMark, nextReceiveKind, nextReceiveAddress, nextLandingMark}
+use Rattle.network.specs.Inner.Machine.{memoryAfter, turns, isDue, nextSender, nextState, nextMemory}
+pub use Rattle.network.proofs.RowLaws.{sheet-kept, RouterAfter, router-after, NodeAfter, node-after, sender-same, sender-after, ClockAfter, clock-after}
 
 -- marks of 3 and more, tested
 not-zero : (x : ℕ) → (suc (suc (suc x)) =? 0) ≡ false

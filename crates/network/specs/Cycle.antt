@@ -9,7 +9,8 @@ use Rattle.torus.specs.Torus.{neighbourOf, oppositeOf}
 use Rattle.torus.specs.Route.{outputOf}
 use Rattle.sheet.specs.Sheet.{columns, rows, memoryWords, circuits, nodes, period}
 use Rattle.sheet.specs.Slots.{slotLength, slotRoute, sourceOf}
-use Rattle.network.specs.View.{Cell, empty, header, payload, sourceInput, memoryOutput, Choice, noOutput, toOutput, Routers, Sender, Receiver, Landing, nothing, landed, Order, noOrder, pending, View}
+use Rattle.network.specs.View.{Cell, empty, header, payload, sourceInput, memoryOutput, Choice, noOutput, toOutput, Routers, Sender, Receiver}
+use Rattle.network.specs.View.{Landing, nothing, landed, Order, noOrder, pending, View}
 
 -- the header stage. The output that a header asks for, by its route's first code
 unfoldable pub outputFor : ℕ → ℕ → ℕ

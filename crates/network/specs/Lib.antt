@@ -2,4 +2,5 @@ pub mod View
 pub mod Cycle
 pub mod Registers
 pub mod Seen
+pub mod OneMachine
 pub mod Inner

@@ -1,29 +1,32 @@
--- The register map of the lent state (docs/STATE.md): 21 rows of 80 words, then the sheet's length, then the sheet. A register of a
+-- The register map of the lent state (docs/STATE.md): rows of words, then the sheet's length, then the sheet. A register of a
 -- router stands at 5 × node + input (or output) in its row, a node's at the node, a circuit's at the circuit.
 use Prim.Native.Nat.{ℕ, _+_, _*_}
 use mathlib.Core.List.{List}
 use lib.ListN.{take, drop, set}
 use Rattle.words.specs.Words.{word}
 use Rattle.sheet.specs.Sheet.{memoryWords}
+pub use Rattle.sheet.specs.Sheet.{sheetWords}
 
 abbrev pub rowWords : ℕ
 rowWords = 80
 
+abbrev pub rowCount : ℕ
+rowCount = 21
+
 -- the words before the sheet's length
 abbrev pub movingWords : ℕ
-movingWords = 1680
-
--- the most words of a sheet: a head, 64 circuits, and 8 schedules of 256 entries
-abbrev pub sheetWords : ℕ
-sheetWords = 8597
+movingWords = rowCount * rowWords
 
 -- the published length of the state
 abbrev pub stateWords : ℕ
-stateWords = 10278
+stateWords = movingWords + 1 + sheetWords
 
--- row 0: the clock and the order
+-- the clock and the order
 abbrev pub clockRow : ℕ
 clockRow = 0
+
+abbrev pub clockWords : ℕ
+clockWords = 6
 
 abbrev pub cyclePlace : ℕ
 cyclePlace = 0
@@ -43,7 +46,7 @@ orderSchedulePlace = 4
 abbrev pub orderPeriodPlace : ℕ
 orderPeriodPlace = 5
 
--- rows 1 to 8: the routers. A mark is 0 empty, 1 header, 2 payload, 3 a packet's last payload word; a choice or a latch is one more
+-- the routers. A mark is 0 empty, 1 header, 2 payload, 3 a packet's last payload word; a choice or a latch is one more
 -- than the output, 0 for none
 abbrev pub linkMark : ℕ
 linkMark = 1
@@ -69,7 +72,7 @@ outMark = 7
 abbrev pub outWord : ℕ
 outWord = 8
 
--- rows 9 to 15: the nodes' receive units and stored landings; a mark is 1 where there is one, else 0
+-- the nodes' receive units and stored landings; a mark is 1 where there is one, else 0
 abbrev pub receiveMark : ℕ
 receiveMark = 9
 
@@ -91,7 +94,7 @@ landingAddress = 14
 abbrev pub landingWord : ℕ
 landingWord = 15
 
--- rows 16 to 20: the circuits' senders
+-- the circuits' senders
 abbrev pub leftRow : ℕ
 leftRow = 16
 

@@ -6,7 +6,10 @@ use mathlib.Core.Path.{_≡_}
 use Rattle.words.specs.Words.{word}
 use Rattle.sheet.specs.Sheet.{memoryWords, circuits, nodes}
 use Rattle.network.specs.View.{Sender, Cell, empty, header, payload, Choice, noOutput, toOutput, Landing, nothing, landed, Order, noOrder, pending, View}
-use Rattle.network.specs.Registers.{at, reg, room, clockRow, cyclePlace, numberPlace, inForcePlace, orderMarkPlace, orderSchedulePlace, orderPeriodPlace, linkMark, linkWord, headMark, headWord, choiceRow, latchRow, outMark, outWord, receiveMark, receiveKind, receiveAddress, landingMark, landingKind, landingAddress, landingWord, leftRow, readRow, writeRow, kindRow, toGoRow}
+use Rattle.network.specs.Registers.{at, reg, room, clockRow, cyclePlace, numberPlace, inForcePlace, orderMarkPlace, orderSchedulePlace}
+use Rattle.network.specs.Registers.{orderPeriodPlace, linkMark, linkWord, headMark, headWord, choiceRow, latchRow, outMark, outWord}
+use Rattle.network.specs.Registers.{receiveMark, receiveKind, receiveAddress, landingMark, landingKind, landingAddress, landingWord, leftRow}
+use Rattle.network.specs.Registers.{readRow, writeRow, kindRow, toGoRow}
 
 -- a cell, from its mark and word
 abbrev pub seenCell : ℕ → ℕ → Cell

@@ -6,16 +6,16 @@ ghost use Rattle.network.specs.Registers.{reg as regOf, put, sheetIn, la
 ghost use Rattle.network.specs.Inner.Machine.{nextHeadWord, nextLatch};
 use packet::Header;
 
-// The register map (docs/STATE.md): rows of 80 words, by their numbers, and the places in the clock's row.
+// The register map (docs/STATE.md): rows of so many words, by their numbers, and the places in the clock's row.
 pub const ROW_WORDS: usize = 80;
 
+pub const ROW_COUNT: usize = 21;
+
 // The words before the sheet's length; the sheet is behind it.
-pub const MOVING_WORDS: usize = 1680;
+pub const MOVING_WORDS: usize = ROW_COUNT * ROW_WORDS;
 
-// The published length of the state, and the most words of its sheet.
-pub const STATE_WORDS: usize = 10278;
-
-pub const SHEET_WORDS: u32 = 8597;
+// The published length of the state, which has room for the most words of a sheet.
+pub const STATE_WORDS: usize = MOVING_WORDS + 1 + sheet::SHEET_WORDS as usize;
 
 // The clock and the order.
 pub const CLOCK_ROW: u32 = 0;

@@ -8,12 +8,13 @@ use native.Mathlib.Omega.{arith}
 use native.Mathlib.Decide.{decLt, ℕ-discrete}
 use native.Mathlib.Nat.{mod-lt, zero-div, zero-mul, mod-add-div'}
 use lib.Bits.{bitOr, or-lt, or-comm, or-zero-r}
-use lib.ListN.{length, set, replicate, length-set, length-replicate, getD-replicate, List·getD-eq-default}
+use lib.ListN.{length, set, replicate, length-set}
 use lib.Pow.{pow-pos, shr-lt}
 use lib.Seq.{getD-set-same, getD-set-other, set-getD}
 use Rattle.words.specs.Tests.{_and_, _or_, _≤?_, _<?_, _=?_}
 use Rattle.words.specs.Words.{word}
 use Rattle.words.proofs.TestLaws.{and-both, and-no, and-no-right, or-yes, or-on, yes≤, no≤, yes<, no<, yes=, no=}
+use Rattle.words.proofs.WordLaws.{word-zeros}
 use Rattle.occupancy.specs.Inner.Occupancy.{bitAt, taken, run, listed, window, slotMask, takeRun, Takes}
 use Rattle.occupancy.proofs.BitLaws.{bit-or, bit-mask, mask-small}
 use Rattle.occupancy.proofs.WindowLaws.{window-low, window-high, window-bit}
@@ -168,19 +169,12 @@ takes-run table place size small few fits =
     record { same-length = length-after table place size; besides = taken-run table place size small few fits }
 
 -- a table of words 0: in it no place is taken
-pub word-none : (n k : ℕ) → word (replicate n 0) k ≡ 0
-word-none n k = go (decLt k n)
-  where
-    go : Dec (k < n) → word (replicate n 0) k ≡ 0
-    go (yes h) = getD-replicate n k 0 0 h
-    go (no h) = List·getD-eq-default (replicate n 0) 0 (omega (arith, length-replicate {A = ℕ} n 0))
-
 pub none-small : (n x : ℕ) → word (replicate n 0) x < 2 ^ 32
-none-small n x = omega (arith, word-none n x)
+none-small n x = omega (arith, word-zeros n x)
 
 pub none-taken : (n x : ℕ) → taken (replicate n 0) x ≡ false
 unfolding taken bitAt
 none-taken n x =
-    ap (λ (w : ℕ). w / 2 ^ (x % 32) % 2 =? 1) (word-none n (x / 32))
+    ap (λ (w : ℕ). w / 2 ^ (x % 32) % 2 =? 1) (word-zeros n (x / 32))
     ∙ ap (λ (w : ℕ). w % 2 =? 1) (zero-div (2 ^ (x % 32)))
     ∙ no= (λ e. omega arith)

@@ -1,13 +1,15 @@
 -- A header gives back the three parts that it was built from, and its number is 0 exactly where they fit.
 -- Assumes nothing.
-use Prim.Native.Nat.{ℕ, _+_, _<_, _≤_}
+use Prim.Native.Nat.{ℕ, _+_, _*_, _/_, _%_, _<_, _≤_}
 use mathlib.Core.Bool.{Bool, true, false}
 use mathlib.Core.List.{[], _∷_}
-use mathlib.Core.Path.{_≡_, refl, sym, ap}
+use mathlib.Core.Path.{_≡_, refl, sym, _∙_, ap}
 use native.Mathlib.Omega.{arith}
 use Rattle.words.specs.Words.{pick, tab}
 use Rattle.words.proofs.TestLaws.{and-no, and-skip, and-both, and-left, and-right, yes<, no<, is<}
-use Rattle.packet.specs.Header.{dataKind, configurationKind, interruptKind, unusedKind, kindBits, addressBits, routeBits, headerWord, kindOf, addressOf, routeOf, kinds, addresses, routes, partsFit, headerNumber, builtOf}
+use Rattle.words.specs.Numbers.{unless}
+use Rattle.packet.specs.Header.{dataKind, configurationKind, interruptKind, unusedKind, kindBits, addressBits, routeBits, headerWord, kindOf}
+use Rattle.packet.specs.Header.{addressOf, routeOf, kinds, addresses, routes, partsFit, headerNumber, builtOf, shiftedWord}
 use Rattle.packet.specs.declared.Built.{Built}
 use Rattle.packet.specs.declared.Built.the-variants.{Made, Refused}
 
@@ -37,7 +39,7 @@ given-back kind address route f =
 
 -- a header that was built had parts that fit
 pub built-fits : (kind address route : ℕ) → headerNumber kind address route ≡ 0 → Fits kind address route
-unfolding headerNumber partsFit
+unfolding headerNumber unless partsFit
 built-fits kind address route e = go (partsFit kind address route) refl e
   where
     go : (b : Bool) → partsFit kind address route ≡ b → _≡_ {A = ℕ} (pick b 0 15) 0 → Fits kind address route
@@ -56,7 +58,7 @@ module _ (kind address route : ℕ) where
   Answer r = r ≡ builtOf (headerNumber kind address route) (headerWord kind address route)
 
   answer : (b : Bool) → partsFit kind address route ≡ b → Answer (builtOf (pick b 0 15) (headerWord kind address route))
-  unfolding headerNumber
+  unfolding headerNumber unless
   answer b e = ap (λ (t : Bool). builtOf (pick t 0 15) (headerWord kind address route)) (sym e)
 
   pub kind-wide : kinds ≤ kind → Answer (Refused 15)
@@ -74,3 +76,15 @@ module _ (kind address route : ℕ) where
   pub all-fit : Fits kind address route → Answer (Made (record { 0 = headerWord kind address route }))
   unfolding partsFit
   all-fit f = answer true (and-both (yes< (f .kind-fits)) (and-both (yes< (f .address-fits)) (yes< (f .route-fits))))
+
+-- the route of a header is shifted, its kind and its address stay
+pub shifted-kind : (word : ℕ) → kindOf (shiftedWord word) ≡ kindOf word
+shifted-kind word = omega arith
+
+pub shifted-address : (word : ℕ) → addressOf (shiftedWord word) ≡ addressOf word
+shifted-address word =
+    let q : shiftedWord word / 65536 ≡ kindOf word * 16384 + addressOf word = omega arith in
+    ap (λ (n : ℕ). n % 16384) q ∙ back (kindOf word) (addressOf word) (omega arith)
+  where
+    back : (kind address : ℕ) → address < 16384 → (kind * 16384 + address) % 16384 ≡ address
+    back kind address l = omega arith

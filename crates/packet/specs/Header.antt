@@ -2,7 +2,7 @@
 use Prim.Native.Nat.{ℕ, zero, suc, _+_, _*_, _/_, _%_, _^_}
 use mathlib.Core.Bool.{Bool, true, false}
 use Rattle.words.specs.Tests.{_and_, _<?_}
-use Rattle.words.specs.Words.{pick}
+use Rattle.words.specs.Numbers.{unless}
 use Rattle.packet.specs.declared.Header.{Header}
 use Rattle.packet.specs.declared.Built.{Built}
 use Rattle.packet.specs.declared.Built.the-variants.{Made, Refused}
@@ -71,7 +71,7 @@ partsFit kind address route = kind <? kinds and address <? addresses and route <
 
 -- building a header: 0, or 15 where a part is too wide for its field
 unfoldable pub headerNumber : ℕ → ℕ → ℕ → ℕ
-headerNumber kind address route = pick (partsFit kind address route) 0 15
+headerNumber kind address route = unless 15 (partsFit kind address route)
 
 -- the answer, from its number and the word
 abbrev pub builtOf : ℕ → ℕ → Built

@@ -12,8 +12,8 @@ use Rattle.words.proofs.TestLaws.{and-no, and-on, yes≤, no≤}
 use Rattle.sheet.specs.Sheet.{schedules, period}
 use Rattle.sheet.specs.Inner.Passed.{Framed}
 use Rattle.network.specs.Cycle.{nextNumber}
-use Rattle.network.specs.Registers.{reg, put, sheetIn, movingWords, clockRow, cyclePlace, numberPlace, inForcePlace, orderMarkPlace, orderSchedulePlace, orderPeriodPlace}
-use Rattle.network.specs.Inner.Machine.{turns, isDue, nextClock, nextRows, nextInRow}
+use Rattle.network.specs.Registers.{reg, put, sheetIn, movingWords, clockRow, cyclePlace, numberPlace, inForcePlace, orderMarkPlace, orderSchedulePlace, orderPeriodPlace, rowWords, clockWords}
+use Rattle.network.specs.Inner.Machine.{turns, isDue, nextClock, rowIn, nextRows, nextInRow}
 use Rattle.network.specs.Inner.Stages.{stage}
 use Rattle.network.proofs.FillLaws.{Staged, wrote-one, wrote-nothing, stage-start, stage-more, staged-is}
 use Rattle.receivers.specs.Inner.Required.{Clocked}
@@ -72,37 +72,38 @@ wanted s = nextInRow s []
 
 module _ (s : List ℕ) (long : movingWords ≤ length s) where
   -- one register more, set or left
-  put-more : (n w : ℕ) (now : List ℕ) → n < 80 → Staged 0 0 n (wanted s) s now → w ≡ wanted s 0 n
-      → Staged 0 0 (n + 1) (wanted s) s (put now 0 n w)
+  put-more : (n w : ℕ) (now : List ℕ) → n < rowWords → Staged clockRow clockRow n (wanted s) s now → w ≡ wanted s clockRow n
+      → Staged clockRow clockRow (n + 1) (wanted s) s (put now clockRow n w)
   put-more n w now l g e =
-      stage-more 0 0 n (wanted s) s now (put now 0 n w) (omega arith) l g
-      (wrote-one 0 n w (λ row. wanted s row n) now (omega arith) l (omega (arith, g .same-length)) e)
+      stage-more clockRow clockRow n (wanted s) s now (put now clockRow n w) (omega arith) l g
+      (wrote-one clockRow n w (λ row. wanted s row n) now (omega arith) l (omega (arith, g .same-length)) e)
 
-  leave-more : (n : ℕ) (now : List ℕ) → n < 80 → Staged 0 0 n (wanted s) s now → wanted s 0 n ≡ reg s 0 n
-      → Staged 0 0 (n + 1) (wanted s) s now
+  leave-more : (n : ℕ) (now : List ℕ) → n < rowWords → Staged clockRow clockRow n (wanted s) s now → wanted s clockRow n ≡ reg s clockRow n
+      → Staged clockRow clockRow (n + 1) (wanted s) s now
   leave-more n now l g e =
-      stage-more 0 0 n (wanted s) s now now (omega arith) l g
-      (wrote-nothing 0 0 n (λ row. wanted s row n) now
+      stage-more clockRow clockRow n (wanted s) s now now (omega arith) l g
+      (wrote-nothing clockRow clockRow n (λ row. wanted s row n) now
       (λ row a b.
-      let zero-row : row ≡ 0 = omega arith in
-      ap (λ (r : ℕ). wanted s r n) zero-row ∙ e
-      ∙ sym (g .kept 0 n (omega arith) l (λ x y z. omega arith))
-      ∙ ap (λ (r : ℕ). reg now r n) (sym zero-row)))
+      let only-row : row ≡ clockRow = omega arith in
+      ap (λ (r : ℕ). wanted s r n) only-row ∙ e
+      ∙ sym (g .kept clockRow n (omega arith) l (λ x y z. omega arith))
+      ∙ ap (λ (r : ℕ). reg now r n) (sym only-row)))
 
   pub clock-staged : (cycle number schedule mark : ℕ)
       → cycle ≡ pick (turns s) 0 (reg s clockRow cyclePlace + 1)
       → number ≡ pick (turns s) (nextNumber (reg s clockRow numberPlace)) (reg s clockRow numberPlace)
       → schedule ≡ pick (isDue s) (reg s clockRow orderSchedulePlace) (reg s clockRow inForcePlace)
       → mark ≡ pick (isDue s) 0 (reg s clockRow orderMarkPlace)
-      → clockPut s cycle number schedule mark ≡ stage 0 0 6 (wanted s) s
-  unfolding clockPut nextInRow nextRows nextClock _=?_
+      → clockPut s cycle number schedule mark ≡ stage clockRow clockRow clockWords (wanted s) s
+  unfolding clockPut nextInRow rowIn nextRows nextClock _=?_
   clock-staged cycle number schedule mark a b d e =
-      staged-is 0 0 6 (wanted s) s _ long
-      (leave-more 5 _ (omega arith)
-      (leave-more 4 _ (omega arith)
-      (put-more 3 mark _ (omega arith)
-      (put-more 2 schedule _ (omega arith)
-      (put-more 1 number _ (omega arith) (put-more 0 cycle s (omega arith) (stage-start 0 0 (wanted s) s) a) b) d) e)
+      staged-is clockRow clockRow clockWords (wanted s) s _ long
+      (leave-more orderPeriodPlace _ (omega arith)
+      (leave-more orderSchedulePlace _ (omega arith)
+      (put-more orderMarkPlace mark _ (omega arith)
+      (put-more inForcePlace schedule _ (omega arith)
+      (put-more numberPlace number _ (omega arith)
+      (put-more cyclePlace cycle s (omega arith) (stage-start clockRow clockRow (wanted s) s) a) b) d) e)
       refl)
       refl)
 
@@ -117,7 +118,7 @@ module _ (s : List ℕ) (g : Clocked s) (turning due : Bool) (t : turning ≡ tu
       → x ≡ pick due ordered schedule
       → y ≡ pick due 0 mark
       → after ≡ clockPut s a b x y
-      → after ≡ stage 0 0 6 (nextInRow s []) s
+      → after ≡ stage clockRow clockRow clockWords (nextInRow s []) s
   clock-done {a} {b} {x} {y} e f h i w =
       w
       ∙ clock-staged s (g .long) a b x y

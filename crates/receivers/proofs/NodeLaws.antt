@@ -9,8 +9,8 @@ use lib.ListN.{length}
 use Rattle.words.specs.Tests.{_≤?_, _=?_}
 use Rattle.words.specs.Words.{pick}
 use Rattle.packet.specs.Header.{kindOf, addressOf}
-use Rattle.network.specs.Registers.{reg, put, movingWords, receiveMark, receiveKind, receiveAddress, landingMark, landingKind, landingAddress, landingWord, outMark, outWord}
-use Rattle.network.specs.Inner.Machine.{memoryMark, memoryWord, nextReceiveMark, nextReceiveKind, nextReceiveAddress, nextLandingMark, nextRows, nextInRow}
+use Rattle.network.specs.Registers.{reg, put, movingWords, receiveMark, receiveKind, receiveAddress, landingMark, landingKind, landingAddress, landingWord, outMark, outWord, rowCount, rowWords}
+use Rattle.network.specs.Inner.Machine.{memoryMark, memoryWord, nextReceiveMark, nextReceiveKind, nextReceiveAddress, nextLandingMark, rowIn, nextRows, nextInRow}
 use Rattle.network.proofs.FillLaws.{Wrote, wrote-one, wrote-then}
 use Rattle.receivers.specs.Inner.Required.{LandingFits}
 use Rattle.receivers.specs.Inner.Written.{landingPut, receivePut}
@@ -53,7 +53,7 @@ module _ (s t : List ℕ) (node : ℕ) (e : SameAt s t node) where
   same-landing = ap (λ (m : ℕ). pick (2 ≤? m) 1 0) (e .mark)
 
 -- some rows at a place, then the rows before them
-pub wrote-before : (low middle high k : ℕ) (new : ℕ → ℕ) (s between after : List ℕ) → low ≤ middle → middle < high → high < 21 → k < 80
+pub wrote-before : (low middle high k : ℕ) (new : ℕ → ℕ) (s between after : List ℕ) → low ≤ middle → middle < high → high < rowCount → k < rowWords
     → Wrote (middle + 1) high k new s between → Wrote low middle k new between after → Wrote low high k new s after
 wrote-before low middle high k new s between after a b hl kl f g = record {
   same-length = g .same-length ∙ f .same-length;
@@ -68,7 +68,7 @@ wrote-before low middle high k new s between after a b hl kl f g = record {
     go row c d (no ne) = g .elsewhere row k (omega arith) kl (λ x y z. ne y) ∙ f .written row (omega (arith, ne)) d
 
 -- one row more at a place, behind those that are written
-pub wrote-more : (low middle k w : ℕ) (new : ℕ → ℕ) (s between : List ℕ) → low ≤ middle → middle < 20 → k < 80 → movingWords ≤ length s
+pub wrote-more : (low middle k w : ℕ) (new : ℕ → ℕ) (s between : List ℕ) → low ≤ middle → middle + 1 < rowCount → k < rowWords → movingWords ≤ length s
     → Wrote low middle k new s between → w ≡ new (middle + 1) → Wrote low (middle + 1) k new s (put between (middle + 1) k w)
 wrote-more low middle k w new s between a b kl long g e =
     wrote-then low middle (middle + 1) k new s between _ a (omega arith) (omega arith) kl g
@@ -81,9 +81,9 @@ wanted s node row = nextInRow s [] row node
 module _ (s t : List ℕ) (node : ℕ) (e : SameAt s t node) (inside : node < 16) (long : movingWords ≤ length t) where
   -- the landing's four registers
   landing-wrote : Wrote landingMark landingWord node (wanted s node) t (landingPut t node)
-  unfolding landingPut nextInRow nextRows
+  unfolding landingPut nextInRow rowIn nextRows _=?_
   landing-wrote =
-      let kl : node < 80 = omega arith in
+      let kl : node < rowWords = omega arith in
       wrote-more landingMark landingAddress node _ (wanted s node) t _ (omega arith) (omega arith) kl long
       (wrote-more landingMark landingKind node _ (wanted s node) t _ (omega arith) (omega arith) kl long
       (wrote-more landingMark landingMark node _ (wanted s node) t _ (omega arith) (omega arith) kl long
@@ -94,9 +94,9 @@ module _ (s t : List ℕ) (node : ℕ) (e : SameAt s t node) (inside : node < 16
 
   -- the receive unit's three
   receive-wrote : Wrote receiveMark receiveAddress node (wanted s node) t (receivePut t node)
-  unfolding receivePut nextInRow nextRows
+  unfolding receivePut nextInRow rowIn nextRows _=?_
   receive-wrote =
-      let kl : node < 80 = omega arith in
+      let kl : node < rowWords = omega arith in
       wrote-more receiveMark receiveKind node _ (wanted s node) t _ (omega arith) (omega arith) kl long
       (wrote-more receiveMark receiveMark node _ (wanted s node) t _ (omega arith) (omega arith) kl long
       (wrote-one receiveMark node _ (wanted s node) t (omega arith) kl long (same-mark s t node e))
@@ -116,10 +116,10 @@ module _ (s t : List ℕ) (node : ℕ) (e : SameAt s t node) (inside : node < 16
         receive-address = w .elsewhere receiveAddress node (omega arith) (omega arith) (λ a b c. omega arith) ∙ e .receive-address;
       }
 
-  pub node-wrote : Wrote 9 15 node (wanted s node) t (receivePut (landingPut t node) node)
+  pub node-wrote : Wrote receiveMark landingWord node (wanted s node) t (receivePut (landingPut t node) node)
   node-wrote =
       let w = landing-wrote s t node e inside long in
-      wrote-before 9 11 15 node (wanted s node) t (landingPut t node) (receivePut (landingPut t node) node) (omega arith) (omega arith)
+      wrote-before receiveMark receiveAddress landingWord node (wanted s node) t (landingPut t node) (receivePut (landingPut t node) node) (omega arith) (omega arith)
       (omega arith) (omega arith) w
       (receive-wrote s (landingPut t node) node landing-same inside (omega (arith, w .same-length)))
 

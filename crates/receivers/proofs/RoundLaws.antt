@@ -14,7 +14,7 @@ use Rattle.words.specs.Words.{word, pick, tab}
 use Rattle.words.proofs.TestLaws.{and-no, and-both, and-no-right, yes≤, yes=, no=, or-skip, is≤}
 use Rattle.words.proofs.WordLaws.{tab-is}
 use Rattle.sheet.specs.Sheet.{nodes}
-use Rattle.network.specs.Registers.{reg, sheetIn, room, movingWords, outMark, outWord, receiveMark, receiveKind, receiveAddress}
+use Rattle.network.specs.Registers.{reg, sheetIn, room, movingWords, outMark, outWord, receiveMark, receiveKind, receiveAddress, landingWord}
 use Rattle.network.specs.Inner.Machine.{memoryMark, memoryWord, memoryAfter, nextInRow, nextMemory, straysIn}
 use Rattle.network.specs.Inner.Stages.{stage}
 use Rattle.network.proofs.FillLaws.{Staged, stage-start, stage-more, still, beside, staged-is}
@@ -55,7 +55,7 @@ module _ (s : List ℕ) (node address w : ℕ) where
 
 -- before node n: the rows as the stage wants them, the nodes' memories as they are after the cycle
 pub record Receiving (s m : List ℕ) (size n : ℕ) (now memory : List ℕ) : Type 0 where
-  pub staged : Staged 9 15 n (nextInRow s []) s now
+  pub staged : Staged receiveMark landingWord n (nextInRow s []) s now
   pub same-length : length memory ≡ length m
   pub stored : (node address : ℕ) → node < n → address < size
       → word memory (node * size + address) ≡ memoryAfter s node address (word m (node * size + address))
@@ -64,7 +64,7 @@ pub record Receiving (s m : List ℕ) (size n : ℕ) (now memory : List ℕ) : T
 pub receiving-start : (s m : List ℕ) (size : ℕ) → Receiving s m size 0 s m
 receiving-start s m size =
     record {
-      staged = stage-start 9 15 (nextInRow s []) s;
+      staged = stage-start receiveMark landingWord (nextInRow s []) s;
       same-length = refl;
       stored = λ node address l h. absurd (omega arith);
       kept = λ k l. refl;
@@ -81,11 +81,11 @@ module _ (s m : List ℕ) (count size : ℕ) (g : Receivable s m count size) whe
         let f = few in
         let d = p .staged in
         record {
-          mark = beside 9 15 n _ s now d outMark _ (omega arith) (omega arith) (λ a b. omega arith);
-          payload = beside 9 15 n _ s now d outWord _ (omega arith) (omega arith) (λ a b. omega arith);
-          receive-mark = still 9 15 n _ s now d receiveMark n (omega arith) (omega arith) (omega arith);
-          receive-kind = still 9 15 n _ s now d receiveKind n (omega arith) (omega arith) (omega arith);
-          receive-address = still 9 15 n _ s now d receiveAddress n (omega arith) (omega arith) (omega arith);
+          mark = beside receiveMark landingWord n _ s now d outMark _ (omega arith) (omega arith) (λ a b. omega arith);
+          payload = beside receiveMark landingWord n _ s now d outWord _ (omega arith) (omega arith) (λ a b. omega arith);
+          receive-mark = still receiveMark landingWord n _ s now d receiveMark n (omega arith) (omega arith) (omega arith);
+          receive-kind = still receiveMark landingWord n _ s now d receiveKind n (omega arith) (omega arith) (omega arith);
+          receive-address = still receiveMark landingWord n _ s now d receiveAddress n (omega arith) (omega arith) (omega arith);
         }
 
     long-now : movingWords ≤ length now
@@ -108,11 +108,11 @@ module _ (s m : List ℕ) (count size : ℕ) (g : Receivable s m count size) whe
         }
 
     -- the rows
-    rows-more : (next : List ℕ) → next ≡ receivePut (landingPut now n) n → Staged 9 15 (n + 1) (nextInRow s []) s next
+    rows-more : (next : List ℕ) → next ≡ receivePut (landingPut now n) n → Staged receiveMark landingWord (n + 1) (nextInRow s []) s next
     rows-more next e =
         let f = few in
-        subst (Staged 9 15 (n + 1) (nextInRow s []) s) (sym e)
-        (stage-more 9 15 n (nextInRow s []) s now (receivePut (landingPut now n) n) (omega arith) (omega arith) (p .staged)
+        subst (Staged receiveMark landingWord (n + 1) (nextInRow s []) s) (sym e)
+        (stage-more receiveMark landingWord n (nextInRow s []) s now (receivePut (landingPut now n) n) (omega arith) (omega arith) (p .staged)
         (node-wrote s now n same-now few long-now))
 
     -- what the memories are to be, node by node: so far, and with node n
@@ -218,10 +218,10 @@ module _ (s m : List ℕ) (count size : ℕ) (g : Receivable s m count size) whe
     all-done : n ≡ count
     all-done = omega arith
 
-    pub rows-done : now ≡ stage 9 15 (nodes (sheetIn s)) (nextInRow s []) s
+    pub rows-done : now ≡ stage receiveMark landingWord (nodes (sheetIn s)) (nextInRow s []) s
     rows-done =
-        staged-is 9 15 n (nextInRow s []) s now (g .long) (p .staged)
-        ∙ ap (λ (k : ℕ). stage 9 15 k (nextInRow s []) s) (all-done ∙ g .counted .all-nodes)
+        staged-is receiveMark landingWord n (nextInRow s []) s now (g .long) (p .staged)
+        ∙ ap (λ (k : ℕ). stage receiveMark landingWord k (nextInRow s []) s) (all-done ∙ g .counted .all-nodes)
 
     word-done : (k : ℕ) → k < length m → word memory k ≡ memoryAfter s (k / size) (k % size) (word m k)
     word-done k l =

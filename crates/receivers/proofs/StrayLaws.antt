@@ -5,10 +5,9 @@ use mathlib.Core.Bool.{Bool, true, false, false≢true}
 use mathlib.Core.List.{List}
 use mathlib.Core.Path.{_≡_, refl, sym, _∙_, ap, ap₂}
 use native.Mathlib.Omega.{arith}
-use native.Mathlib.Numerals.{add-one}
 use Rattle.words.specs.Tests.{any, _≤?_}
 use Rattle.words.proofs.TestLaws.{and-no, and-on, or-yes, or-on, yes≤, no≤, yes=, no=}
-use Rattle.words.proofs.AllLaws.{any-at}
+use Rattle.words.proofs.AllLaws.{any-at, any-start, any-still-none}
 use Rattle.sheet.specs.Sheet.{nodes}
 use Rattle.network.specs.Registers.{reg, sheetIn, room, receiveMark, receiveAddress}
 use Rattle.network.specs.Inner.Machine.{memoryMark, straysIn}
@@ -37,30 +36,28 @@ module _ (s : List ℕ) (node mark : ℕ) (e : mark ≡ memoryMark s node) where
     stray-past unit address size p ne a r = and-on payload (or-on (no= (λ z. ne (p ∙ z))) (ap₂ _≤?_ r a))
 
 -- the search: no node before this one has a stray word
-pub record Passing (s : List ℕ) (count node : ℕ) : Type 0 where
+pub record StrayFree (s : List ℕ) (count node : ℕ) : Type 0 where
   pub inside : node ≤ count
   pub few : count ≤ 16
   pub clean : any node (straysIn s) ≡ false
 
 module _ (s : List ℕ) (count size : ℕ) (g : Counted s count size) where
-  pub pass-start : Passing s count 0
-  unfolding any
-  pass-start = record { inside = omega arith; few = g .few-nodes; clean = refl }
+  pub pass-start : StrayFree s count 0
+  pass-start = record { inside = omega arith; few = g .few-nodes; clean = any-start (straysIn s) }
 
-  module _ (node : ℕ) (p : Passing s count node) (l : node < count) (stray : Bool) (e : stray ≡ straysIn s node) where
-    pub pass-more : stray ≡ false → Passing s count (node + 1)
-    unfolding any
+  module _ (node : ℕ) (p : StrayFree s count node) (l : node < count) (stray : Bool) (e : stray ≡ straysIn s node) where
+    pub pass-more : stray ≡ false → StrayFree s count (node + 1)
     pass-more f =
         record {
           inside = omega arith;
           few = p .few;
-          clean = rw add-one (sym (or-on (p .clean) (sym (sym e ∙ f))));
+          clean = any-still-none (straysIn s) node (p .clean) (sym e ∙ f);
         }
 
     pub pass-found : stray ≡ true → true ≡ any (nodes (sheetIn s)) (straysIn s)
     pass-found t = sym (any-at (nodes (sheetIn s)) (straysIn s) node (omega (arith, g .all-nodes)) (sym e ∙ t))
 
-  pub pass-over : (node : ℕ) → Passing s count node → count ≤ node → false ≡ any (nodes (sheetIn s)) (straysIn s)
+  pub pass-over : (node : ℕ) → StrayFree s count node → count ≤ node → false ≡ any (nodes (sheetIn s)) (straysIn s)
   pass-over node p l =
       let same : node ≡ nodes (sheetIn s) = omega (arith, p .inside, g .all-nodes) in
       sym (p .clean) ∙ ap (λ (n : ℕ). any n (straysIn s)) same

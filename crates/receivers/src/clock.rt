@@ -4,7 +4,7 @@ ghost use mathlib.Core.List.{[]};
 ghost use Rattle.words.specs.Words.{pick};
 ghost use Rattle.sheet.specs.Sheet.{period};
 ghost use Rattle.network.specs.Cycle.{nextNumber};
-ghost use Rattle.network.specs.Registers.{reg as regOf, sheetIn, clockRow, numberPlace, inForcePlace};
+ghost use Rattle.network.specs.Registers.{reg as regOf, sheetIn, clockRow, numberPlace, inForcePlace, clockWords};
 ghost use Rattle.network.specs.Inner.Machine.{turns, isDue, nextInRow};
 ghost use Rattle.network.specs.Inner.Stages.{stage};
 ghost use Rattle.receivers.specs.Inner.Required.{Clocked};
@@ -66,7 +66,7 @@ fn put_clock(s: &mut [u32], cycle: u32, number: u32, schedule: u32, mark: u32)
 // order for the new period puts its schedule in force. The cycle calls it on a sound state.
 pub fn step_clock(s: &mut [u32])
     requires { ⌜ Clocked (now s) ⌝ }
-    ensures { λ _. ⌜ now (s .exit) ≡ stage 0 0 6 (nextInRow (now (s .entry)) []) (now (s .entry)) ⌝ }
+    ensures { λ _. ⌜ now (s .exit) ≡ stage clockRow clockRow clockWords (nextInRow (now (s .entry)) []) (now (s .entry)) ⌝ }
 {
     let period = period_now(s);
     let cycle = reg(s, CLOCK_ROW, CYCLE_PLACE) + 1;

@@ -4,7 +4,7 @@ ghost use mathlib.Core.List.{[]};
 ghost use Prim.Native.Nat.{ℕ, _+_, _*_, _<_, _≤_};
 ghost use Rattle.words.specs.Tests.{any};
 ghost use Rattle.sheet.specs.Sheet.{nodes as nodesOf};
-ghost use Rattle.network.specs.Registers.{reg as regOf, sheetIn, room as roomOf};
+ghost use Rattle.network.specs.Registers.{reg as regOf, sheetIn, room as roomOf, receiveMark, landingWord};
 ghost use Rattle.network.specs.Inner.Machine.{memoryMark, memoryWord, straysIn, nextReceiveMark, nextReceiveKind, nextReceiveAddress, nextLandingMark, nextInRow, nextMemory};
 ghost use Rattle.network.specs.Inner.Stages.{stage};
 ghost use Rattle.receivers.specs.Inner.Required.{Counted, Receivable, LandingFits};
@@ -180,7 +180,7 @@ fn step_receiver(s: &mut [u32], m: &mut [u32], node: u32, room: u32)
 // The nodes' rows and the memories after a cycle, in place. The cycle calls it once number 20 is excluded.
 pub fn step_receivers(s: &mut [u32], m: &mut [u32], nodes: u32, room: u32)
     requires { ⌜ Receivable (now s) (now m) nodes room ⌝ }
-    ensures state { λ _. ⌜ now (s .exit) ≡ stage 9 15 (nodesOf (sheetIn (now (s .entry)))) (nextInRow (now (s .entry)) []) (now (s .entry)) ⌝ }
+    ensures state { λ _. ⌜ now (s .exit) ≡ stage receiveMark landingWord (nodesOf (sheetIn (now (s .entry)))) (nextInRow (now (s .entry)) []) (now (s .entry)) ⌝ }
     ensures memory { λ _. ⌜ now (m .exit) ≡ nextMemory (now (s .entry)) (now (m .entry)) ⌝ }
 {
     let mut node: u32 = 0;

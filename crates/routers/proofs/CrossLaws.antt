@@ -11,16 +11,16 @@ use native.Mathlib.Decide.{ℕ-discrete}
 use lib.ListN.{length}
 use Rattle.words.specs.Tests.{any, _and_, _or_, _≤?_, _<?_, _=?_}
 use Rattle.words.specs.Words.{word, pick, tab, countOf}
-use Rattle.words.proofs.AllLaws.{any-none, any-same}
-use Rattle.words.proofs.TestLaws.{and-no-right, or-on, is=, no=, yes=, yes≤, no≤}
+use Rattle.words.proofs.AllLaws.{any-none, any-same, any-more, any-or, any-by-row}
+use Rattle.words.proofs.TestLaws.{and-no-right, or-on, or-false, or-pairs, is=, no=, yes=, yes≤, no≤}
 use Rattle.words.proofs.WordLaws.{countOf-more, length-tab, tab-at, tab-is}
 use Rattle.sheet.specs.Sheet.{nodes}
-use Rattle.network.specs.Registers.{reg, sheetIn, headMark, headWord, choiceRow, at}
+use Rattle.network.specs.Registers.{reg, sheetIn, headMark, headWord, choiceRow, at, rowWords}
 use Rattle.network.specs.Inner.Machine.{firstMark, firstWord, askedMark, nextOutMark, nextOutWord, collidesIn, unchosenIn}
 use Rattle.network.proofs.FirstLaws.{word-empty}
 use Rattle.routers.specs.Inner.Crossing.{asking, unchosenAt, Crossed}
 use Rattle.routers.proofs.OrderLaws.{passed, passed-some, passed-own, passed-other, passed-start, passed-end, passed-over}
-use Rattle.routers.proofs.PlaceLaws.{any-by-node, or-swap, any-or, same-pick, zero-pick, some-sum, two-more, or-no, and-yes}
+use Rattle.routers.proofs.PlaceLaws.{same-pick, zero-pick, some-sum, two-more, and-yes}
 
 -- what the inputs of the node at a place ask of it, and the words that they have
 abbrev asked : List ℕ → ℕ → ℕ → ℕ
@@ -151,38 +151,33 @@ meets-step c mark a e = go (1 ≤? a)
   where
     go : (b : Bool) → (2 ≤? c) or (1 ≤? mark and b) ≡ (2 ≤? pick b (c + 1) c)
     go true = ap (λ t. (2 ≤? c) or t) (and-yes (1 ≤? mark) ∙ sym e) ∙ sym (two-more c)
-    go false = ap (λ t. (2 ≤? c) or t) (and-no-right (1 ≤? mark) false refl) ∙ sym (or-no (2 ≤? c))
-
--- one number more
-any-next : (p : ℕ → Bool) (k : ℕ) → any k p or p k ≡ any (k + 1) p
-unfolding any
-any-next p k = rw add-one refl
+    go false = ap (λ t. (2 ≤? c) or t) (and-no-right (1 ≤? mark) false refl) ∙ sym (or-false (2 ≤? c))
 
 -- the first k inputs of n nodes are crossed
 pub record Crossing (s : List ℕ) (n k : ℕ) (marks cells : List ℕ) (faults : ℕ) : Type 0 where
   pub inside : k ≤ n * 5
   pub few : faults ≤ k
-  pub marks-length : length marks ≡ 80
-  pub cells-length : length cells ≡ 80
-  pub marks-at : (p : ℕ) → p < 80 → word marks p ≡ firstMark (passed p k) (askedMark s (p / 5) (p % 5))
-  pub cells-at : (p : ℕ) → p < 80
+  pub marks-length : length marks ≡ rowWords
+  pub cells-length : length cells ≡ rowWords
+  pub marks-at : (p : ℕ) → p < rowWords → word marks p ≡ firstMark (passed p k) (askedMark s (p / 5) (p % 5))
+  pub cells-at : (p : ℕ) → p < rowWords
       → word cells p ≡ firstWord (passed p k) (askedMark s (p / 5) (p % 5)) (λ input. reg s headWord (at (p / 5) input))
   pub met : (1 ≤? faults)
       ≡ any (n * 5) (λ p. 2 ≤? countOf (passed p k) (λ i. 1 ≤? askedMark s (p / 5) (p % 5) i)) or any k (unchosenAt s)
 
 -- no input yet
-pub crossing-start : (s : List ℕ) (n : ℕ) (marks cells : List ℕ) → marks ≡ tab 80 (λ k. 0) → cells ≡ tab 80 (λ k. 0)
+pub crossing-start : (s : List ℕ) (n : ℕ) (marks cells : List ℕ) → marks ≡ tab rowWords (λ k. 0) → cells ≡ tab rowWords (λ k. 0)
     → Crossing s n 0 marks cells 0
 unfolding firstMark firstWord countOf any
 crossing-start s n marks cells m w = record {
   inside = omega arith;
   few = omega arith;
-  marks-length = ap length m ∙ length-tab 80 _;
-  cells-length = ap length w ∙ length-tab 80 _;
+  marks-length = ap length m ∙ length-tab rowWords _;
+  cells-length = ap length w ∙ length-tab rowWords _;
   marks-at = λ p l.
-      ap (λ t. word t p) m ∙ tab-at 80 (λ k. 0) p l ∙ sym (ap (λ i. firstMark i (asked s p)) (passed-start p));
+      ap (λ t. word t p) m ∙ tab-at rowWords (λ k. 0) p l ∙ sym (ap (λ i. firstMark i (asked s p)) (passed-start p));
   cells-at = λ p l.
-      ap (λ t. word t p) w ∙ tab-at 80 (λ k. 0) p l ∙ sym (ap (λ i. firstWord i (asked s p) (words s p)) (passed-start p));
+      ap (λ t. word t p) w ∙ tab-at rowWords (λ k. 0) p l ∙ sym (ap (λ i. firstWord i (asked s p) (words s p)) (passed-start p));
   met =
       no≤ none
       ∙ or-on (any-none (n * 5) _ (λ p l. ap (λ i. 2 ≤? countOf i (λ i. 1 ≤? asked s p i)) (passed-start p) ∙ no≤ less)) refl;
@@ -209,11 +204,11 @@ crossing-more s n k marks cells marks′ cells′ faults fault small l g x = rec
       ∙ ap₂ (λ (m w : ℕ). pick (m =? 0) (pick (asking s k p =? 0) w (reg s headWord k)) w) (g .marks-at p pl) (g .cells-at p pl)
       ∙ sym (word-step s p k);
   met =
-      some-sum faults fault ∙ ap₂ _or_ (g .met) (x .found n l small) ∙ or-swap _ (any k (unchosenAt s)) _ (unchosenAt s k)
-      ∙ ap₂ _or_ (any-or (n * 5) _ _ ∙ any-same (n * 5) _ _ (λ p pl. at-place p (omega arith))) (any-next (unchosenAt s) k);
+      some-sum faults fault ∙ ap₂ _or_ (g .met) (x .found n l small) ∙ or-pairs _ (any k (unchosenAt s)) _ (unchosenAt s k)
+      ∙ ap₂ _or_ (any-or (n * 5) _ _ ∙ any-same (n * 5) _ _ (λ p pl. at-place p (omega arith))) (sym (any-more (unchosenAt s) k));
 }
   where
-    at-place : (p : ℕ) → p < 80
+    at-place : (p : ℕ) → p < rowWords
         → (2 ≤? countOf (passed p k) (λ i. 1 ≤? asked s p i)) or (1 ≤? word marks p and 1 ≤? asking s k p)
         ≡ (2 ≤? countOf (passed p (k + 1)) (λ i. 1 ≤? asked s p i))
     at-place p pl =
@@ -227,18 +222,18 @@ module _ (s : List ℕ) (n k : ℕ) (marks cells : List ℕ) (faults : ℕ) (own
   whole : k ≡ n * 5
   whole = omega arith
 
-  pub crossed-marks : marks ≡ tab 80 (λ p. pick (p <? nodes (sheetIn s) * 5) (nextOutMark s (p / 5) (p % 5)) 0)
+  pub crossed-marks : marks ≡ tab rowWords (λ p. pick (p <? nodes (sheetIn s) * 5) (nextOutMark s (p / 5) (p % 5)) 0)
   unfolding nextOutMark firstMark
   crossed-marks =
-      tab-is marks 80 _ (g .marks-length)
+      tab-is marks rowWords _ (g .marks-length)
       (λ p l.
       let fold : ℕ → ℕ = λ i. firstMark i (asked s p) in
       g .marks-at p l ∙ ap (λ i. fold (passed p i)) whole ∙ passed-over fold p n (nodes (sheetIn s)) own refl)
 
-  pub crossed-cells : cells ≡ tab 80 (λ p. pick (p <? nodes (sheetIn s) * 5) (nextOutWord s (p / 5) (p % 5)) 0)
+  pub crossed-cells : cells ≡ tab rowWords (λ p. pick (p <? nodes (sheetIn s) * 5) (nextOutWord s (p / 5) (p % 5)) 0)
   unfolding nextOutWord firstWord
   crossed-cells =
-      tab-is cells 80 _ (g .cells-length)
+      tab-is cells rowWords _ (g .cells-length)
       (λ p l.
       let fold : ℕ → ℕ = λ i. firstWord i (asked s p) (words s p) in
       g .cells-at p l ∙ ap (λ i. fold (passed p i)) whole ∙ passed-over fold p n (nodes (sheetIn s)) own refl)
@@ -248,8 +243,8 @@ module _ (s : List ℕ) (n k : ℕ) (marks cells : List ℕ) (faults : ℕ) (own
   unfolding collidesIn unchosenIn unchosenAt
   crossed-met =
       g .met
-      ∙ ap₂ _or_ (any-by-node _ n ∙ any-same n _ _ (λ node nl. any-same 5 _ _ (λ o ol. at-place node o nl ol)))
-      (ap (λ m. any m (unchosenAt s)) whole ∙ any-by-node (unchosenAt s) n)
+      ∙ ap₂ _or_ (any-by-row _ n 5 ∙ any-same n _ _ (λ node nl. any-same 5 _ _ (λ o ol. at-place node o nl ol)))
+      (ap (λ m. any m (unchosenAt s)) whole ∙ any-by-row (unchosenAt s) n 5)
       ∙ ap (λ m. any m (λ node. any 5 (collidesIn s node)) or any m (λ node. any 5 (unchosenIn s node))) own
     where
       at-place : (node o : ℕ) → node < n → o < 5
@@ -262,5 +257,5 @@ module _ (s : List ℕ) (n k : ℕ) (marks cells : List ℕ) (faults : ℕ) (own
           ∙ ap₂ (λ (a b : ℕ). 2 ≤? countOf 5 (λ i. 1 ≤? askedMark s a b i)) of-node output
 
 -- the tables are as long as they were
-pub same-long : (n : ℕ) (entry : List ℕ) → n ≡ 80 → entry ≡ tab 80 (λ k. 0) → n ≡ length entry
-same-long n entry a b = a ∙ sym (ap length b ∙ length-tab 80 _)
+pub same-long : (n : ℕ) (entry : List ℕ) → n ≡ rowWords → entry ≡ tab rowWords (λ k. 0) → n ≡ length entry
+same-long n entry a b = a ∙ sym (ap length b ∙ length-tab rowWords _)

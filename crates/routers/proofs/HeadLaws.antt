@@ -6,10 +6,11 @@ use mathlib.Core.Path.{_≡_, refl, sym, subst, _∙_, ap, ap₂}
 use native.Mathlib.Omega.{arith}
 use lib.ListN.{length}
 use lib.Seq.{set-getD}
+use Rattle.words.specs.Tests.{_=?_}
 use Rattle.words.proofs.TestLaws.{yes=, no=, no≤}
 use Rattle.network.specs.Cycle.{outputFor}
-use Rattle.network.specs.Registers.{reg, put, movingWords, linkMark, linkWord, headMark, headWord, choiceRow, latchRow}
-use Rattle.network.specs.Inner.Machine.{nextHeadWord, nextChoice, nextLatch, nextRows, nextInRow}
+use Rattle.network.specs.Registers.{reg, put, movingWords, linkMark, linkWord, headMark, headWord, choiceRow, latchRow, rowWords}
+use Rattle.network.specs.Inner.Machine.{nextHeadWord, nextChoice, nextLatch, rowIn, nextRows, nextInRow}
 use Rattle.network.proofs.PutLaws.{put-other, put-length}
 use Rattle.network.proofs.FillLaws.{Wrote, wrote-one, wrote-then, Staged, stage-more, still, beside}
 use Rattle.routers.specs.Inner.Stepping.{headed}
@@ -62,7 +63,7 @@ module _ (mark : ℕ) (z : mark ≡ 0) where
 
 put-own : (s : List ℕ) (row k w : ℕ) → w ≡ reg s row k → s ≡ put s row k w
 unfolding reg
-put-own s row k w e = sym (ap (put s row k) e ∙ set-getD s (row * 80 + k) 0)
+put-own s row k w e = sym (ap (put s row k) e ∙ set-getD s (row * rowWords + k) 0)
 
 pub head-empty : (s : List ℕ) (k mark w : ℕ) → mark ≡ reg s linkMark k → mark ≡ 0 → w ≡ reg s linkWord k
     → (s₁ s₂ s₃ : List ℕ) → s₁ ≡ put s headMark k 0 → s₂ ≡ put s₁ headWord k w → s₃ ≡ put s₂ choiceRow k 0 → s₃ ≡ headed s k
@@ -78,18 +79,18 @@ head-empty s k mark w a z b s₁ s₂ s₃ p q r =
     s₁ s₂ s₃ s₃ p q r (put-own s₃ latchRow k (reg s latchRow k) latch)
 
 -- one input more
-module _ (s now : List ℕ) (k : ℕ) (kl : k < 80) (long : movingWords ≤ length s) (g : Staged 3 6 k (nextInRow s []) s now) where
+module _ (s now : List ℕ) (k : ℕ) (kl : k < rowWords) (long : movingWords ≤ length s) (g : Staged headMark latchRow k (nextInRow s []) s now) where
   mark : reg now linkMark k ≡ reg s linkMark k
-  mark = beside 3 6 k (nextInRow s []) s now g linkMark k (omega arith) kl (λ a b. omega arith)
+  mark = beside headMark latchRow k (nextInRow s []) s now g linkMark k (omega arith) kl (λ a b. omega arith)
 
   cell : reg now linkWord k ≡ reg s linkWord k
-  cell = beside 3 6 k (nextInRow s []) s now g linkWord k (omega arith) kl (λ a b. omega arith)
+  cell = beside headMark latchRow k (nextInRow s []) s now g linkWord k (omega arith) kl (λ a b. omega arith)
 
   latch : reg now latchRow k ≡ reg s latchRow k
-  latch = still 3 6 k (nextInRow s []) s now g latchRow k (omega arith) kl (omega arith)
+  latch = still headMark latchRow k (nextInRow s []) s now g latchRow k (omega arith) kl (omega arith)
 
-  head-wrote : Wrote 3 6 k (λ row. nextInRow s [] row k) now (headed now k)
-  unfolding headed nextInRow nextRows
+  head-wrote : Wrote headMark latchRow k (λ row. nextInRow s [] row k) now (headed now k)
+  unfolding headed nextInRow rowIn nextRows _=?_
   head-wrote =
       let long₀ : movingWords ≤ length now = omega (arith, g .same-length) in
       let s₁ : List ℕ = put now headMark k (reg now linkMark k) in
@@ -106,11 +107,11 @@ module _ (s now : List ℕ) (k : ℕ) (kl : k < 80) (long : movingWords ≤ leng
       let second = wrote-one headWord k word₂ new s₁ (omega arith) kl long₁ (ap₂ nextHeadWord mark cell) in
       let third = wrote-one choiceRow k word₃ new s₂ (omega arith) kl long₂ (λ i. nextChoice (k % 5) (latch i) (mark i) (cell i)) in
       let fourth = wrote-one latchRow k word₄ new s₃ (omega arith) kl long₃ (λ i. nextLatch (k % 5) (latch i) (mark i) (cell i)) in
-      wrote-then 3 5 6 k new now s₃ (put s₃ latchRow k word₄) (omega arith) (omega arith) (omega arith) kl
-      (wrote-then 3 4 5 k new now s₂ s₃ (omega arith) (omega arith) (omega arith) kl
-      (wrote-then 3 3 4 k new now s₁ s₂ (omega arith) (omega arith) (omega arith) kl first second) third) fourth
+      wrote-then headMark choiceRow latchRow k new now s₃ (put s₃ latchRow k word₄) (omega arith) (omega arith) (omega arith) kl
+      (wrote-then headMark headWord choiceRow k new now s₂ s₃ (omega arith) (omega arith) (omega arith) kl
+      (wrote-then headMark headMark headWord k new now s₁ s₂ (omega arith) (omega arith) (omega arith) kl first second) third) fourth
 
-  pub heads-more : (next : List ℕ) → next ≡ headed now k → Staged 3 6 (k + 1) (nextInRow s []) s next
+  pub heads-more : (next : List ℕ) → next ≡ headed now k → Staged headMark latchRow (k + 1) (nextInRow s []) s next
   heads-more next e =
-      stage-more 3 6 k (nextInRow s []) s now next (omega arith) kl g
-      (subst (Wrote 3 6 k (λ row. nextInRow s [] row k) now) (sym e) head-wrote)
+      stage-more headMark latchRow k (nextInRow s []) s now next (omega arith) kl g
+      (subst (Wrote headMark latchRow k (λ row. nextInRow s [] row k) now) (sym e) head-wrote)

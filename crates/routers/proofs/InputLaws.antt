@@ -12,7 +12,7 @@ use Rattle.words.specs.Tests.{any, _and_, _or_, _≤?_, _=?_}
 use Rattle.words.specs.Words.{word, pick}
 use Rattle.words.proofs.AllLaws.{any-at, any-none}
 use Rattle.words.proofs.TestLaws.{and-no, and-both, and-no-right, or-yes, or-on, is=, yes=, no=, yes≤, no≤}
-use Rattle.network.specs.Registers.{reg, headMark, headWord, choiceRow}
+use Rattle.network.specs.Registers.{reg, headMark, headWord, choiceRow, rowWords}
 use Rattle.routers.specs.Inner.Crossing.{asking, unchosenAt, Crossed}
 use Rattle.routers.proofs.PlaceLaws.{same-pick, zero-pick}
 
@@ -101,7 +101,7 @@ module _ (s : List ℕ) (k : ℕ) where
           go true q false r = refl
           go false q b r = refl
 
-module _ (s : List ℕ) (k : ℕ) (marks cells : List ℕ) (ml : length marks ≡ 80) (cl : length cells ≡ 80) where
+module _ (s : List ℕ) (k : ℕ) (marks cells : List ℕ) (ml : length marks ≡ rowWords) (cl : length cells ≡ rowWords) where
   -- nothing is asked
   crossed-idle : (fault : ℕ) → fault < 2 → (1 ≤? fault) ≡ unchosenAt s k → ((p : ℕ) → asking s k p ≡ 0)
       → Crossed s k marks cells marks cells fault
@@ -131,7 +131,7 @@ module _ (s : List ℕ) (k : ℕ) (marks cells : List ℕ) (ml : length marks �
 
   -- an output is asked for, whose place is p
   module _ (mark : ℕ) (me : mark ≡ reg s headMark k) (some : mark ≡ 0 → ⊥) (choice : ℕ) (ce : choice ≡ reg s choiceRow k)
-      (low : 1 ≤ choice) (high : choice ≤ 5) (small : k < 80) (place : ℕ) (pe : place ≡ k / 5 * 5 + choice - 1) where
+      (low : 1 ≤ choice) (high : choice ≤ 5) (small : k < rowWords) (place : ℕ) (pe : place ≡ k / 5 * 5 + choice - 1) where
     own : asking s k place ≡ mark
     own = ap (asking s k) pe ∙ asks-own s k choice ce low high ∙ sym me
 
@@ -187,7 +187,7 @@ module _ (s : List ℕ) (k : ℕ) (marks cells : List ℕ) (ml : length marks �
         asked : (p : ℕ) → p ≡ place → asking s k p ≡ mark
         asked p q = ap (asking s k) q ∙ own
 
-        inside : place < 80
+        inside : place < rowWords
         inside = omega arith
 
         mark-at : (p : ℕ) → Dec (p ≡ place) → word (set marks place mark) p ≡ pick (word marks p =? 0) (asking s k p) (word marks p)

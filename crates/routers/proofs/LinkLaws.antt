@@ -5,16 +5,17 @@ use mathlib.Core.Bool.{Bool, true, false}
 use mathlib.Core.List.{List}
 use mathlib.Core.Path.{_≡_, refl, sym, subst, _∙_, ap, ap₂}
 use native.Mathlib.Omega.{arith}
-use native.Mathlib.Nat.{mul-le-mul}
 use lib.ListN.{length}
 use Rattle.words.specs.Tests.{_=?_}
 use Rattle.words.specs.Words.{word, pick}
 use Rattle.words.proofs.TestLaws.{yes=, no=}
-use Rattle.torus.specs.Torus.{InGrid, neighbourOf}
+use Rattle.torus.specs.Torus.{neighbourOf}
+use Rattle.torus.specs.Inner.Grid.{InGrid}
 use Rattle.torus.proofs.NeighbourLaws.{bounds, neighbour-inside}
 use Rattle.sheet.specs.Sheet.{columns, rows, nodes}
 use Rattle.sheet.specs.Inner.Passed.{Headed}
-use Rattle.network.specs.Registers.{reg, put, sheetIn, movingWords, linkMark, linkWord, outMark, outWord, at}
+use Rattle.network.specs.Registers.{reg, put, sheetIn, movingWords, linkMark, linkWord, outMark, outWord, at, rowWords}
+use Rattle.sheet.proofs.PassedLaws.{nodes-few}
 use Rattle.network.specs.View.{sourceInput}
 use Rattle.network.specs.Inner.Machine.{neighbourPlace}
 use Rattle.network.specs.Inner.Stages.{stage, linkFrom}
@@ -29,7 +30,7 @@ link-is s s₁ s₂ k mark w p q = q ∙ ap (λ x. put x linkWord k w) p
 
 -- a place by a side, and that it lies in the rows
 module _ (cols count node side : ℕ) (g : InGrid cols count node) where
-  pub place-small : placeBy cols count node side < 80
+  pub place-small : placeBy cols count node side < rowWords
   place-small =
       let b = bounds g in
       omega (arith, neighbour-inside g side)
@@ -91,30 +92,30 @@ module _ (marks cells s : List ℕ) (n node : ℕ) where
     source-word = ap (word cells) own-node ∙ by-tests linkWord true false is-source later
 
 -- one register more, from what stands in it
-module _ (marks cells s now next : List ℕ) (n n′ : ℕ) (small : n < 80) (more : n′ ≡ n + 1) (long : movingWords ≤ length s)
-    (g : Staged 1 2 n (linkFrom marks cells s) s now) where
+module _ (marks cells s now next : List ℕ) (n n′ : ℕ) (small : n < rowWords) (more : n′ ≡ n + 1) (long : movingWords ≤ length s)
+    (g : Staged linkMark linkWord n (linkFrom marks cells s) s now) where
   link-more : (mark w : ℕ) → mark ≡ linkFrom marks cells s linkMark n → w ≡ linkFrom marks cells s linkWord n
-      → next ≡ linked now n mark w → Staged 1 2 n′ (linkFrom marks cells s) s next
+      → next ≡ linked now n mark w → Staged linkMark linkWord n′ (linkFrom marks cells s) s next
   unfolding linked
   link-more mark w a b e =
       let long₀ : movingWords ≤ length now = omega (arith, g .same-length) in
-      subst (λ i. Staged 1 2 i (linkFrom marks cells s) s next) (sym more)
-      (stage-more 1 2 n (linkFrom marks cells s) s now next (omega arith) small g
+      subst (λ i. Staged linkMark linkWord i (linkFrom marks cells s) s next) (sym more)
+      (stage-more linkMark linkWord n (linkFrom marks cells s) s now next (omega arith) small g
       (pair-wrote linkMark n mark w (λ row. linkFrom marks cells s row n) now (put now linkMark n mark) next (omega arith) small long₀
       a b refl e))
 
   -- from the neighbour by a side: its output is not written here
   side-more : (cols count node side : ℕ) → n ≡ at node side → side < 4 → cols ≡ columns (sheetIn s) → count ≡ rows (sheetIn s)
       → InGrid cols count node → next ≡ linkedBy now cols count node side
-      → Staged 1 2 n′ (linkFrom marks cells s) s next
+      → Staged linkMark linkWord n′ (linkFrom marks cells s) s next
   side-more cols count node side e l own-cols own-rows grid q =
       let place : ℕ = placeBy cols count node side in
-      let inside : place < 80 = place-small cols count node side grid in
+      let inside : place < rowWords = place-small cols count node side grid in
       let same : place ≡ neighbourPlace s node side = ap₂ (λ (a b : ℕ). placeBy a b node side) own-cols own-rows in
       let mark : reg now outMark place ≡ reg s outMark place =
-      beside 1 2 n (linkFrom marks cells s) s now g outMark place (omega arith) inside (λ a b. omega arith) in
+      beside linkMark linkWord n (linkFrom marks cells s) s now g outMark place (omega arith) inside (λ a b. omega arith) in
       let cell : reg now outWord place ≡ reg s outWord place =
-      beside 1 2 n (linkFrom marks cells s) s now g outWord place (omega arith) inside (λ a b. omega arith) in
+      beside linkMark linkWord n (linkFrom marks cells s) s now g outWord place (omega arith) inside (λ a b. omega arith) in
       link-more (reg now outMark place) (reg now outWord place)
       (mark ∙ ap (reg s outMark) same ∙ side-mark marks cells s n node side e l)
       (cell ∙ ap (reg s outWord) same ∙ side-word marks cells s n node side e l)
@@ -122,7 +123,7 @@ module _ (marks cells s now next : List ℕ) (n n′ : ℕ) (small : n < 80) (mo
 
   -- from the source wire
   source-more : (node mark w : ℕ) → n ≡ at node sourceInput → mark ≡ word marks node → w ≡ word cells node
-      → next ≡ linked now (at node sourceInput) mark w → Staged 1 2 n′ (linkFrom marks cells s) s next
+      → next ≡ linked now (at node sourceInput) mark w → Staged linkMark linkWord n′ (linkFrom marks cells s) s next
   source-more node mark w e a b q =
       link-more mark w (a ∙ source-mark marks cells s n node e) (b ∙ source-word marks cells s n node e)
       (q ∙ ap (λ k. linked now k mark w) (sym e))
@@ -136,30 +137,21 @@ pub record Linking (s marks cells : List ℕ) (cols count all node : ℕ) (now :
   pub inside : node ≤ all
   pub head : Headed (sheetIn s)
   pub long : movingWords ≤ length s
-  pub so-far : Staged 1 2 (node * 5) (linkFrom marks cells s) s now
+  pub so-far : Staged linkMark linkWord (node * 5) (linkFrom marks cells s) s now
 
--- a sheet's nodes are few
-pub few-nodes : (z : List ℕ) → Headed z → nodes z ≤ 16
-few-nodes z h = mul-le-mul {n₁ = columns z} {m₁ = rows z} {n₂ = 4} {m₂ = 4} (h .columns-high) (h .rows-high)
-
--- the columns and the rows that were read
-module _ (s z : List ℕ) (e : z ≡ sheetIn s) (cols count : ℕ) (a : cols ≡ columns z) (b : count ≡ rows z) (h : Headed (sheetIn s)) where
-  pub few-read : cols * count ≤ 16
-  few-read =
-      let all-same : cols * count ≡ nodes (sheetIn s) = ap₂ _*_ (a ∙ ap columns e) (b ∙ ap rows e) in
-      omega (arith, few-nodes (sheetIn s) h, all-same)
-
-  pub linking-start : (marks cells : List ℕ) → movingWords ≤ length s → Linking s marks cells cols count (cols * count) 0 s
-  linking-start marks cells long = record {
-    own-cols = a ∙ ap columns e;
-    own-rows = b ∙ ap rows e;
-    in-all = refl;
-    few = few-read;
-    inside = omega arith;
-    head = h;
-    long = long;
-    so-far = stage-start 1 2 (linkFrom marks cells s) s;
-  }
+-- what was read of the head
+pub linking-start : (s z : List ℕ) → z ≡ sheetIn s → (cols count all : ℕ) → cols ≡ columns z → count ≡ rows z → (all ≡ nodes z) × (all ≤ 16)
+    → Headed (sheetIn s) → (marks cells : List ℕ) → movingWords ≤ length s → Linking s marks cells cols count all 0 s
+linking-start s z e cols count all a b n h marks cells long = record {
+  own-cols = a ∙ ap columns e;
+  own-rows = b ∙ ap rows e;
+  in-all = n .0 ∙ sym (ap₂ _*_ a b);
+  few = n .1;
+  inside = omega arith;
+  head = h;
+  long = long;
+  so-far = stage-start linkMark linkWord (linkFrom marks cells s) s;
+}
 
 module _ (s marks cells : List ℕ) (cols count all node : ℕ) (now : List ℕ) (g : Linking s marks cells cols count all node now) where
   pub linking-grid : node < all → InGrid cols count node
@@ -183,17 +175,17 @@ module _ (s marks cells : List ℕ) (cols count all node : ℕ) (now : List ℕ)
       → Linking s marks cells cols count all (node + 1) s₅
   linking-more l s₁ s₂ s₃ s₄ s₅ a b c d mark w me we e =
       let grid = linking-grid l in
-      let small : node * 5 + 4 < 80 = omega (arith, g .few) in
-      let g₁ : Staged 1 2 (node * 5 + 1) (linkFrom marks cells s) s s₁ =
+      let small : node * 5 + 4 < rowWords = omega (arith, g .few) in
+      let g₁ : Staged linkMark linkWord (node * 5 + 1) (linkFrom marks cells s) s s₁ =
       side-more marks cells s now s₁ (node * 5) (node * 5 + 1) (omega arith) refl (g .long) (g .so-far) cols count node 0
       (omega arith) (omega arith) (g .own-cols) (g .own-rows) grid a in
-      let g₂ : Staged 1 2 (node * 5 + 2) (linkFrom marks cells s) s s₂ =
+      let g₂ : Staged linkMark linkWord (node * 5 + 2) (linkFrom marks cells s) s s₂ =
       side-more marks cells s s₁ s₂ (node * 5 + 1) (node * 5 + 2) (omega arith) (omega arith) (g .long) g₁ cols count node 1
       refl (omega arith) (g .own-cols) (g .own-rows) grid b in
-      let g₃ : Staged 1 2 (node * 5 + 3) (linkFrom marks cells s) s s₃ =
+      let g₃ : Staged linkMark linkWord (node * 5 + 3) (linkFrom marks cells s) s s₃ =
       side-more marks cells s s₂ s₃ (node * 5 + 2) (node * 5 + 3) (omega arith) (omega arith) (g .long) g₂ cols count node 2
       refl (omega arith) (g .own-cols) (g .own-rows) grid c in
-      let g₄ : Staged 1 2 (node * 5 + 4) (linkFrom marks cells s) s s₄ =
+      let g₄ : Staged linkMark linkWord (node * 5 + 4) (linkFrom marks cells s) s s₄ =
       side-more marks cells s s₃ s₄ (node * 5 + 3) (node * 5 + 4) (omega arith) (omega arith) (g .long) g₃ cols count node 3
       refl (omega arith) (g .own-cols) (g .own-rows) grid d in
       record {
@@ -209,7 +201,7 @@ module _ (s marks cells : List ℕ) (cols count all node : ℕ) (now : List ℕ)
             node mark w refl me we e;
       }
 
-  pub linking-done : all ≤ node → now ≡ stage 1 2 (nodes (sheetIn s) * 5) (linkFrom marks cells s) s
+  pub linking-done : all ≤ node → now ≡ stage linkMark linkWord (nodes (sheetIn s) * 5) (linkFrom marks cells s) s
   linking-done l =
       let all-same : cols * count ≡ nodes (sheetIn s) = ap₂ _*_ (g .own-cols) (g .own-rows) in
       filled 1 2 (nodes (sheetIn s) * 5) (node * 5) (linkFrom marks cells s) s now (g .long) (g .so-far)

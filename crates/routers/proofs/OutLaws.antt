@@ -7,13 +7,13 @@ use native.Mathlib.Omega.{arith}
 use lib.ListN.{length}
 use Rattle.words.specs.Words.{word, pick}
 use Rattle.words.proofs.TestLaws.{yes=, no=}
-use Rattle.network.specs.Registers.{put, movingWords, outMark, outWord}
+use Rattle.network.specs.Registers.{put, rowCount, rowWords, movingWords, outMark, outWord}
 use Rattle.network.specs.Inner.Stages.{stage, outFrom}
 use Rattle.network.proofs.PutLaws.{put-length}
 use Rattle.network.proofs.FillLaws.{Wrote, wrote-one, wrote-then, Staged, stage-more, staged-is}
 
 -- a mark, and the word in the row behind it
-pub pair-wrote : (row k mark w : ℕ) (new : ℕ → ℕ) (s s₁ s₂ : List ℕ) → row < 20 → k < 80 → movingWords ≤ length s
+pub pair-wrote : (row k mark w : ℕ) (new : ℕ → ℕ) (s s₁ s₂ : List ℕ) → row + 1 < rowCount → k < rowWords → movingWords ≤ length s
     → mark ≡ new row → w ≡ new (row + 1) → s₁ ≡ put s row k mark → s₂ ≡ put s₁ (row + 1) k w → Wrote row (row + 1) k new s s₂
 pair-wrote row k mark w new s s₁ s₂ rl kl long a b p q =
     let long₁ : movingWords ≤ length s₁ = omega (arith, ap length p, put-length s row k mark) in
@@ -32,12 +32,12 @@ out-word marks cells k =
     sym (ap (λ t. pick t (word marks k) (word cells k)) (no= other))
 
 -- one output more
-pub outs-more : (marks cells s now : List ℕ) (k : ℕ) → k < 80 → movingWords ≤ length s → Staged 7 8 k (outFrom marks cells) s now
+pub outs-more : (marks cells s now : List ℕ) (k : ℕ) → k < rowWords → movingWords ≤ length s → Staged outMark outWord k (outFrom marks cells) s now
     → (mark w : ℕ) → mark ≡ word marks k → w ≡ word cells k
-    → (s₁ s₂ : List ℕ) → s₁ ≡ put now outMark k mark → s₂ ≡ put s₁ outWord k w → Staged 7 8 (k + 1) (outFrom marks cells) s s₂
+    → (s₁ s₂ : List ℕ) → s₁ ≡ put now outMark k mark → s₂ ≡ put s₁ outWord k w → Staged outMark outWord (k + 1) (outFrom marks cells) s s₂
 outs-more marks cells s now k kl long g mark w a b s₁ s₂ p q =
     let long₀ : movingWords ≤ length now = omega (arith, g .same-length) in
-    stage-more 7 8 k (outFrom marks cells) s now s₂ (omega arith) kl g
+    stage-more outMark outWord k (outFrom marks cells) s now s₂ (omega arith) kl g
     (pair-wrote outMark k mark w (λ row. outFrom marks cells row k) now s₁ s₂ (omega arith) kl long₀ (a ∙ out-mark marks cells k)
     (b ∙ out-word marks cells k) p q)
 

@@ -1,27 +1,16 @@
 -- A payload word without a latch, and the loop that looks for one over the inputs of all nodes.
 -- Assumes nothing.
-use Prim.Native.Nat.{ℕ, _+_, _*_, _<_, _≤_}
+use Prim.Native.Nat.{ℕ, _*_, _<_, _≤_}
 use mathlib.Core.Bool.{Bool, true, false}
 use mathlib.Core.List.{List}
-use mathlib.Core.Path.{_≡_, refl, sym, _∙_, ap}
+use mathlib.Core.Path.{_≡_, sym, _∙_, ap}
 use native.Mathlib.Omega.{arith}
-use native.Mathlib.Numerals.{add-one}
 use Rattle.words.specs.Tests.{any, _and_, _≤?_, _=?_}
-use Rattle.words.proofs.AllLaws.{any-at}
-use Rattle.words.proofs.TestLaws.{and-no, and-on, or-on, yes≤, no≤}
+use Rattle.words.proofs.AllLaws.{any-at, any-by-row}
+use Rattle.words.proofs.TestLaws.{and-no, and-on, yes≤, no≤}
 use Rattle.sheet.specs.Sheet.{nodes}
 use Rattle.network.specs.Registers.{reg, sheetIn, linkMark, latchRow}
 use Rattle.network.specs.Inner.Machine.{unheldIn}
-use Rattle.routers.proofs.PlaceLaws.{any-by-node}
-
--- none so far, one more
-pub any-nothing : (p : ℕ → Bool) → any 0 p ≡ false
-unfolding any
-any-nothing p = refl
-
-pub any-more : (p : ℕ → Bool) (k : ℕ) → any k p ≡ false → p k ≡ false → any (k + 1) p ≡ false
-unfolding any
-any-more p k h e = rw add-one (sym (or-on h (sym e)))
 
 -- a payload word without a latch, from the mark m and the latch l that were read
 module _ (s : List ℕ) (k m : ℕ) (e : m ≡ reg s linkMark k) where
@@ -42,7 +31,7 @@ unheldAt s k = 2 ≤? reg s linkMark k and reg s latchRow k =? 0
 module _ (s : List ℕ) (count : ℕ) (e : count ≡ nodes (sheetIn s) * 5) where
   unheld-by-place : any count (unheldAt s) ≡ any (nodes (sheetIn s)) (λ node. any 5 (unheldIn s node))
   unfolding unheldIn
-  unheld-by-place = ap (λ n. any n (unheldAt s)) e ∙ any-by-node (unheldAt s) (nodes (sheetIn s))
+  unheld-by-place = ap (λ n. any n (unheldAt s)) e ∙ any-by-row (unheldAt s) (nodes (sheetIn s)) 5
 
   pub unheld-found : (k : ℕ) (b : Bool) → k < count → b ≡ unheldAt s k → b ≡ true
       → true ≡ any (nodes (sheetIn s)) (λ node. any 5 (unheldIn s node))

@@ -6,10 +6,10 @@ ghost use mathlib.Core.List.{[]};
 ghost use lib.ListN.{length};
 ghost use Rattle.words.specs.Tests.{any, _and_, _or_, _≤?_, _<?_, _=?_};
 ghost use Rattle.words.specs.Words.{pick, tab};
-ghost use Rattle.torus.specs.Torus.{InGrid};
+ghost use Rattle.torus.specs.Inner.Grid.{InGrid};
 ghost use Rattle.sheet.specs.Sheet.{nodes as nodeCount};
 ghost use Rattle.sheet.specs.Inner.Passed.{Headed};
-ghost use Rattle.network.specs.Registers.{reg as regOf, sheetIn, movingWords, linkMark, linkWord, latchRow};
+ghost use Rattle.network.specs.Registers.{reg as regOf, sheetIn, movingWords, linkMark, linkWord, latchRow, rowWords, headMark, outMark, outWord};
 ghost use Rattle.network.specs.Inner.Machine.{nextChoice, nextOutMark, nextOutWord, collidesIn, unheldIn, unchosenIn, nextInRow};
 ghost use Rattle.network.specs.Inner.Stages.{stage, linkFrom, outFrom};
 ghost use Rattle.routers.specs.Inner.Crossing.{Crossed};
@@ -33,7 +33,7 @@ fn is_unheld(s: &[u32], k: u32) -> bool
 
 // Number 20: some payload word in a link register finds no choice held. A cycle, which knows its nodes, meets the requires, here and below.
 pub fn has_unheld(s: &[u32], count: u32) -> bool
-    requires { ⌜ (count ≡ nodeCount (sheetIn (now s)) * 5) × (count ≤ 80) ⌝ }
+    requires { ⌜ (count ≡ nodeCount (sheetIn (now s)) * 5) × (count ≤ rowWords) ⌝ }
     ensures { λ r. ⌜ r ≡ any (nodeCount (sheetIn (now (s .entry)))) (λ node. any 5 (unheldIn (now (s .entry)) node)) ⌝ }
 {
     if network::ROW_WORDS < count as usize {
@@ -52,7 +52,7 @@ pub fn has_unheld(s: &[u32], count: u32) -> bool
 // The word of input k goes to the output that was chosen for it, where no other word is yet; 1 where one is, or where a payload word has
 // no choice, else 0.
 fn cross_input(s: &[u32], k: u32, marks: &mut [u32], cells: &mut [u32]) -> u32
-    requires { ⌜ (k < 80) × (length (now marks) ≡ 80) × (length (now cells) ≡ 80) ⌝ }
+    requires { ⌜ (k < rowWords) × (length (now marks) ≡ rowWords) × (length (now cells) ≡ rowWords) ⌝ }
     ensures { λ r. ⌜ Crossed (now (s .entry)) k (now (marks .entry)) (now (cells .entry)) (now (marks .exit)) (now (cells .exit)) r ⌝ }
 {
     let mark = reg(s, network::HEAD_MARK, k);
@@ -81,10 +81,10 @@ fn cross_input(s: &[u32], k: u32, marks: &mut [u32], cells: &mut [u32]) -> u32
 // The crossbar of all nodes: what goes on each output, into two lent tables of zeros. Number 20: two words want one output, of which the
 // first stays, or a payload word left the header stage with no choice.
 pub fn cross(s: &[u32], nodes: u32, marks: &mut [u32], cells: &mut [u32]) -> bool
-    requires { ⌜ (nodes ≡ nodeCount (sheetIn (now s))) × (nodes ≤ 16) × (now marks ≡ tab 80 (λ k. 0)) × (now cells ≡ tab 80 (λ k. 0)) ⌝ }
+    requires { ⌜ (nodes ≡ nodeCount (sheetIn (now s))) × (nodes ≤ 16) × (now marks ≡ tab rowWords (λ k. 0)) × (now cells ≡ tab rowWords (λ k. 0)) ⌝ }
     ensures fault { λ r. ⌜ r ≡ (any (nodeCount (sheetIn (now (s .entry)))) (λ node. any 5 (collidesIn (now (s .entry)) node)) or any (nodeCount (sheetIn (now (s .entry)))) (λ node. any 5 (unchosenIn (now (s .entry)) node))) ⌝ }
-    ensures marks { λ _. ⌜ now (marks .exit) ≡ tab 80 (λ k. pick (k <? nodeCount (sheetIn (now (s .entry))) * 5) (nextOutMark (now (s .entry)) (k / 5) (k % 5)) 0) ⌝ }
-    ensures cells { λ _. ⌜ now (cells .exit) ≡ tab 80 (λ k. pick (k <? nodeCount (sheetIn (now (s .entry))) * 5) (nextOutWord (now (s .entry)) (k / 5) (k % 5)) 0) ⌝ }
+    ensures marks { λ _. ⌜ now (marks .exit) ≡ tab rowWords (λ k. pick (k <? nodeCount (sheetIn (now (s .entry))) * 5) (nextOutMark (now (s .entry)) (k / 5) (k % 5)) 0) ⌝ }
+    ensures cells { λ _. ⌜ now (cells .exit) ≡ tab rowWords (λ k. pick (k <? nodeCount (sheetIn (now (s .entry))) * 5) (nextOutWord (now (s .entry)) (k / 5) (k % 5)) 0) ⌝ }
 {
     let count = nodes * 5;
     if network::ROW_WORDS < count as usize {
@@ -145,8 +145,8 @@ fn step_head(s: &mut [u32], k: u32)
 
 // The header stages of so many inputs.
 pub fn step_heads(s: &mut [u32], count: u32)
-    requires { ⌜ (movingWords ≤ length (now s)) × (count ≤ 80) ⌝ }
-    ensures { λ _. ⌜ now (s .exit) ≡ stage 3 6 count (nextInRow (now (s .entry)) []) (now (s .entry)) ⌝ }
+    requires { ⌜ (movingWords ≤ length (now s)) × (count ≤ rowWords) ⌝ }
+    ensures { λ _. ⌜ now (s .exit) ≡ stage headMark latchRow count (nextInRow (now (s .entry)) []) (now (s .entry)) ⌝ }
 {
     if network::ROW_WORDS < count as usize {
         return;
@@ -180,12 +180,12 @@ fn step_side(s: &mut [u32], cols: u32, rows: u32, node: u32, side: u32)
 // The link registers of all inputs: the neighbours' outputs, and what is on the source wires, a mark and a word a node.
 pub fn step_links(s: &mut [u32], marks: &[u32], cells: &[u32])
     requires { ⌜ (Headed (sheetIn (now s))) × (movingWords ≤ length (now s)) ⌝ }
-    ensures { λ _. ⌜ now (s .exit) ≡ stage 1 2 (nodeCount (sheetIn (now (s .entry))) * 5) (linkFrom (now (marks .entry)) (now (cells .entry)) (now (s .entry))) (now (s .entry)) ⌝ }
+    ensures { λ _. ⌜ now (s .exit) ≡ stage linkMark linkWord (nodeCount (sheetIn (now (s .entry))) * 5) (linkFrom (now (marks .entry)) (now (cells .entry)) (now (s .entry))) (now (s .entry)) ⌝ }
 {
-    let sheet = network::sheet_of(s);
-    let cols = words::get(sheet, 0);
-    let rows = words::get(sheet, 1);
-    let nodes = cols * rows;
+    let z = network::sheet_of(s);
+    let cols = sheet::columns_of(z);
+    let rows = sheet::rows_of(z);
+    let nodes = sheet::nodes_of(z);
     if MOST_NODES < nodes {
         return;
     }
@@ -204,8 +204,8 @@ pub fn step_links(s: &mut [u32], marks: &[u32], cells: &[u32])
 
 // The out registers of so many outputs, from the crossbar's tables.
 pub fn step_outs(s: &mut [u32], count: u32, marks: &[u32], cells: &[u32])
-    requires { ⌜ (movingWords ≤ length (now s)) × (count ≤ 80) ⌝ }
-    ensures { λ _. ⌜ now (s .exit) ≡ stage 7 8 count (outFrom (now (marks .entry)) (now (cells .entry))) (now (s .entry)) ⌝ }
+    requires { ⌜ (movingWords ≤ length (now s)) × (count ≤ rowWords) ⌝ }
+    ensures { λ _. ⌜ now (s .exit) ≡ stage outMark outWord count (outFrom (now (marks .entry)) (now (cells .entry))) (now (s .entry)) ⌝ }
 {
     if network::ROW_WORDS < count as usize {
         return;

@@ -1,6 +1,6 @@
 -- The rules 9 and 10 at one entry, in terms of what the code has read: the entry, its circuit, and where its route leads.
 -- Assumes nothing.
-use Prim.Native.Nat.{ℕ, zero, suc, _+_, _-_, _*_, _/_, _<_, _≤_}
+use Prim.Native.Nat.{ℕ, _+_, _-_, _*_, _/_, _<_, _≤_}
 use mathlib.Core.Bool.{Bool, true, false, false≢true}
 use mathlib.Core.List.{List}
 use mathlib.Core.Path.{_≡_, refl, sym, _∙_, ap, ap₂, subst}
@@ -10,21 +10,24 @@ use lib.Seq.{getD-set-other}
 use native.Mathlib.Decide.{decLt}
 use Rattle.words.specs.Tests.{all, _and_, _≤?_, _<?_, _=?_}
 use Rattle.words.specs.Words.{word, pick}
-use Rattle.words.proofs.WordLaws.{tab-at, tab-is, fill-more}
+use Rattle.words.proofs.WordLaws.{tab-at, tab-is, fill-more, word-zeros}
 use Rattle.words.proofs.AllLaws.{all-at}
 use Rattle.words.proofs.TestLaws.{and-no, and-on, and-left, and-right, yes=, no=, is=, is≤, yes<, no<}
-use Rattle.torus.specs.Torus.{InGrid, distanceOf}
-use Rattle.torus.specs.Route.{Use, Route, leads, nowhere, routeFrom, pathOf, routerCycles}
+use Rattle.torus.specs.Torus.{distanceOf}
+use Rattle.torus.specs.Inner.Grid.{InGrid}
+use Rattle.torus.specs.Route.{Use, Route, leads, nowhere, routeFrom, routerCycles}
+use Rattle.torus.specs.Inner.Paths.{pathOf}
 use Rattle.torus.specs.declared.Path.{Path}
 use Rattle.torus.proofs.RouteLaws.{hops-high}
 use Rattle.torus.proofs.WalkLaws.{distance-least}
 use Rattle.sheet.specs.declared.entries.Entry.{Entry}
 use Rattle.sheet.specs.declared.circuits.Circuit.{Circuit}
 use Rattle.sheet.specs.Sheet.{columns, rows, nodes, circuits, schedules, circuitAt, period, entriesOf, entryCount, entryAt}
+use Rattle.sheet.specs.Flight.{hopsOf}
 use Rattle.sheet.specs.Rules.{eachEntry, entryRoute, entryLeads, entryEnds, reaches, routeHops, rule4, rule9}
 use Rattle.sheet.specs.Inner.Passed.{Framed, Ranged}
 use Rattle.sheet.proofs.PassedLaws.{entry-small, period-range, circuit-small, in-grid}
-use Rattle.routes.specs.Inner.Joined.{Joined, Timed, Leading, circuitDistance, circuitDistances}
+use Rattle.routes.specs.Inner.Joined.{Joined, Timed, Leading, circuitDistances}
 
 module _ (z : List ℕ) (e : Entry) (circuit : Circuit) (c : circuit ≡ circuitAt z (e .circuit)) (cols count : ℕ) (x : cols ≡ columns z) (y : count ≡ rows z) where
   -- both ends of the circuit are in the grid
@@ -42,9 +45,9 @@ module _ (z : List ℕ) (e : Entry) (circuit : Circuit) (c : circuit ≡ circuit
   unfolding entryRoute
   route-is = cc
 
-  module _ (most : ℕ) (d : most ≡ circuitDistance z (e .circuit)) where
+  module _ (most : ℕ) (d : most ≡ hopsOf z (e .circuit)) where
     reaches-is : reaches (entryRoute z e) (circuit .receive .node) most ≡ entryLeads z e
-    unfolding entryLeads circuitDistance
+    unfolding entryLeads
     reaches-is = ap₂ (λ (to far : ℕ). reaches (entryRoute z e) to far) (ap (λ (k : Circuit). k .receive .node) c) d
 
     module _ (path : Path) (q : path ≡ pathOf (routeFrom cols count (circuit .read .node) (e .route))) where
@@ -83,28 +86,28 @@ module _ (z : List ℕ) (e : Entry) (circuit : Circuit) (c : circuit ≡ circuit
       arriving = from-path (entryRoute z e) path-is refl .2
 
 -- a route that leads to the destination has as many hops as the distance
-module _ (z : List ℕ) (e : Entry) (g : Joined z e) (l : entryLeads z e ≡ true) (most : ℕ) (d : most ≡ circuitDistance z (e .circuit)) where
+module _ (z : List ℕ) (e : Entry) (g : Joined z e) (l : entryLeads z e ≡ true) (most : ℕ) (d : most ≡ hopsOf z (e .circuit)) where
   pub hops-are : (most ≡ routeHops (entryRoute z e)) × (most ≤ 7)
-  unfolding entryRoute entryLeads circuitDistance
+  unfolding entryRoute entryLeads
   hops-are = go (entryRoute z e) refl l
     where
       go : (r : Route) → entryRoute z e ≡ r
-          → reaches r (circuitAt z (e .circuit) .receive .node) (circuitDistance z (e .circuit)) ≡ true → (most ≡ routeHops r) × (most ≤ 7)
+          → reaches r (circuitAt z (e .circuit) .receive .node) (hopsOf z (e .circuit)) ≡ true → (most ≡ routeHops r) × (most ≤ 7)
       go (leads uses node hops) w t =
           let n : node ≡ circuitAt z (e .circuit) .receive .node = is= _ _ (and-left _ _ t) in
-          let few : hops ≤ circuitDistance z (e .circuit) = is≤ _ _ (and-right _ _ t) in
+          let few : hops ≤ hopsOf z (e .circuit) = is≤ _ _ (and-right _ _ t) in
           let least : distanceOf (columns z) (rows z) (circuitAt z (e .circuit) .read .node) node ≤ hops =
           distance-least (columns z) (rows z) (circuitAt z (e .circuit) .read .node) (e .route) uses node hops w in
-          let same : distanceOf (columns z) (rows z) (circuitAt z (e .circuit) .read .node) node ≡ circuitDistance z (e .circuit) =
+          let same : distanceOf (columns z) (rows z) (circuitAt z (e .circuit) .read .node) node ≡ hopsOf z (e .circuit) =
           ap (distanceOf (columns z) (rows z) (circuitAt z (e .circuit) .read .node)) n in
           let high : hops ≤ 7 =
           hops-high (columns z) (rows z) (circuitAt z (e .circuit) .read .node) (e .route) (g .source-inside) uses node hops w in
           (omega arith, omega arith)
       go nowhere w t = absurd (false≢true t)
 
-  pub ending : (P : ℕ) → (e .offset + e .size - 1 + 3 * most ≤? P + 2) ≡ entryEnds z P e
+  pub ending : (P : ℕ) → (e .offset + e .size - 1 + routerCycles * most ≤? P + 2) ≡ entryEnds z P e
   unfolding entryEnds
-  ending P = ap (λ (h : ℕ). e .offset + e .size - 1 + 3 * h ≤? P + 2) (hops-are .0)
+  ending P = ap (λ (h : ℕ). e .offset + e .size - 1 + routerCycles * h ≤? P + 2) (hops-are .0)
 
 -- both ends of a circuit are in the grid
 pub nodes-inside : (z : List ℕ) → Framed z → rule4 z ≡ true → (k : ℕ) → k < circuits z → (circuit : Circuit) → circuit ≡ circuitAt z k
@@ -120,13 +123,12 @@ nodes-inside z f r k h circuit c cols count x y =
     )
 
 pub distance-is : (z : List ℕ) (k : ℕ) (circuit : Circuit) → circuit ≡ circuitAt z k → (cols count : ℕ) → cols ≡ columns z → count ≡ rows z
-    → distanceOf cols count (circuit .read .node) (circuit .receive .node) ≡ circuitDistance z k
-unfolding circuitDistance
+    → distanceOf cols count (circuit .read .node) (circuit .receive .node) ≡ hopsOf z k
 distance-is z k circuit c cols count x y = cc
 
 -- the loop that reads the distances: each circuit's at its number, 0 at the others
 abbrev pub distanceAt : List ℕ → ℕ → ℕ
-distanceAt z k = pick (k <? circuits z) (circuitDistance z k) 0
+distanceAt z k = pick (k <? circuits z) (hopsOf z k) 0
 
 -- the first i distances are read, the others are 0
 pub record Reading (z : List ℕ) (i : ℕ) (distances : List ℕ) : Type 0 where
@@ -139,21 +141,16 @@ reading-start z =
     record {
       long = length-replicate {A = ℕ} 64 0;
       done = λ k h. absurd (let e₀ : ⊥ = omega arith in e₀);
-      later = λ k h. zero-at 64 k;
+      later = λ k h. word-zeros 64 k;
     }
-  where
-    zero-at : (n k : ℕ) → word (replicate n 0) k ≡ 0
-    zero-at zero k = refl
-    zero-at (suc n) zero = refl
-    zero-at (suc n) (suc k) = zero-at n k
 
-pub reading-more : (z : List ℕ) (i : ℕ) (distances : List ℕ) → Reading z i distances → i < circuits z → i < 64 → (d : ℕ) → d ≡ circuitDistance z i
+pub reading-more : (z : List ℕ) (i : ℕ) (distances : List ℕ) → Reading z i distances → i < circuits z → i < 64 → (d : ℕ) → d ≡ hopsOf z i
     → Reading z (i + 1) (set distances i d)
 reading-more z i distances g h l d e =
     record {
       long = length-set distances i d ∙ g .long;
       done = fill-more distances i d (distanceAt z) (omega (arith, g .long)) (g .done)
-          (e ∙ sym (ap (λ (b : Bool). pick b (circuitDistance z i) 0) (yes< h)));
+          (e ∙ sym (ap (λ (b : Bool). pick b (hopsOf z i) 0) (yes< h)));
       later = λ k b. getD-set-other distances i k d 0 (λ q. let e₀ : ⊥ = omega (arith, q) in e₀) ∙ g .later k (omega arith);
     }
 
@@ -164,17 +161,17 @@ reading-done z i distances g e = tab-is distances 64 (distanceAt z) (g .long) (�
     go : (k : ℕ) → Dec (k < i) → word distances k ≡ distanceAt z k
     go k (yes b) = g .done k b
     go k (no b) =
-        g .later k (omega arith) ∙ sym (ap (λ (c : Bool). pick c (circuitDistance z k) 0) (no< (omega (arith, e))))
+        g .later k (omega arith) ∙ sym (ap (λ (c : Bool). pick c (hopsOf z k) 0) (no< (omega (arith, e))))
 
 -- the distance of an entry's circuit, as it is read from the distances of all
 pub distance-read : (z : List ℕ) (e : Entry) → Joined z e → (distances : List ℕ) → distances ≡ circuitDistances z → (n : ℕ)
-    → n ≡ word distances (e .circuit) → n ≡ circuitDistance z (e .circuit)
+    → n ≡ word distances (e .circuit) → n ≡ hopsOf z (e .circuit)
 unfolding circuitDistances
 distance-read z e g distances p n r =
     r
     ∙ ap (λ (x : List ℕ). word x (e .circuit)) p
-    ∙ tab-at 64 (λ k. pick (k <? circuits z) (circuitDistance z k) 0) (e .circuit) (omega (arith, g .circuit-inside, g .circuits-high))
-    ∙ ap (λ (b : Bool). pick b (circuitDistance z (e .circuit)) 0) (yes< (g .circuit-inside))
+    ∙ tab-at 64 (λ k. pick (k <? circuits z) (hopsOf z k) 0) (e .circuit) (omega (arith, g .circuit-inside, g .circuits-high))
+    ∙ ap (λ (b : Bool). pick b (hopsOf z (e .circuit)) 0) (yes< (g .circuit-inside))
 
 -- an entry of a schedule, as it was read
 module _ (z : List ℕ) (g : Ranged z) (j : ℕ) (h : j < schedules z) (entries : List ℕ) (p : entries ≡ entriesOf z j) (i : ℕ) (l : i < entryCount entries)

@@ -3,21 +3,27 @@ ghost use mathlib.Core.Path.{_≡_};
 ghost use mathlib.Core.Bool.{true};
 ghost use Prim.Native.Nat.{ℕ, _+_, _*_, _<_, _≤_};
 ghost use Rattle.sheet.specs.Sheet.{circuits, schedules, period};
+ghost use Rattle.sheet.specs.Flight.{hopsOf};
 ghost use Rattle.sheet.specs.Rules.{eachEntry, entryLeads, entryEnds, rule4, rule9, rule10};
 ghost use Rattle.sheet.specs.Inner.Passed.{Framed, Ranged};
-ghost use Rattle.routes.specs.Inner.Joined.{Joined, Timed, Leading, circuitDistance, circuitDistances};
+ghost use Rattle.routes.specs.Inner.Joined.{Joined, Timed, Leading, circuitDistances};
 use sheet::Circuit;
 use sheet::Entry;
 
 // The distance of circuit k's nodes.
 fn circuit_distance(z: &[u32], k: u32) -> u32
     requires { ⌜ (Framed (now z)) × (rule4 (now z) ≡ true) × (k < circuits (now z)) ⌝ }
-    ensures { λ r. ⌜ r ≡ circuitDistance (now (z .entry)) k ⌝ }
+    ensures { λ r. ⌜ r ≡ hopsOf (now (z .entry)) k ⌝ }
 {
     let circuit = Circuit::at(z, k);
     let read = circuit.read;
     let receive = circuit.receive;
-    torus::distance(words::get(z, 0), words::get(z, 1), read.node, receive.node)
+    torus::distance(
+        sheet::columns_of(z),
+        sheet::rows_of(z),
+        read.node,
+        receive.node,
+    )
 }
 
 // The distances of all circuits, so that each is read once from the table. The checker calls it and the rules in their order,
@@ -26,7 +32,7 @@ pub fn circuit_distances(z: &[u32]) -> [u32; 64]
     requires { ⌜ (Framed (now z)) × (rule4 (now z) ≡ true) ⌝ }
     ensures { λ r. ⌜ r ≡ circuitDistances (now (z .entry)) ⌝ }
 {
-    let count = words::get(z, 3);
+    let count = sheet::circuits_of(z);
     let mut distances = [0u32; 64];
     let mut k: u32 = 0;
     while k < count {
@@ -45,7 +51,7 @@ fn entry_leads(z: &[u32], distances: &[u32], e: Entry) -> bool
     let circuit = Circuit::at(z, e.circuit);
     let read = circuit.read;
     let receive = circuit.receive;
-    let path = torus::follow_route(words::get(z, 0), words::get(z, 1), read.node, e.route);
+    let path = torus::follow_route(sheet::columns_of(z), sheet::rows_of(z), read.node, e.route);
     if path.leads {
         if path.node == receive.node {
             return path.hops <= words::get(distances, e.circuit as usize);
@@ -77,7 +83,7 @@ pub fn keeps_rule9(z: &[u32], distances: &[u32]) -> bool
     requires { ⌜ (Ranged (now z)) × (now distances ≡ circuitDistances (now z)) ⌝ }
     ensures { λ r. ⌜ r ≡ rule9 (now (z .entry)) ⌝ }
 {
-    let count = words::get(z, 4);
+    let count = sheet::schedules_of(z);
     let mut j: u32 = 0;
     while j < count {
         if entries_lead(z, distances, j) {
@@ -122,7 +128,7 @@ pub fn keeps_rule10(z: &[u32], distances: &[u32]) -> bool
     requires { ⌜ (Leading (now z)) × (now distances ≡ circuitDistances (now z)) ⌝ }
     ensures { λ r. ⌜ r ≡ rule10 (now (z .entry)) ⌝ }
 {
-    let count = words::get(z, 4);
+    let count = sheet::schedules_of(z);
     let mut j: u32 = 0;
     while j < count {
         if entries_end(z, distances, j) {

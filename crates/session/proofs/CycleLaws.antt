@@ -14,62 +14,65 @@ use Rattle.words.specs.Words.{word, pick, tab}
 use Rattle.words.proofs.TestLaws.{and-left, and-right, is≤, yes=, no=}
 use Rattle.words.proofs.WordLaws.{length-tab}
 use Rattle.packet.specs.Header.{headerWord, kindOf, shiftedWord}
+use Rattle.packet.proofs.HeaderLaws.{shifted-kind}
 use Rattle.torus.proofs.NeighbourLaws.{neighbour-inside}
 use Rattle.sheet.specs.Sheet.{circuits, schedules, nodes, circuitAt, period}
 use Rattle.sheet.proofs.PassedLaws.{in-grid}
 use Rattle.sheet.specs.Slots.{slotRoute, sourceOf}
 use Rattle.network.specs.View.{sourceInput, memoryOutput}
 use Rattle.network.specs.Cycle.{outputFor, Move, rests, opens, sends}
-use Rattle.network.specs.Registers.{reg, sheetIn, sheetLength, room, movingWords, clockRow, cyclePlace, inForcePlace, orderMarkPlace, orderSchedulePlace, headWord, choiceRow, receiveMark, receiveKind, leftRow, readRow, writeRow, kindRow, toGoRow, at}
+use Rattle.network.specs.Registers.{reg, sheetIn, sheetLength, room, movingWords, clockRow, cyclePlace, inForcePlace, orderMarkPlace}
+use Rattle.network.specs.Registers.{orderSchedulePlace, headWord, choiceRow, receiveMark, receiveKind, leftRow, readRow, writeRow, kindRow, toGoRow}
+use Rattle.network.specs.Registers.{at}
 use Rattle.network.specs.Seen.{seenSender}
-use Rattle.network.specs.Inner.Machine.{firstMark, firstWord, slotIn, moveIn, markOf, wordOf, sentMark, sentWord, ownMark, sourceMark, sourceWord, neighbourPlace, nextLinkMark, nextLinkWord, nextHeadWord, nextChoice, nextLatch, askedMark, nextOutMark, nextOutWord, memoryMark, memoryWord, nextReceiveMark, nextReceiveKind, nextLandingMark, turns, isDue, nextWord, nextState}
+use Rattle.network.specs.Inner.Machine.{firstMark, firstWord, slotIn, moveIn, markOf, wordOf, sentMark, sentWord, ownMark, sourceMark, sourceWord}
+use Rattle.network.specs.Inner.Machine.{neighbourPlace, nextLinkMark, nextLinkWord, nextHeadWord, nextChoice, nextLatch, askedMark, nextOutMark}
+use Rattle.network.specs.Inner.Machine.{nextOutWord, memoryMark, memoryWord, nextReceiveMark, nextReceiveKind, nextLandingMark, turns, isDue}
+use Rattle.network.specs.Inner.Machine.{nextWord, nextState}
 use Rattle.network.proofs.RowLaws.{router-after, node-after, sender-after, clock-after}
 use Rattle.soundness.specs.Sound.{kindTravels}
 use Rattle.soundness.proofs.SoundLaws.{travels-small, CellParts, cell-none, TransferParts, RouterParts, NodeParts, SoundParts}
 use Rattle.session.proofs.MoveLaws.{move-opens, transfer-step}
 use Rattle.soundness.proofs.SheetLaws.{SheetBounds, period-some, circuit-bounds}
 use Rattle.network.proofs.SlotLaws.{route-small}
-use Rattle.network.proofs.StageLaws.{output-small}
+use Rattle.network.proofs.StageLaws.{outputFor-small}
 
 -- cells: a payload word, a header whose kind travels
-cell-body : (mark w : ℕ) → 2 ≤ mark → mark ≤ 3 → CellParts mark w
-cell-body mark w low high = record { known = high; travels = λ q. absurd (omega arith) }
+sound-body : (mark w : ℕ) → 2 ≤ mark → mark ≤ 3 → CellParts mark w
+sound-body mark w low high = record { known = high; travels = λ q. absurd (omega arith) }
 
-cell-header : (w : ℕ) → kindTravels (kindOf w) ≡ true → CellParts 1 w
-cell-header w e = record { known = omega arith; travels = λ q. e }
+sound-header : (w : ℕ) → kindTravels (kindOf w) ≡ true → CellParts 1 w
+sound-header w e = record { known = omega arith; travels = λ q. e }
 
 -- one of two cells, a cell or none, and the first of many
-cell-pick : (b : Bool) {mark w other v : ℕ} → CellParts mark w → CellParts other v → CellParts (pick b mark other) (pick b w v)
-cell-pick true x y = x
-cell-pick false x y = y
+sound-pick : (b : Bool) {mark w other v : ℕ} → CellParts mark w → CellParts other v → CellParts (pick b mark other) (pick b w v)
+sound-pick true x y = x
+sound-pick false x y = y
 
-cell-only : (b : Bool) {mark w : ℕ} → CellParts mark w → CellParts (pick b mark 0) w
-cell-only true x = x
-cell-only false {mark} {w} x = cell-none w
+sound-only : (b : Bool) {mark w : ℕ} → CellParts mark w → CellParts (pick b mark 0) w
+sound-only true x = x
+sound-only false {mark} {w} x = cell-none w
 
-cell-word : (mark w : ℕ) → CellParts mark w → CellParts mark (pick (mark =? 0) 0 w)
-cell-word mark w x =
+sound-word : (mark w : ℕ) → CellParts mark w → CellParts mark (pick (mark =? 0) 0 w)
+sound-word mark w x =
     record { known = x .known; travels = λ q. rw (no= (let ne : mark ≡ 0 → ⊥ = λ e. omega arith in ne)) (x .travels q) }
 
-cell-first : (n : ℕ) (marks words : ℕ → ℕ) → ((i : ℕ) → i < n → CellParts (marks i) (words i))
+sound-first : (n : ℕ) (marks words : ℕ → ℕ) → ((i : ℕ) → i < n → CellParts (marks i) (words i))
     → CellParts (firstMark n marks) (firstWord n marks words)
 unfolding firstMark firstWord
-cell-first zero marks words h = cell-none 0
-cell-first (suc n) marks words h =
-    cell-pick (firstMark n marks =? 0)
-    (cell-word (marks n) (words n) (h n (omega arith)))
-    (cell-first n marks words (λ i l. h i (omega arith)))
+sound-first zero marks words h = cell-none 0
+sound-first (suc n) marks words h =
+    sound-pick (firstMark n marks =? 0)
+    (sound-word (marks n) (words n) (h n (omega arith)))
+    (sound-first n marks words (λ i l. h i (omega arith)))
 
 -- the header stage keeps the kind
-kind-shifted : (w : ℕ) → kindOf (shiftedWord w) ≡ kindOf w
-kind-shifted w = omega arith
-
-cell-shifted : (mark w : ℕ) → CellParts mark w → CellParts mark (nextHeadWord mark w)
+sound-shifted : (mark w : ℕ) → CellParts mark w → CellParts mark (nextHeadWord mark w)
 unfolding nextHeadWord
-cell-shifted mark w x = record { known = x .known; travels = λ q. go q (mark =? 1) }
+sound-shifted mark w x = record { known = x .known; travels = λ q. go q (mark =? 1) }
   where
     go : mark ≡ 1 → (b : Bool) → kindTravels (kindOf (pick b (shiftedWord w) w)) ≡ true
-    go q true = ap kindTravels (kind-shifted w) ∙ x .travels q
+    go q true = ap kindTravels (shifted-kind w) ∙ x .travels q
     go q false = x .travels q
 
 -- a choice or a latch is at most 5
@@ -78,7 +81,7 @@ pick-high true most p q = p
 pick-high false most p q = q
 
 output-high : (input w : ℕ) → outputFor input w + 1 ≤ 5
-output-high input w = omega (arith, output-small input w (outputFor input w) refl)
+output-high input w = omega (arith, outputFor-small input w (outputFor input w) refl)
 
 choice-high : (input latch mark w : ℕ) → latch ≤ 5 → nextChoice input latch mark w ≤ 5
 unfolding nextChoice
@@ -134,14 +137,14 @@ module _ (s m : List ℕ) (b : SheetBounds (sheetIn s)) (x : SoundParts (sheetIn
   sent-parts c l = go (moveIn s c) refl
     where
       body : (last : Bool) (w : ℕ) → CellParts (pick last 3 2) w
-      body true w = cell-body 3 w (omega arith) (omega arith)
-      body false w = cell-body 2 w (omega arith) (omega arith)
+      body true w = sound-body 3 w (omega arith) (omega arith)
+      body false w = sound-body 2 w (omega arith) (omega arith)
 
       go : (d : Move) → moveIn s c ≡ d
           → CellParts (markOf d (reg s toGoRow c))
           (wordOf d (headOf c) (word m (sourceOf sheet c * room s + reg s readRow c)))
       go rests e = cell-none 0
-      go opens e = cell-header _ (header-travels c l (move-opens (slotIn s c) (seenSender s c) e .1))
+      go opens e = sound-header _ (header-travels c l (move-opens (slotIn s c) (seenSender s c) e .1))
       go sends e = body (reg s toGoRow c =? 1) _
 
   -- so the words that a source sends are below 2^32, where the memory's are
@@ -160,20 +163,20 @@ module _ (s m : List ℕ) (b : SheetBounds (sheetIn s)) (x : SoundParts (sheetIn
   source-parts : (node : ℕ) → CellParts (sourceMark s node) (sourceWord s m node)
   unfolding sourceMark sourceWord
   source-parts node =
-      cell-first (circuits sheet) (ownMark s node) (sentWord s m) (λ c l. cell-only (sourceOf sheet c =? node) (sent-parts c l))
+      sound-first (circuits sheet) (ownMark s node) (sentWord s m) (λ c l. sound-only (sourceOf sheet c =? node) (sent-parts c l))
 
   -- the cell that comes over a link is the source's, or stands on the neighbour's output
   link-parts : (node input : ℕ) → node < nodes sheet → input < 5 → CellParts (nextLinkMark s node input) (nextLinkWord s m node input)
   unfolding nextLinkMark nextLinkWord
   link-parts node input nl il =
       let inside = neighbour-inside (in-grid sheet (b .ranged .framed .headed) node nl) input in
-      cell-pick (input =? sourceInput) (source-parts node) (x .routers (neighbourPlace s node input) (omega arith) .out)
+      sound-pick (input =? sourceInput) (source-parts node) (x .routers (neighbourPlace s node input) (omega arith) .out)
 
   out-parts : (node output : ℕ) → node < nodes sheet → CellParts (nextOutMark s node output) (nextOutWord s node output)
   unfolding nextOutMark nextOutWord askedMark
   out-parts node output nl =
-      cell-first 5 (askedMark s node output) (λ input. reg s headWord (at node input))
-      (λ input l. cell-only (reg s choiceRow (at node input) =? output + 1) (x .routers (at node input) (omega arith) .head))
+      sound-first 5 (askedMark s node output) (λ input. reg s headWord (at node input))
+      (λ input l. sound-only (reg s choiceRow (at node input) =? output + 1) (x .routers (at node input) (omega arith) .head))
 
   router-next : (node i : ℕ) → node < nodes sheet → i < 5 → RouterParts next (at node i)
   router-next node i nl il =
@@ -181,7 +184,7 @@ module _ (s m : List ℕ) (b : SheetBounds (sheetIn s)) (x : SoundParts (sheetIn
       let now = x .routers (at node i) (omega arith) in
       record {
         link = rw (r .link-mark, r .link-word) (link-parts node i nl il);
-        head = rw (r .head-mark, r .head-word) (cell-shifted _ _ (now .link));
+        head = rw (r .head-mark, r .head-word) (sound-shifted _ _ (now .link));
         out = rw (r .out-mark, r .out-word) (out-parts node i nl);
         choice = λ p. rw (r .choice-register) (choice-high _ _ _ _ (now .latch));
         latch = rw (r .latch-register) (latch-high _ _ _ _ (now .latch));

@@ -1,26 +1,21 @@
--- A state that has passed 12 to 14 is what a cycle in place requires, and the number of a cycle from its faults.
+-- A state that has passed 12 to 14 is what a cycle in place requires, and the number of a cycle from its fault's.
 -- Assumes nothing.
 use Prim.Native.Nat.{ℕ, _<_}
-use mathlib.Core.Bool.{Bool, true, false, not}
 use mathlib.Core.List.{List}
-use mathlib.Core.Path.{_≡_, refl, sym, _∙_, ap}
+use mathlib.Core.Path.{_≡_}
 use native.Mathlib.Omega.{arith}
-use Rattle.words.specs.Tests.{_=?_}
-use Rattle.words.specs.Words.{pick}
-use Rattle.words.proofs.TestLaws.{yes=, no=}
 use Rattle.sheet.specs.Sheet.{circuits}
 use Rattle.sheet.proofs.VerdictLaws.{passed as passed-rules}
 use Rattle.network.specs.Registers.{sheetIn}
-use Rattle.network.specs.Inner.Machine.{faultyIn}
+use Rattle.network.specs.OneMachine.{cycleFault}
 use Rattle.sources.specs.Inner.Steps.{Sending}
 use Rattle.machine.specs.Inner.Ready.{Ready}
 use Rattle.soundness.proofs.SheetLaws.{SheetBounds, sheet-bounds, circuit-bounds}
 use Rattle.soundness.proofs.SoundLaws.{SoundParts, sound-parts}
 use Rattle.soundness.proofs.PairedLaws.{sound-sendable}
-use Rattle.words.specs.Numbers.{unless, _then_}
 use Rattle.session.specs.Calls.{memoryNumber, cycleNumber}
 use Rattle.session.proofs.NumberLaws.{MemoryPassed, memory-passed}
-use Rattle.session.proofs.ReadingLaws.{then-first}
+use Rattle.session.proofs.ReadingLaws.{then-first, then-next}
 
 module _ (s m : List ℕ) (e : memoryNumber s m ≡ 0) where
   passed : MemoryPassed s m
@@ -62,26 +57,10 @@ module _ (s m : List ℕ) (e : memoryNumber s m ≡ 0) where
     whole = passed .whole;
   }
 
-  -- the number: 20 where there is a fault
-  cycle-is : cycleNumber s m ≡ unless 20 (not (faultyIn s))
-  unfolding cycleNumber _then_
-  cycle-is = ap (λ (t : Bool). pick t (unless 20 (not (faultyIn s))) (memoryNumber s m)) (yes= e)
-
-  pub cycle-faulty : (f : Bool) → f ≡ faultyIn s → f ≡ true → cycleNumber s m ≡ 20
-  unfolding unless
-  cycle-faulty f g h = cycle-is ∙ ap (λ (t : Bool). unless 20 (not t)) (sym g ∙ h)
-
-  pub cycle-calm : (f : Bool) → f ≡ faultyIn s → f ≡ false → cycleNumber s m ≡ 0
-  unfolding unless
-  cycle-calm f g h = cycle-is ∙ ap (λ (t : Bool). unless 20 (not t)) (sym g ∙ h)
-
-  -- the words afterwards: as they were where there is a fault, else as the cycle leaves them
-  pub cycle-words : (old new : List ℕ) {w : List ℕ} → w ≡ pick (faultyIn s) old new → w ≡ pick (cycleNumber s m =? 0) new old
-  cycle-words old new e = e ∙ go (faultyIn s) refl
-    where
-      go : (f : Bool) → faultyIn s ≡ f → pick f old new ≡ pick (cycleNumber s m =? 0) new old
-      go true q = sym (ap (λ (t : Bool). pick t new old) (no= (λ z. omega (arith, z, cycle-faulty (faultyIn s) refl q))))
-      go false q = sym (ap (λ (t : Bool). pick t new old) (yes= (cycle-calm (faultyIn s) refl q)))
+  -- the number: the fault's
+  pub cycle-fault : {n : ℕ} → n ≡ cycleFault s → n ≡ cycleNumber s m
+  unfolding cycleNumber
+  cycle-fault f = then-next e f
 
 -- a number of 12 to 14 is the cycle's number
 pub cycle-early : {n : ℕ} (s m : List ℕ) → n ≡ memoryNumber s m → (n ≡ 0 → ⊥) → n ≡ cycleNumber s m

@@ -9,33 +9,37 @@ use native.Mathlib.Decide.{ℕ-discrete}
 use lib.ListN.{length, length-set}
 use Rattle.words.specs.Tests.{_=?_}
 use Rattle.words.specs.Words.{pick}
-use Rattle.words.proofs.TestLaws.{is=}
+use Rattle.words.proofs.TestLaws.{is=, yes≤}
+use Rattle.words.proofs.NumberLaws.{zero-then, zero-unless}
 use Rattle.sheet.specs.declared.circuits.Circuit.{Circuit}
 use Rattle.sheet.specs.Sheet.{circuits, nodes, circuitAt}
 use Rattle.sheet.specs.Rules.{verdict}
-use Rattle.network.specs.Registers.{reg, sheetIn, clockRow, cyclePlace, inForcePlace, orderMarkPlace, orderSchedulePlace, linkMark, linkWord, headMark, headWord, choiceRow, latchRow, outMark, outWord, receiveMark, receiveKind, landingMark, leftRow, readRow, writeRow, kindRow, toGoRow}
+use Rattle.network.specs.Registers.{reg, sheetIn, clockRow, cyclePlace, inForcePlace, orderMarkPlace, orderSchedulePlace, linkMark, linkWord}
+use Rattle.network.specs.Registers.{headMark, headWord, choiceRow, latchRow, outMark, outWord, receiveMark, receiveKind, landingMark, leftRow}
+use Rattle.network.specs.Registers.{readRow, writeRow, kindRow, toGoRow, rowCount, rowWords, landingWord, stateWords}
 use Rattle.network.specs.Seen.{seenSender}
 use Rattle.network.specs.Inner.Machine.{nextState}
 use Rattle.network.proofs.RowLaws.{sender-same, sheet-kept}
 use Rattle.network.proofs.StepLaws.{state-length, memory-length}
 use Rattle.soundness.specs.Sound.{sound}
-use Rattle.session.specs.Calls.{loadNumber, startNumber, orderNumber, cycleNumber, loaded, started, ordered, stored, Lent, Call, load, start, store, fetch, left, periodNumber, landed, order, cycle, number, does, after, isLoad, Question, ask, questionNumber}
+use Rattle.session.specs.Calls.{stateNumber, loadNumber, startNumber, orderNumber, cycleNumber, loaded, started, ordered, stored, Lent, Call}
+use Rattle.session.specs.Calls.{load, start, store, fetch, left, periodNumber, landed, order, cycle, number, does, after, isLoad, Question, ask}
+use Rattle.session.specs.Calls.{questionNumber}
 use Rattle.session.proofs.NumberLaws.{state-passed, load-passed, StartPassed, start-passed, place-passed, left-passed, landed-passed, OrderPassed, order-passed, cycle-passed}
 use Rattle.soundness.proofs.SoundLaws.{beside, cell-none, TransferParts, RouterParts, NodeParts, SoundParts, sound-parts, sound-on}
 use Rattle.soundness.proofs.SheetLaws.{SheetBounds, sheet-bounds, period-some}
 pub use Rattle.session.proofs.RegisterLaws.{loaded-sheet}
-use Rattle.session.proofs.RegisterLaws.{loaded-sheet-length, loaded-register, loaded-length, started-other, started-sender, started-sheet, started-sheet-length, started-length, ordered-other, ordered-mark, ordered-schedule, ordered-sheet, ordered-sheet-length, ordered-length}
+use Rattle.session.proofs.RegisterLaws.{loaded-sheet-length, loaded-register, loaded-length, started-other, started-sender, started-sheet}
+use Rattle.session.proofs.RegisterLaws.{started-sheet-length, started-length, ordered-other, ordered-mark, ordered-schedule, ordered-sheet}
+use Rattle.session.proofs.RegisterLaws.{ordered-sheet-length, ordered-length}
 use Rattle.session.proofs.CycleLaws.{cycle-parts}
 
 -- load: every register is 0
 module _ (z s : List ℕ) (b : SheetBounds z) where
-  zero-at : (row k : ℕ) → row < 21 → k < 80 → reg (loaded z s) row k ≡ 0
-  zero-at = loaded-register z s
-
   load-transfer : (c : ℕ) → c < circuits z → TransferParts (circuitAt z c) (seenSender (loaded z s) c)
   load-transfer c l =
-      let none-left = zero-at leftRow c (omega arith) (omega arith) in
-      let none-to-go = zero-at toGoRow c (omega arith) (omega arith) in
+      let none-left = loaded-register z s leftRow c (omega arith) (omega arith) in
+      let none-to-go = loaded-register z s toGoRow c (omega arith) (omega arith) in
       record {
         to-go = omega arith;
         travels = λ p. absurd (omega arith);
@@ -46,28 +50,28 @@ module _ (z s : List ℕ) (b : SheetBounds z) where
 
   load-router : (k : ℕ) → k < nodes z * 5 → RouterParts (loaded z s) k
   load-router k l =
-      let inside : k < 80 = omega arith in
-      let latch = zero-at latchRow k (omega arith) inside in
-      let head = zero-at headMark k (omega arith) inside in
+      let inside : k < rowWords = omega arith in
+      let latch = loaded-register z s latchRow k (omega arith) inside in
+      let head = loaded-register z s headMark k (omega arith) inside in
       record {
-        link = rw (zero-at linkMark k (omega arith) inside) (cell-none _);
-        head = rw (zero-at headMark k (omega arith) inside) (cell-none _);
-        out = rw (zero-at outMark k (omega arith) inside) (cell-none _);
+        link = rw (loaded-register z s linkMark k (omega arith) inside) (cell-none _);
+        head = rw (loaded-register z s headMark k (omega arith) inside) (cell-none _);
+        out = rw (loaded-register z s outMark k (omega arith) inside) (cell-none _);
         choice = λ p. absurd (omega arith);
         latch = omega arith;
       }
 
   load-unit : (n : ℕ) → n < nodes z → NodeParts (loaded z s) n
   load-unit n l =
-      let receiving = zero-at receiveMark n (omega arith) (omega arith) in
-      let landing = zero-at landingMark n (omega arith) (omega arith) in
+      let receiving = loaded-register z s receiveMark n (omega arith) (omega arith) in
+      let landing = loaded-register z s landingMark n (omega arith) (omega arith) in
       record { receiving = omega arith; travels = λ p. absurd (omega arith); landing = omega arith }
 
   load-parts : verdict z ≡ 0 → SoundParts z (loaded z s)
   load-parts e =
-      let same-cycle = zero-at clockRow cyclePlace (omega arith) (omega arith) in
-      let same-schedule = zero-at clockRow inForcePlace (omega arith) (omega arith) in
-      let no-order = zero-at clockRow orderMarkPlace (omega arith) (omega arith) in
+      let same-cycle = loaded-register z s clockRow cyclePlace (omega arith) (omega arith) in
+      let same-schedule = loaded-register z s clockRow inForcePlace (omega arith) (omega arith) in
+      let no-order = loaded-register z s clockRow orderMarkPlace (omega arith) (omega arith) in
       record {
         sheet-fits = omega (arith, loaded-sheet-length z s);
         sheet-passes = e;
@@ -92,7 +96,7 @@ load-length z s m e =
 
 -- a state whose registers of routers and nodes are those of another
 module _ (s t : List ℕ) where
-  router-same : (k : ℕ) → ((row : ℕ) → 1 ≤ row → row ≤ 8 → reg t row k ≡ reg s row k) → RouterParts s k → RouterParts t k
+  router-same : (k : ℕ) → ((row : ℕ) → linkMark ≤ row → row ≤ outWord → reg t row k ≡ reg s row k) → RouterParts s k → RouterParts t k
   router-same k same x =
       let head = same headMark (omega arith) (omega arith) in
       let choice = same choiceRow (omega arith) (omega arith) in
@@ -105,7 +109,7 @@ module _ (s t : List ℕ) where
         latch = omega arith;
       }
 
-  unit-same : (n : ℕ) → ((row : ℕ) → 9 ≤ row → row ≤ 15 → reg t row n ≡ reg s row n) → NodeParts s n → NodeParts t n
+  unit-same : (n : ℕ) → ((row : ℕ) → receiveMark ≤ row → row ≤ landingWord → reg t row n ≡ reg s row n) → NodeParts s n → NodeParts t n
   unit-same n same x =
       let receiving = same receiveMark (omega arith) (omega arith) in
       let landing = same landingMark (omega arith) (omega arith) in
@@ -115,7 +119,7 @@ module _ (s t : List ℕ) where
         landing = omega arith;
       }
 
-  transfer-same : (c : ℕ) (circuit : Circuit) → ((row : ℕ) → 16 ≤ row → row ≤ 20 → reg t row c ≡ reg s row c)
+  transfer-same : (c : ℕ) (circuit : Circuit) → ((row : ℕ) → leftRow ≤ row → row ≤ toGoRow → reg t row c ≡ reg s row c)
       → TransferParts circuit (seenSender s c) → TransferParts circuit (seenSender t c)
   transfer-same c circuit same x =
       subst (TransferParts circuit)
@@ -143,7 +147,7 @@ module _ (s : List ℕ) (circuit readAddress writeAddress count kind : ℕ)
     writes = λ l. p .writes;
   }
 
-  start-transfer : circuit < 80 → (c : ℕ) → c < 80 → Dec (c ≡ circuit)
+  start-transfer : circuit < rowWords → (c : ℕ) → c < rowWords → Dec (c ≡ circuit)
       → TransferParts (circuitAt sheet c) (seenSender s c) → TransferParts (circuitAt sheet c) (seenSender begun c)
   start-transfer few c inside (yes q) x =
       subst (λ k. TransferParts (circuitAt sheet k) (seenSender begun k)) (sym q)
@@ -156,7 +160,7 @@ module _ (s : List ℕ) (circuit readAddress writeAddress count kind : ℕ)
 
   start-parts : SheetBounds sheet → SoundParts sheet s → SoundParts sheet begun
   start-parts b x =
-      let few : circuit < 80 = omega (arith, p .circuit-inside) in
+      let few : circuit < rowWords = omega (arith, p .circuit-inside) in
       let other = started-other s circuit readAddress writeAddress count kind few in
       let same-cycle = other clockRow cyclePlace (omega arith) (λ a b e. omega arith) in
       let same-schedule = other clockRow inForcePlace (omega arith) (λ a b e. omega arith) in
@@ -267,6 +271,13 @@ memory-length-kept (store node address new) w = length-set (w .memory) _ new
 memory-length-kept (ask question) w = refl
 memory-length-kept (order schedule period) w = refl
 memory-length-kept cycle w = memory-length (w .state) (w .memory)
+
+-- so the state that a call leaves which is carried out passes 12 and 13 again
+pub state-passes : (x : Call) (w : Lent) → number x w ≡ 0 → stateNumber (w .state) ≡ 0 → stateNumber (does x w .state) ≡ 0
+unfolding stateNumber
+state-passes x w e p =
+    let long : stateWords ≤ length (does x w .state) = omega (arith, state-length-kept x w e, state-passed (w .state) p .long) in
+    zero-then (zero-unless 12 (yes≤ long)) (zero-unless 13 (sound-kept x w e))
 
 -- the sheet changes by a load alone
 pub sheet-same : (x : Call) (w : Lent) → isLoad x ≡ false → number x w ≡ 0 → sheetIn (does x w .state) ≡ sheetIn (w .state)

@@ -3,8 +3,11 @@ pub mod RegisterLaws
 pub mod MoveLaws
 pub mod CycleLaws
 pub mod KeptLaws
+pub mod ReadyLaws
 pub mod ReadingLaws
 pub mod WritingLaws
 pub mod CyclingLaws
 pub mod LoadingLaws
 pub mod AnswerLaws
+pub mod MachineLaws
+pub mod AloneLaws

@@ -1,32 +1,18 @@
--- A load: the number of the memory words that it wants, and the words afterwards, from the loops that cleared and copied.
+-- A load: the words afterwards, from the loops that cleared and copied.
 -- Assumes nothing.
-use Prim.Native.Nat.{ℕ, _+_, _*_, _≤_, _<_}
+use Prim.Native.Nat.{ℕ, _+_, _≤_, _<_}
 use mathlib.Core.List.{List, [], _∷_, _++_, append-assoc}
-use mathlib.Core.Path.{_≡_, refl, sym, _∙_, ap, ap₂}
+use mathlib.Core.Path.{_≡_, refl, sym, _∙_, ap}
 use native.Mathlib.Omega.{arith}
 use native.Mathlib.Numerals.{add-one}
 use lib.ListN.{length, take, drop, set, length-append, length-set}
 use lib.Seq.{drop-cons, set-at, append-snoc, take-at, drop-at, drop-drop, take-length, paste, paste-zero, paste-suc}
 use Rattle.words.specs.Words.{word, tab}
 use Rattle.words.proofs.WordLaws.{length-tab}
-use Rattle.sheet.specs.Sheet.{columns, rows, memoryWords, nodes}
-use Rattle.sheet.specs.Rules.{verdict}
-use Rattle.network.specs.Registers.{movingWords, stateWords}
+use Rattle.network.specs.Registers.{movingWords, stateWords, sheetWords}
 use Rattle.session.specs.Calls.{loadNumber, loaded}
 use Rattle.session.proofs.NumberLaws.{load-passed}
 use Rattle.soundness.proofs.SheetLaws.{sheet-bounds}
-
--- the memory words of all nodes of a sheet that passes are few
-pub few-nodes : (z : List ℕ) → verdict z ≡ 0 → (a b : ℕ) → a ≡ columns z → b ≡ rows z → a * b ≤ 16
-few-nodes z e a b p q =
-    let n : a * b ≡ nodes z = ap₂ _*_ p q in
-    omega (arith, sheet-bounds z e .few-nodes)
-
-pub small-memory : (z : List ℕ) → verdict z ≡ 0 → (a : ℕ) → a ≡ memoryWords z → a ≤ 16384
-small-memory z e a p = omega (arith, sheet-bounds z e .small-memory)
-
-pub wanted-is : (z : List ℕ) (a b d : ℕ) → a ≡ columns z → b ≡ rows z → d ≡ memoryWords z → a * b * d ≡ nodes z * memoryWords z
-wanted-is z a b d p q r = ap₂ _*_ (ap₂ _*_ p q) r
 
 -- the loop that clears: so many words are 0, the others as they were
 abbrev zeros : ℕ → List ℕ
@@ -137,7 +123,7 @@ loaded-is z s long e f g =
     ∙ pasted (zeros movingWords) s z movingWords (length z) (length-tab movingWords _) (omega arith)
 
 -- what a load that is not refused has room for
-pub sheet-fits : (z s m : List ℕ) {n : ℕ} → n ≡ loadNumber z s m → n ≡ 0 → (length z ≤ 8597) × (stateWords ≤ length s)
+pub sheet-fits : (z s m : List ℕ) {n : ℕ} → n ≡ loadNumber z s m → n ≡ 0 → (length z ≤ sheetWords) × (stateWords ≤ length s)
 sheet-fits z s m e q =
     let p = load-passed z s m (sym e ∙ q) in
     (sheet-bounds z (p .passes) .fits, p .long)

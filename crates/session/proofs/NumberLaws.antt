@@ -15,11 +15,13 @@ use Rattle.sheet.specs.Sheet.{memoryWords, circuits, schedules, nodes, circuitA
 use Rattle.sheet.specs.Rules.{verdict}
 use Rattle.network.specs.Registers.{reg, sheetIn, room, stateWords, clockRow, orderMarkPlace, leftRow}
 use Rattle.network.specs.Inner.Machine.{faultyIn}
+use Rattle.network.specs.OneMachine.{cycleFault}
 use Rattle.soundness.specs.Sound.{sound, kindTravels}
 use Rattle.soundness.proofs.SoundLaws.{Lies, lies}
 use Rattle.words.specs.Numbers.{unless, _then_}
 use Rattle.words.proofs.NumberLaws.{then-zero, unless-zero, zero-then, zero-unless}
-use Rattle.session.specs.Calls.{stateNumber, memoryNumber, loadNumber, startNamed, startFits, isBusy, startNumber, placeNumber, leftNumber, landedNumber, isPending, ahead, orderNumber, cycleNumber}
+use Rattle.session.specs.Calls.{stateNumber, memoryNumber, loadNumber, startNamed, startFits, isBusy, startNumber, placeNumber, leftNumber}
+use Rattle.session.specs.Calls.{landedNumber, isPending, ahead, orderNumber, cycleNumber}
 
 -- a test that must not hold
 pub not-holds : (b : Bool) → not b ≡ true → b ≡ false
@@ -180,14 +182,14 @@ pub record CyclePassed (s m : List ℕ) : Type 0 where
   pub calm : faultyIn s ≡ false
 
 pub cycle-passed : (s m : List ℕ) → cycleNumber s m ≡ 0 → CyclePassed s m
-unfolding cycleNumber
+unfolding cycleNumber cycleFault
 cycle-passed s m e =
     let p = then-zero _ _ e in
     record { memory = memory-passed s m (p .0); calm = not-holds _ (unless-zero 20 _ (omega arith) (p .1)) }
 
 -- and back
 pub cycle-zero : (s m : List ℕ) → CyclePassed s m → cycleNumber s m ≡ 0
-unfolding cycleNumber memoryNumber stateNumber
+unfolding cycleNumber memoryNumber stateNumber cycleFault
 cycle-zero s m p =
     zero-then
     (zero-then (zero-then (zero-unless 12 (yes≤ (p .memory .state .long))) (zero-unless 13 (p .memory .state .is-sound)))

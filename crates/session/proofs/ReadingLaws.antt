@@ -1,14 +1,14 @@
 -- The numbers of the calls from the tests that the code makes in turn, and the answers from their numbers.
 -- Assumes nothing.
-use Prim.Native.Nat.{ℕ, zero, suc, _+_, _*_, _≤_, _<_}
+use Prim.Native.Nat.{ℕ, zero, suc, _+_, _*_, _≤_}
 use mathlib.Core.Bool.{Bool, true, false}
 use mathlib.Core.List.{List}
-use mathlib.Core.Path.{_≡_, refl, sym, _∙_, ap, ap₂}
+use mathlib.Core.Path.{_≡_, refl, sym, _∙_, ap}
 use native.Mathlib.Omega.{arith}
 use native.Mathlib.Nat.{mul-le-mul}
 use Rattle.words.specs.Words.{word, pick}
 use Rattle.words.proofs.TestLaws.{yes=, no=}
-use Rattle.sheet.specs.Sheet.{columns, rows, memoryWords, nodes}
+use Rattle.sheet.specs.Inner.Passed.{Headed}
 use Rattle.network.specs.Registers.{sheetIn, room}
 use Rattle.network.specs.Seen.{seenLanding}
 use Rattle.network.specs.View.{Landing}
@@ -46,22 +46,13 @@ unless-yes number e = sym (zero-unless number e)
 pub state-bounds : (s : List ℕ) → stateNumber s ≡ 0 → SheetBounds (sheetIn s)
 state-bounds s e = sheet-bounds (sheetIn s) (sound-parts s (state-passed s e .is-sound) .sheet-passes)
 
+pub state-headed : (s : List ℕ) → stateNumber s ≡ 0 → Headed (sheetIn s)
+state-headed s e = state-bounds s e .ranged .framed .headed
+
 -- what passed 12 to 14 passed 12 and 13
 pub memory-state : (s m : List ℕ) → memoryNumber s m ≡ 0 → stateNumber s ≡ 0
 unfolding memoryNumber
 memory-state s m e = then-zero _ _ e .0
-
--- the nodes, from the first two words of the state's sheet
-pub nodes-are : {a b : ℕ} {z y : List ℕ} → a ≡ columns z → b ≡ rows z → z ≡ y → a * b ≡ nodes y
-nodes-are e f g = ap₂ _*_ e f ∙ ap nodes g
-
--- the memory words of all nodes are few
-pub few-words : (z : List ℕ) → SheetBounds z → nodes z * memoryWords z ≤ 262144
-few-words z b = mul-le-mul (b .few-nodes) (b .small-memory)
-
--- a product of two words fits in 64 bits, and so does a word more
-pub product-small : (a b : ℕ) → a < 4294967296 → b < 4294967296 → a * b ≤ 18446744065119617025
-product-small a b la lb = mul-le-mul {n₁ = a} {m₁ = b} {n₂ = 4294967295} {m₂ = 4294967295} (omega arith) (omega arith)
 
 -- the answers, from a number and a value
 pub found-word : (n w : ℕ) → n ≡ 0 → FoundWord w ≡ foundOf n w

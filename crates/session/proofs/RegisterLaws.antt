@@ -8,7 +8,8 @@ use lib.ListN.{length, take, drop, length-append, length-drop, length-set, List�
 use lib.Seq.{getD-at, drop-at, take-append-seam}
 use Rattle.words.specs.Words.{word, tab}
 use Rattle.words.proofs.WordLaws.{length-tab, tab-at}
-use Rattle.network.specs.Registers.{reg, put, sheetIn, sheetLength, movingWords, stateWords, clockRow, orderMarkPlace, orderSchedulePlace, orderPeriodPlace, leftRow, readRow, writeRow, kindRow, toGoRow}
+use Rattle.network.specs.Registers.{reg, put, sheetIn, sheetLength, movingWords, stateWords, clockRow, orderMarkPlace, orderSchedulePlace}
+use Rattle.network.specs.Registers.{orderPeriodPlace, leftRow, readRow, writeRow, kindRow, toGoRow, rowCount, rowWords, clockWords}
 use Rattle.network.specs.Seen.{seenSender}
 use Rattle.network.proofs.RowLaws.{sender-same}
 use Rattle.network.proofs.PutLaws.{put-same, put-other, put-sheet, put-sheet-length}
@@ -29,19 +30,19 @@ module _ (z s : List ℕ) where
       getD-at (tab movingWords (λ k. 0)) (length z) (z ++ drop (movingWords + 1 + length z) s) 0 movingWords
       (length-tab movingWords (λ k. 0))
 
-  pub loaded-register : (row k : ℕ) → row < 21 → k < 80 → reg (loaded z s) row k ≡ 0
+  pub loaded-register : (row k : ℕ) → row < rowCount → k < rowWords → reg (loaded z s) row k ≡ 0
   unfolding reg loaded
   loaded-register row k rl kl =
-      let inside : row * 80 + k < 1680 = omega arith in
-      List·getD-append (tab movingWords (λ k. 0)) _ 0 (row * 80 + k) (rw length-tab inside)
-      ∙ tab-at movingWords (λ k. 0) (row * 80 + k) inside
+      let inside : row * rowWords + k < movingWords = omega arith in
+      List·getD-append (tab movingWords (λ k. 0)) _ 0 (row * rowWords + k) (rw length-tab inside)
+      ∙ tab-at movingWords (λ k. 0) (row * rowWords + k) inside
 
   pub loaded-length : SheetBounds z → stateWords ≤ length s → length (loaded z s) ≡ length s
   unfolding loaded
   loaded-length b long = simp (length-append, length-tab, length-drop) (omega (arith, b .fits))
 
 -- a start: the four registers of its circuit
-module _ (s : List ℕ) (circuit readAddress writeAddress count kind : ℕ) (few : circuit < 80) where
+module _ (s : List ℕ) (circuit readAddress writeAddress count kind : ℕ) (few : circuit < rowWords) where
   abbrev with-left : List ℕ
   with-left = put s leftRow circuit count
 
@@ -54,7 +55,7 @@ module _ (s : List ℕ) (circuit readAddress writeAddress count kind : ℕ) (few
   abbrev begun : List ℕ
   begun = started s circuit readAddress writeAddress count kind
 
-  pub started-other : (row k : ℕ) → k < 80 → (16 ≤ row → row ≤ 19 → k ≡ circuit → ⊥) → reg begun row k ≡ reg s row k
+  pub started-other : (row k : ℕ) → k < rowWords → (leftRow ≤ row → row ≤ kindRow → k ≡ circuit → ⊥) → reg begun row k ≡ reg s row k
   unfolding started
   started-other row k kl h =
       put-other with-write kindRow circuit kind row k (no kindRow (omega arith) (omega arith))
@@ -62,7 +63,7 @@ module _ (s : List ℕ) (circuit readAddress writeAddress count kind : ℕ) (few
       ∙ put-other with-left readRow circuit readAddress row k (no readRow (omega arith) (omega arith))
       ∙ put-other s leftRow circuit count row k (no leftRow (omega arith) (omega arith))
     where
-      no : (changed : ℕ) → 16 ≤ changed → changed ≤ 19 → row * 80 + k ≡ changed * 80 + circuit → ⊥
+      no : (changed : ℕ) → leftRow ≤ changed → changed ≤ kindRow → row * rowWords + k ≡ changed * rowWords + circuit → ⊥
       no changed low high e = h (omega arith) (omega arith) (omega arith)
 
   pub started-sender : movingWords ≤ length s
@@ -114,7 +115,7 @@ module _ (s : List ℕ) (schedule period : ℕ) where
   abbrev told : List ℕ
   told = ordered s schedule period
 
-  pub ordered-other : (row k : ℕ) → k < 80 → (row ≡ 0 → 3 ≤ k → k < 6 → ⊥) → reg told row k ≡ reg s row k
+  pub ordered-other : (row k : ℕ) → k < rowWords → (row ≡ clockRow → orderMarkPlace ≤ k → k < clockWords → ⊥) → reg told row k ≡ reg s row k
   unfolding ordered
   ordered-other row k kl h =
       put-other with-schedule clockRow orderPeriodPlace period row k (λ e. h (omega arith) (omega arith) (omega arith))

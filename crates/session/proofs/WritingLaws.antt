@@ -3,7 +3,7 @@
 use Prim.Native.Nat.{ℕ, zero, suc, _+_, _-_, _*_, _%_, _<_, _≤_}
 use mathlib.Core.Bool.{Bool, true, false, not}
 use mathlib.Core.List.{List}
-use mathlib.Core.Path.{_≡_, sym, _∙_, ap}
+use mathlib.Core.Path.{_≡_, refl, sym, _∙_, ap}
 use native.Mathlib.Omega.{arith}
 use lib.ListN.{set}
 use Rattle.words.specs.Tests.{_and_, _≤?_, _<?_, _=?_}
@@ -15,7 +15,7 @@ use Rattle.network.specs.Registers.{reg, put, sheetIn, room, clockRow, numberPl
 use Rattle.session.specs.declared.Answer.the-variants.{Done, Refused}
 use Rattle.soundness.specs.Sound.{liesIn}
 use Rattle.words.specs.Numbers.{unless, _then_}
-use Rattle.session.specs.Calls.{ahead, started, ordered, stored}
+use Rattle.session.specs.Calls.{stateNumber, startNumber, ahead, started, ordered, stored, Lent, Call, number, does, after}
 use Rattle.session.specs.Answers.{answerOf}
 use Rattle.words.proofs.NumberLaws.{zero-unless}
 use Rattle.session.proofs.ReadingLaws.{then-first, then-next, unless-no}
@@ -28,12 +28,44 @@ pub answer-refused : {n : ℕ} (number : ℕ) → n ≡ number → (n ≡ 0 → 
 answer-refused zero e ne = absurd (ne e)
 answer-refused (suc number) e ne = ap Refused e
 
--- the words afterwards: as they were, or as they were written
-pub words-kept : {n : ℕ} (number : ℕ) (new old : List ℕ) → n ≡ number → (n ≡ 0 → ⊥) → old ≡ pick (number =? 0) new old
-words-kept number new old e ne = sym (ap (λ (t : Bool). pick t new old) (no= (λ z. ne (e ∙ z))))
+-- the lent words afterwards: as they were, or as they were written
+module _ (x : Call) (w : Lent) {n : ℕ} (e : n ≡ number x w) where
+  kept : (n ≡ 0 → ⊥) → w ≡ after x w
+  unfolding after
+  kept ne = sym (ap (λ (t : Bool). pick t (does x w) w) (no= (λ z. ne (e ∙ z))))
 
-pub words-written : {n : ℕ} (number : ℕ) {w : List ℕ} (new old : List ℕ) → n ≡ number → n ≡ 0 → w ≡ new → w ≡ pick (number =? 0) new old
-words-written number new old e z f = f ∙ sym (ap (λ (t : Bool). pick t new old) (yes= (sym e ∙ z)))
+  written : n ≡ 0 → does x w ≡ after x w
+  unfolding after
+  written z = sym (ap (λ (t : Bool). pick t (does x w) w) (yes= (sym e ∙ z)))
+
+  pub state-kept : (n ≡ 0 → ⊥) → w .state ≡ after x w .state
+  state-kept ne = ap (λ (y : Lent). y .state) (kept ne)
+
+  pub memory-kept : (n ≡ 0 → ⊥) → w .memory ≡ after x w .memory
+  memory-kept ne = ap (λ (y : Lent). y .memory) (kept ne)
+
+  -- or one of the two, as the number says
+  pub state-either : {s : List ℕ} → s ≡ pick (n =? 0) (does x w .state) (w .state) → s ≡ after x w .state
+  unfolding after
+  state-either f = f ∙ go (n =? 0) ∙ ap (λ k. pick (k =? 0) (does x w) w .state) e
+    where
+      go : (t : Bool) → pick t (does x w .state) (w .state) ≡ pick t (does x w) w .state
+      go true = refl
+      go false = refl
+
+  pub memory-either : {m : List ℕ} → m ≡ pick (n =? 0) (does x w .memory) (w .memory) → m ≡ after x w .memory
+  unfolding after
+  memory-either f = f ∙ go (n =? 0) ∙ ap (λ k. pick (k =? 0) (does x w) w .memory) e
+    where
+      go : (t : Bool) → pick t (does x w .memory) (w .memory) ≡ pick t (does x w) w .memory
+      go true = refl
+      go false = refl
+
+  pub state-written : {s : List ℕ} → n ≡ 0 → s ≡ does x w .state → s ≡ after x w .state
+  state-written z f = f ∙ ap (λ (y : Lent). y .state) (written z)
+
+  pub memory-written : {m : List ℕ} → n ≡ 0 → m ≡ does x w .memory → m ≡ after x w .memory
+  memory-written z f = f ∙ ap (λ (y : Lent). y .memory) (written z)
 
 -- the memory with a word stored
 pub stored-is : (s m : List ℕ) (node address w : ℕ) {after : List ℕ} {r : ℕ}
@@ -74,6 +106,12 @@ then-stop number rest l e = then-first rest (unless-no number e) (λ z. omega ar
 
 pub then-on : (number : ℕ) {test : Bool} {rest v : ℕ} → test ≡ true → v ≡ rest → v ≡ (unless number test then rest)
 then-on number e r = then-next (zero-unless number e) r
+
+-- a number of 12 and 13 is the start's number
+pub start-early : {n : ℕ} (s : List ℕ) (circuit read write count kind : ℕ) → n ≡ stateNumber s → (n ≡ 0 → ⊥)
+    → n ≡ startNumber s circuit read write count kind
+unfolding startNumber
+start-early s circuit read write count kind e ne = then-first _ e ne
 
 -- a register that is read as 0, or not
 pub none-there : {r x : ℕ} → r ≡ x → r ≡ 0 → not (1 ≤? x) ≡ true

@@ -1,6 +1,7 @@
 -- The answers of the calls, one to one with their numbers and values.
 use Prim.Native.Nat.{ℕ, zero, suc}
 use Rattle.network.specs.View.{Landing, nothing, landed}
+use Rattle.session.specs.Calls.{Lent, ask, fetch, left, periodNumber, landed as whatLanded, number, fetched, wordsLeft, periodNumberIn, lastLanding}
 use Rattle.session.specs.declared.Answer.{Answer}
 use Rattle.session.specs.declared.Answer.the-variants.{Done, Refused}
 use Rattle.session.specs.declared.Found.{Found}
@@ -28,3 +29,16 @@ abbrev pub landedOf : ℕ → Landing → Landed
 landedOf zero nothing = Nothing
 landedOf zero (landed kind address w) = LandedWord kind address w
 landedOf (suc n) landing = LandedRefused (suc n)
+
+-- what each question answers
+abbrev pub leftAnswer : Lent → ℕ → Found
+leftAnswer w circuit = foundOf (number (ask (left circuit)) w) (wordsLeft (w .state) circuit)
+
+abbrev pub fetchAnswer : Lent → ℕ → ℕ → Found
+fetchAnswer w node address = foundOf (number (ask (fetch node address)) w) (fetched (w .state) (w .memory) node address)
+
+abbrev pub periodAnswer : Lent → Found
+periodAnswer w = foundOf (number (ask periodNumber) w) (periodNumberIn (w .state))
+
+abbrev pub landedAnswer : Lent → ℕ → Landed
+landedAnswer w node = landedOf (number (ask (whatLanded node)) w) (lastLanding (w .state) node)

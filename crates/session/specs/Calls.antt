@@ -2,7 +2,7 @@
 -- words afterwards.
 use Prim.Native.Nat.{ℕ, _+_, _-_, _*_, _%_}
 use mathlib.Core.Bool.{Bool, true, false, not}
-use mathlib.Core.List.{List, _∷_, _++_}
+use mathlib.Core.List.{List, [], _∷_, _++_}
 use lib.ListN.{length, drop, set}
 use Rattle.words.specs.Tests.{_and_, _or_, _≤?_, _<?_, _=?_}
 use Rattle.words.specs.Words.{word, pick, tab}
@@ -11,8 +11,10 @@ use Rattle.packet.specs.Header.{dataKind}
 use Rattle.sheet.specs.Sheet.{memoryWords, circuits, schedules, nodes, circuitAt}
 use Rattle.sheet.specs.Rules.{verdict}
 use Rattle.network.specs.View.{Landing}
-use Rattle.network.specs.Registers.{reg, put, sheetIn, room, movingWords, stateWords, clockRow, numberPlace, orderMarkPlace, orderSchedulePlace, orderPeriodPlace, landingMark, landingKind, landingAddress, landingWord, leftRow, readRow, writeRow, kindRow}
-use Rattle.network.specs.Inner.Machine.{faultyIn, nextState, nextMemory}
+use Rattle.network.specs.Registers.{reg, put, sheetIn, room, movingWords, stateWords, clockRow, numberPlace, orderMarkPlace, orderSchedulePlace}
+use Rattle.network.specs.Registers.{orderPeriodPlace, landingMark, landingKind, landingAddress, landingWord, leftRow, readRow, writeRow, kindRow}
+use Rattle.network.specs.Inner.Machine.{nextState, nextMemory}
+use Rattle.network.specs.OneMachine.{cycleFault}
 use Rattle.network.specs.Seen.{seenLanding}
 use Rattle.soundness.specs.Sound.{sound, kindTravels, liesIn}
 
@@ -77,7 +79,7 @@ orderNumber s schedule period =
 
 -- cycle: no fault (20)
 unfoldable pub cycleNumber : List ℕ → List ℕ → ℕ
-cycleNumber s m = memoryNumber s m then unless 20 (not (faultyIn s))
+cycleNumber s m = memoryNumber s m then cycleFault s
 
 -- the state after a load: every moving word is 0, then the sheet with its length; what lies behind stays
 unfoldable pub loaded : List ℕ → List ℕ → List ℕ
@@ -108,10 +110,16 @@ unfoldable pub lastLanding : List ℕ → ℕ → Landing
 lastLanding s node =
     seenLanding (reg s landingMark node) (reg s landingKind node) (reg s landingAddress node) (reg s landingWord node)
 
--- what is lent to a session's calls
+-- what is lent to a session's calls; those that are lent the state alone do not depend on a memory (proofs/AloneLaws)
 pub record Lent : Type 0 where
   pub state : List ℕ
   pub memory : List ℕ
+
+abbrev pub lend : List ℕ → List ℕ → Lent
+lend s m = record { state = s; memory = m }
+
+abbrev pub lendState : List ℕ → Lent
+lendState s = lend s []
 
 -- a call that only asks: the word at a node's address, words left of a circuit, the period number, what landed at a node
 pub data Question : Type 0 where

@@ -1,9 +1,6 @@
 // The cycle, on any lent words and on words that are known to be sound.
 ghost use mathlib.Core.Path.{_≡_};
-ghost use Rattle.words.specs.Tests.{_=?_};
-ghost use Rattle.words.specs.Words.{pick};
-ghost use Rattle.network.specs.Inner.Machine.{nextState, nextMemory};
-ghost use Rattle.session.specs.Calls.{memoryNumber, cycleNumber};
+ghost use Rattle.session.specs.Calls.{memoryNumber, lend, cycle, number, after};
 ghost use Rattle.session.specs.Answers.{answerOf};
 use crate::Answer;
 
@@ -11,21 +8,22 @@ use crate::Answer;
 // words that passed and need not test them again.
 pub fn cycle_sound(s: &mut [u32], m: &mut [u32]) -> Answer
     requires { ⌜ memoryNumber (now s) (now m) ≡ 0 ⌝ }
-    ensures answer { λ r. ⌜ r ≡ answerOf (cycleNumber (now (s .entry)) (now (m .entry))) ⌝ }
-    ensures state { λ _. ⌜ now (s .exit) ≡ pick (cycleNumber (now (s .entry)) (now (m .entry)) =? 0) (nextState (now (s .entry)) (now (m .entry))) (now (s .entry)) ⌝ }
-    ensures memory { λ _. ⌜ now (m .exit) ≡ pick (cycleNumber (now (s .entry)) (now (m .entry)) =? 0) (nextMemory (now (s .entry)) (now (m .entry))) (now (m .entry)) ⌝ }
+    ensures answer { λ r. ⌜ r ≡ answerOf (number cycle (lend (now (s .entry)) (now (m .entry)))) ⌝ }
+    ensures state { λ _. ⌜ now (s .exit) ≡ after cycle (lend (now (s .entry)) (now (m .entry))) .state ⌝ }
+    ensures memory { λ _. ⌜ now (m .exit) ≡ after cycle (lend (now (s .entry)) (now (m .entry))) .memory ⌝ }
 {
-    if machine::step(s, m) {
-        return Answer::Refused(20);
+    let fault = machine::step(s, m);
+    if fault != 0 {
+        return Answer::Refused(fault);
     }
     Answer::Done
 }
 
 // One clock cycle.
 pub fn cycle(s: &mut [u32], m: &mut [u32]) -> Answer
-    ensures answer { λ r. ⌜ r ≡ answerOf (cycleNumber (now (s .entry)) (now (m .entry))) ⌝ }
-    ensures state { λ _. ⌜ now (s .exit) ≡ pick (cycleNumber (now (s .entry)) (now (m .entry)) =? 0) (nextState (now (s .entry)) (now (m .entry))) (now (s .entry)) ⌝ }
-    ensures memory { λ _. ⌜ now (m .exit) ≡ pick (cycleNumber (now (s .entry)) (now (m .entry)) =? 0) (nextMemory (now (s .entry)) (now (m .entry))) (now (m .entry)) ⌝ }
+    ensures answer { λ r. ⌜ r ≡ answerOf (number cycle (lend (now (s .entry)) (now (m .entry)))) ⌝ }
+    ensures state { λ _. ⌜ now (s .exit) ≡ after cycle (lend (now (s .entry)) (now (m .entry))) .state ⌝ }
+    ensures memory { λ _. ⌜ now (m .exit) ≡ after cycle (lend (now (s .entry)) (now (m .entry))) .memory ⌝ }
 {
     let number = crate::reading::memory_number(s, m);
     if number != 0 {

@@ -18,6 +18,7 @@ pub use reading::what_landed;
 pub use reading::words_left;
 pub use writing::order;
 pub use writing::start;
+pub use writing::start_sound;
 pub use writing::store;
 
 // A call that has no value: carried out, or refused with a number of document 01.

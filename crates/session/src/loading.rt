@@ -1,26 +1,14 @@
 // Load: a sheet that passes is put into the lent state, and every moving word becomes 0. A refusal writes nothing.
 ghost use mathlib.Core.Path.{_≡_};
 ghost use mathlib.Core.List.{_++_};
-ghost use Prim.Native.Nat.{ℕ, _+_, _*_, _≤_};
+ghost use Prim.Native.Nat.{ℕ, _+_, _≤_};
 ghost use lib.ListN.{length, drop};
 ghost use lib.Seq.{paste};
-ghost use Rattle.words.specs.Tests.{_=?_};
-ghost use Rattle.words.specs.Words.{pick, tab};
-ghost use Rattle.sheet.specs.Sheet.{memoryWords, nodes};
-ghost use Rattle.sheet.specs.Rules.{verdict};
+ghost use Rattle.words.specs.Words.{tab};
 ghost use Rattle.network.specs.Registers.{stateWords, sheetWords};
-ghost use Rattle.session.specs.Calls.{loadNumber, loaded};
+ghost use Rattle.session.specs.Calls.{loadNumber, loaded, lend, load, number, after};
 ghost use Rattle.session.specs.Answers.{answerOf};
 use crate::Answer;
-
-// Memory words of all nodes of a sheet; load_number asks only where the sheet passes, so that the product is small.
-fn words_wanted(sheet: &[u32]) -> u32
-    requires { ⌜ verdict (now sheet) ≡ 0 ⌝ }
-    ensures { λ r. ⌜ r ≡ nodes (now (sheet .entry)) * memoryWords (now (sheet .entry)) ⌝ }
-{
-    let nodes = words::get(sheet, 0) * words::get(sheet, 1);
-    nodes * words::get(sheet, 2)
-}
 
 // The number that a load answers.
 pub fn load_number(sheet: &[u32], s: &[u32], m: &[u32]) -> u32
@@ -33,7 +21,7 @@ pub fn load_number(sheet: &[u32], s: &[u32], m: &[u32]) -> u32
     if s.len() < network::STATE_WORDS {
         return 12;
     }
-    if m.len() == words_wanted(sheet) as usize {
+    if m.len() == sheet::whole_memory_of(sheet) as usize {
         return 0;
     }
     14
@@ -75,8 +63,8 @@ fn put_sheet(sheet: &[u32], s: &mut [u32])
 
 // Loads a sheet.
 pub fn load(sheet: &[u32], s: &mut [u32], m: &[u32]) -> Answer
-    ensures answer { λ r. ⌜ r ≡ answerOf (loadNumber (now (sheet .entry)) (now (s .entry)) (now (m .entry))) ⌝ }
-    ensures state { λ _. ⌜ now (s .exit) ≡ pick (loadNumber (now (sheet .entry)) (now (s .entry)) (now (m .entry)) =? 0) (loaded (now (sheet .entry)) (now (s .entry))) (now (s .entry)) ⌝ }
+    ensures answer { λ r. ⌜ r ≡ answerOf (number (load (now (sheet .entry))) (lend (now (s .entry)) (now (m .entry)))) ⌝ }
+    ensures state { λ _. ⌜ now (s .exit) ≡ after (load (now (sheet .entry))) (lend (now (s .entry)) (now (m .entry))) .state ⌝ }
 {
     let number = load_number(sheet, s, m);
     if number != 0 {

@@ -3,8 +3,8 @@ ghost use mathlib.Core.Path.{_≡_};
 ghost use Prim.Native.Nat.{_*_};
 ghost use Rattle.sheet.specs.Sheet.{nodes};
 ghost use Rattle.network.specs.Registers.{sheetIn, room};
-ghost use Rattle.session.specs.Calls.{stateNumber, memoryNumber, placeNumber, leftNumber, landedNumber, fetched, wordsLeft, periodNumberIn, lastLanding};
-ghost use Rattle.session.specs.Answers.{foundOf, landedOf};
+ghost use Rattle.session.specs.Calls.{stateNumber, memoryNumber, placeNumber, leftNumber, landedNumber, lastLanding, lend, lendState};
+ghost use Rattle.session.specs.Answers.{foundOf, landedOf, leftAnswer, fetchAnswer, periodAnswer, landedAnswer};
 use crate::Found;
 use crate::Landed;
 
@@ -26,15 +26,14 @@ fn nodes_of(s: &[u32]) -> u32
     requires { ⌜ stateNumber (now s) ≡ 0 ⌝ }
     ensures { λ r. ⌜ r ≡ nodes (sheetIn (now (s .entry))) ⌝ }
 {
-    let z = network::sheet_of(s);
-    words::get(z, 0) * words::get(z, 1)
+    sheet::nodes_of(network::sheet_of(s))
 }
 
 // Memory words of a node.
 pub fn room_of(s: &[u32]) -> u32
     ensures { λ r. ⌜ r ≡ room (now (s .entry)) ⌝ }
 {
-    words::get(network::sheet_of(s), 2)
+    sheet::memory_of(network::sheet_of(s))
 }
 
 // Memory words of all nodes.
@@ -42,7 +41,7 @@ fn memory_words(s: &[u32]) -> u32
     requires { ⌜ stateNumber (now s) ≡ 0 ⌝ }
     ensures { λ r. ⌜ r ≡ nodes (sheetIn (now (s .entry))) * room (now (s .entry)) ⌝ }
 {
-    nodes_of(s) * room_of(s)
+    sheet::whole_memory_of(network::sheet_of(s))
 }
 
 // 12 to 14, where memory is lent too.
@@ -84,7 +83,7 @@ fn left_number(s: &[u32], circuit: u32) -> u32
     if number != 0 {
         return number;
     }
-    if circuit < words::get(network::sheet_of(s), 3) {
+    if circuit < sheet::circuits_of(network::sheet_of(s)) {
         return 0;
     }
     15
@@ -116,7 +115,7 @@ fn found_of(number: u32, word: u32) -> Found
 
 // How many words of a circuit's transfer are left.
 pub fn words_left(s: &[u32], circuit: u32) -> Found
-    ensures { λ r. ⌜ r ≡ foundOf (leftNumber (now (s .entry)) circuit) (wordsLeft (now (s .entry)) circuit) ⌝ }
+    ensures { λ r. ⌜ r ≡ leftAnswer (lendState (now (s .entry))) circuit ⌝ }
 {
     found_of(
         left_number(s, circuit),
@@ -126,7 +125,7 @@ pub fn words_left(s: &[u32], circuit: u32) -> Found
 
 // The number of the present period.
 pub fn period_number(s: &[u32]) -> Found
-    ensures { λ r. ⌜ r ≡ foundOf (stateNumber (now (s .entry))) (periodNumberIn (now (s .entry))) ⌝ }
+    ensures { λ r. ⌜ r ≡ periodAnswer (lendState (now (s .entry))) ⌝ }
 {
     found_of(
         state_number(s),
@@ -153,7 +152,7 @@ pub fn landing_at(s: &[u32], node: u32) -> Landed
 
 // What landed at a node in the last cycle.
 pub fn what_landed(s: &[u32], node: u32) -> Landed
-    ensures { λ r. ⌜ r ≡ landedOf (landedNumber (now (s .entry)) node) (lastLanding (now (s .entry)) node) ⌝ }
+    ensures { λ r. ⌜ r ≡ landedAnswer (lendState (now (s .entry))) node ⌝ }
 {
     let number = landed_number(s, node);
     if number != 0 {
@@ -164,7 +163,7 @@ pub fn what_landed(s: &[u32], node: u32) -> Landed
 
 // The word at a node's address. Two words' product fits, so the place is reckoned before it is tested.
 pub fn fetch(s: &[u32], m: &[u32], node: u32, address: u32) -> Found
-    ensures { λ r. ⌜ r ≡ foundOf (placeNumber (now (s .entry)) (now (m .entry)) node address) (fetched (now (s .entry)) (now (m .entry)) node address) ⌝ }
+    ensures { λ r. ⌜ r ≡ fetchAnswer (lend (now (s .entry)) (now (m .entry))) node address ⌝ }
 {
     let place = (node as usize) * (room_of(s) as usize) + (address as usize);
     found_of(place_number(s, m, node, address), words::get(m, place))

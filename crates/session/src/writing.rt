@@ -1,8 +1,6 @@
 // The calls that write without a cycle: store, order and start. A refusal writes nothing.
 ghost use mathlib.Core.Path.{_≡_};
-ghost use Rattle.words.specs.Tests.{_=?_};
-ghost use Rattle.words.specs.Words.{pick};
-ghost use Rattle.session.specs.Calls.{placeNumber, stored, orderNumber, ordered, startNamed, startFits, startNumber, started};
+ghost use Rattle.session.specs.Calls.{stateNumber, orderNumber, ordered, startNamed, startFits, startNumber, started, lend, lendState, start, store, order, number, after};
 ghost use Rattle.session.specs.Answers.{answerOf};
 use crate::Answer;
 use network::put_reg;
@@ -11,8 +9,8 @@ use sheet::Circuit;
 
 // Stores a word at a node's address; the place is reckoned in 64 bits, so that it cannot wrap.
 pub fn store(s: &[u32], m: &mut [u32], node: u32, address: u32, word: u32) -> Answer
-    ensures answer { λ r. ⌜ r ≡ answerOf (placeNumber (now (s .entry)) (now (m .entry)) node address) ⌝ }
-    ensures memory { λ _. ⌜ now (m .exit) ≡ pick (placeNumber (now (s .entry)) (now (m .entry)) node address =? 0) (stored (now (s .entry)) (now (m .entry)) node address word) (now (m .entry)) ⌝ }
+    ensures answer { λ r. ⌜ r ≡ answerOf (number (store node address word) (lend (now (s .entry)) (now (m .entry)))) ⌝ }
+    ensures memory { λ _. ⌜ now (m .exit) ≡ after (store node address word) (lend (now (s .entry)) (now (m .entry))) .memory ⌝ }
 {
     let number = crate::reading::place_number(s, m, node, address);
     if number != 0 {
@@ -31,7 +29,7 @@ pub fn order_number(s: &[u32], schedule: u32, period: u32) -> u32
     if number != 0 {
         return number;
     }
-    if schedule >= words::get(network::sheet_of(s), 4) {
+    if schedule >= sheet::schedules_of(network::sheet_of(s)) {
         return 15;
     }
     if reg(s, network::CLOCK_ROW, network::ORDER_MARK_PLACE) != 0 {
@@ -66,8 +64,8 @@ fn put_order(s: &mut [u32], schedule: u32, period: u32)
 
 // Orders a schedule for a period.
 pub fn order(s: &mut [u32], schedule: u32, period: u32) -> Answer
-    ensures answer { λ r. ⌜ r ≡ answerOf (orderNumber (now (s .entry)) schedule period) ⌝ }
-    ensures state { λ _. ⌜ now (s .exit) ≡ pick (orderNumber (now (s .entry)) schedule period =? 0) (ordered (now (s .entry)) schedule period) (now (s .entry)) ⌝ }
+    ensures answer { λ r. ⌜ r ≡ answerOf (number (order schedule period) (lendState (now (s .entry)))) ⌝ }
+    ensures state { λ _. ⌜ now (s .exit) ≡ after (order schedule period) (lendState (now (s .entry))) .state ⌝ }
 {
     let number = order_number(s, schedule, period);
     if number != 0 {
@@ -81,7 +79,7 @@ pub fn order(s: &mut [u32], schedule: u32, period: u32) -> Answer
 fn start_named(s: &[u32], circuit: u32, read: u32, write: u32, kind: u32) -> bool
     ensures { λ r. ⌜ r ≡ startNamed (now (s .entry)) circuit read write kind ⌝ }
 {
-    if circuit >= words::get(network::sheet_of(s), 3) {
+    if circuit >= sheet::circuits_of(network::sheet_of(s)) {
         return false;
     }
     let room = crate::reading::room_of(s);
@@ -113,14 +111,11 @@ fn start_fits(s: &[u32], circuit: u32, read: u32, write: u32, count: u32, kind: 
     false
 }
 
-// The number that a start answers.
-pub fn start_number(s: &[u32], circuit: u32, read: u32, write: u32, count: u32, kind: u32) -> u32
+// The number that a start answers on a state that has passed 12 and 13.
+fn start_number(s: &[u32], circuit: u32, read: u32, write: u32, count: u32, kind: u32) -> u32
+    requires { ⌜ stateNumber (now s) ≡ 0 ⌝ }
     ensures { λ r. ⌜ r ≡ startNumber (now (s .entry)) circuit read write count kind ⌝ }
 {
-    let number = crate::reading::state_number(s);
-    if number != 0 {
-        return number;
-    }
     if start_named(s, circuit, read, write, kind) {
         if start_fits(s, circuit, read, write, count, kind) {
             if reg(s, network::LEFT_ROW, circuit) == 0 {
@@ -143,10 +138,19 @@ fn put_start(s: &mut [u32], circuit: u32, read: u32, write: u32, count: u32, kin
     put_reg(s, network::KIND_ROW, circuit, kind);
 }
 
-// Starts a transfer on a circuit.
-pub fn start(s: &mut [u32], circuit: u32, read: u32, write: u32, count: u32, kind: u32) -> Answer
-    ensures answer { λ r. ⌜ r ≡ answerOf (startNumber (now (s .entry)) circuit read write count kind) ⌝ }
-    ensures state { λ _. ⌜ now (s .exit) ≡ pick (startNumber (now (s .entry)) circuit read write count kind =? 0) (started (now (s .entry)) circuit read write count kind) (now (s .entry)) ⌝ }
+// Starts a transfer on a state that has passed 12 and 13, which a start that is carried out leaves so (sound-kept): loops of ours begin with
+// a state that passed and need not test it again.
+pub fn start_sound(
+    s: &mut [u32],
+    circuit: u32,
+    read: u32,
+    write: u32,
+    count: u32,
+    kind: u32,
+) -> Answer
+    requires { ⌜ stateNumber (now s) ≡ 0 ⌝ }
+    ensures answer { λ r. ⌜ r ≡ answerOf (number (start circuit read write count kind) (lendState (now (s .entry)))) ⌝ }
+    ensures state { λ _. ⌜ now (s .exit) ≡ after (start circuit read write count kind) (lendState (now (s .entry))) .state ⌝ }
 {
     let number = start_number(s, circuit, read, write, count, kind);
     if number != 0 {
@@ -154,4 +158,16 @@ pub fn start(s: &mut [u32], circuit: u32, read: u32, write: u32, count: u32, kin
     }
     put_start(s, circuit, read, write, count, kind);
     Answer::Done
+}
+
+// Starts a transfer on a circuit.
+pub fn start(s: &mut [u32], circuit: u32, read: u32, write: u32, count: u32, kind: u32) -> Answer
+    ensures answer { λ r. ⌜ r ≡ answerOf (number (start circuit read write count kind) (lendState (now (s .entry)))) ⌝ }
+    ensures state { λ _. ⌜ now (s .exit) ≡ after (start circuit read write count kind) (lendState (now (s .entry))) .state ⌝ }
+{
+    let number = crate::reading::state_number(s);
+    if number != 0 {
+        return Answer::Refused(number);
+    }
+    start_sound(s, circuit, read, write, count, kind)
 }

@@ -5,23 +5,15 @@ use mathlib.Core.Bool.{Bool, true, false}
 use mathlib.Core.List.{List}
 use mathlib.Core.Path.{_≡_, refl, sym, _∙_, ap, ap₂, subst}
 use native.Mathlib.Omega.{arith}
-use native.Mathlib.Nat.{mul-le-mul}
 use Rattle.words.specs.Tests.{_and_, _≤?_, _<?_}
 use Rattle.words.specs.Words.{word}
 use Rattle.words.proofs.TestLaws.{and-no, and-on, or-yes, or-on, or-skip, yes≤, no≤, yes<, no<, yes=, no=, yes≠, no≠}
 use Rattle.sheet.specs.declared.circuits.Region.{Region}
 use Rattle.sheet.specs.declared.circuits.Circuit.{Circuit}
-use Rattle.sheet.specs.Sheet.{columns, rows, circuits, nodes, memoryWords, circuitAt}
+use Rattle.sheet.specs.Sheet.{circuits, nodes, memoryWords, circuitAt}
 use Rattle.sheet.specs.Rules.{regionFits, circuitFits, precedes, apart, receiveApart, rule4}
-use Rattle.sheet.specs.Inner.Passed.{Headed, Framed, CircuitSmall}
+use Rattle.sheet.specs.Inner.Passed.{Framed, CircuitSmall}
 use Rattle.sheet.proofs.PassedLaws.{circuit-small}
-
--- a grid has at most sixteen nodes
-pub nodes-few : (z : List ℕ) → Headed z → (a b : ℕ) → a ≡ columns z → b ≡ rows z → a * b ≤ 16
-nodes-few z h a b p q =
-    let wide : a ≤ 4 = omega arith in
-    let high : b ≤ 4 = omega arith in
-    mul-le-mul wide high
 
 -- a circuit, from its six words
 pub circuit-is : (z : List ℕ) (k : ℕ) {source readOffset readSize destination receiveOffset receiveSize : ℕ}

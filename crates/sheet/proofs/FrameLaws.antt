@@ -15,7 +15,7 @@ use Rattle.words.proofs.TestLaws.{and-no, and-skip, and-both, and-left, and-rig
 use Rattle.words.proofs.AllLaws.{all-at}
 use Rattle.sheet.specs.declared.frame.Place.{Place}
 use Rattle.sheet.specs.declared.frame.Place.the-variants.{At, Nowhere}
-use Rattle.sheet.specs.Sheet.{circuits, schedules, statedEntries, schedulePlace, nextPlace, period, entriesAt, entriesOf}
+use Rattle.sheet.specs.Sheet.{circuits, schedules, statedEntries, schedulePlace, nextPlace, period, entriesOf}
 use Rattle.sheet.specs.Inner.Frame.{placeAfter}
 use Rattle.sheet.specs.Rules.{scheduleFits, rule3}
 use Rattle.sheet.specs.Inner.Passed.{Placed}
@@ -127,4 +127,4 @@ pub part-is : (z : List ℕ) (j at n : ℕ) → at ≡ schedulePlace z j → n �
     → take (at + 2 + 4 * n - (at + 2)) (drop (at + 2) z) ≡ entriesOf z j
 unfolding entriesOf
 part-is z j at n e q =
-    ap (λ (k : ℕ). take k (drop (at + 2) z)) (add-sub-cancel-left (at + 2) (4 * n) ∙ ap (λ (k : ℕ). 4 * k) q) ∙ ap (entriesAt z) e
+    ap (λ (k : ℕ). take k (drop (at + 2) z)) (add-sub-cancel-left (at + 2) (4 * n) ∙ ap (λ (k : ℕ). 4 * k) q) ∙ ap (λ (p : ℕ). take (4 * statedEntries z p) (drop (p + 2) z)) e

@@ -2,4 +2,5 @@ pub mod FrameLaws
 pub mod CircuitLaws
 pub mod EntryLaws
 pub mod PassedLaws
+pub mod TimeLaws
 pub mod VerdictLaws

@@ -3,13 +3,14 @@
 use Prim.Native.Nat.{ℕ, _*_, _<_, _≤_}
 use mathlib.Core.Bool.{true}
 use mathlib.Core.List.{List}
-use mathlib.Core.Path.{_≡_, sym, subst}
+use mathlib.Core.Path.{_≡_, sym, subst, _∙_, ap, ap₂}
 use native.Mathlib.Omega.{arith}
+use native.Mathlib.Nat.{mul-le-mul}
 use lib.ListN.{length, length-take, length-drop}
 use Rattle.words.specs.Tests.{between}
 use Rattle.words.proofs.TestLaws.{and-left, and-right, is≤, is<}
 use Rattle.words.proofs.AllLaws.{all-at}
-use Rattle.torus.specs.Torus.{InGrid}
+use Rattle.torus.specs.Inner.Grid.{InGrid}
 use Rattle.sheet.specs.Sheet.{columns, rows, memoryWords, circuits, schedules, nodes, circuitAt}
 use Rattle.sheet.specs.Sheet.{statedEntries, schedulePlace, period, entriesOf, entryCount, entryAt}
 use Rattle.sheet.specs.Rules.{rule1, rule2, rule3, regionFits, circuitFits, rule4, eachEntry, entryFits, rule7At, rule7}
@@ -36,6 +37,18 @@ headed z h r =
       schedules-low = is≤ _ _ (and-left _ _ r₄);
       schedules-high = is≤ _ _ (and-right _ _ r₄);
     }
+
+-- the nodes, from the columns and the rows as they were read
+pub nodes-are : {a b : ℕ} {z y : List ℕ} → a ≡ columns z → b ≡ rows z → z ≡ y → a * b ≡ nodes y
+nodes-are e f g = ap₂ _*_ e f ∙ ap nodes g
+
+-- a grid has at most sixteen nodes
+pub nodes-few : (z : List ℕ) → Headed z → nodes z ≤ 16
+nodes-few z h = mul-le-mul {n₁ = columns z} {m₁ = rows z} {n₂ = 4} {m₂ = 4} (h .columns-high) (h .rows-high)
+
+-- and few memory words in all
+pub memory-few : (z : List ℕ) → Headed z → nodes z * memoryWords z ≤ 262144
+memory-few z h = mul-le-mul {n₁ = nodes z} {m₁ = memoryWords z} {n₂ = 16} {m₂ = 16384} (nodes-few z h) (h .memory-high)
 
 -- rule 3: the circuits lie within the sheet, since the first schedule begins behind them
 pub framed : (z : List ℕ) → Headed z → rule3 z ≡ true → Framed z

@@ -1,5 +1,6 @@
 pub mod Sheet
 pub mod Wires
 pub mod Slots
+pub mod Flight
 pub mod Rules
 pub mod Inner

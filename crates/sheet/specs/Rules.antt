@@ -5,12 +5,13 @@ use mathlib.Core.List.{List, [], _∷_, _++_}
 use mathlib.Core.Bool.{Bool, true, false, not}
 use lib.ListN.{length}
 use Rattle.words.specs.Tests.{all, between, _and_, _or_, _≤?_, _<?_, _=?_, _≠?_}
-use Rattle.torus.specs.Torus.{distanceOf}
 use Rattle.torus.specs.Route.{Use, Route, leads, nowhere, routeFrom, routerCycles}
 use Rattle.sheet.specs.declared.circuits.Region.{Region}
 use Rattle.sheet.specs.declared.circuits.Circuit.{Circuit}
 use Rattle.sheet.specs.declared.entries.Entry.{Entry}
 use Rattle.sheet.specs.Sheet.{columns, rows, memoryWords, circuits, schedules, nodes, circuitAt, statedEntries, schedulePlace, period, entriesOf, entryCount, entryAt}
+use Rattle.sheet.specs.Slots.{sourceOf, destinationOf}
+use Rattle.sheet.specs.Flight.{hopsOf}
 use Rattle.sheet.specs.Wires.{WireCycle, occupied, meet}
 
 -- Number 1: the sheet has its five head words.
@@ -99,7 +100,7 @@ rule8 z = all (schedules z) (rule8At z)
 
 -- where an entry's route leads from its circuit's source
 unfoldable pub entryRoute : List ℕ → Entry → Route
-entryRoute z e = routeFrom (columns z) (rows z) (circuitAt z (e .circuit) .read .node) (e .route)
+entryRoute z e = routeFrom (columns z) (rows z) (sourceOf z (e .circuit)) (e .route)
 
 -- a route leads to a node in at most so many hops
 abbrev pub reaches : Route → ℕ → ℕ → Bool
@@ -108,9 +109,7 @@ reaches nowhere to most = false
 
 -- Number 9: each route leads to its circuit's destination with no bits left, in no more hops than the distance.
 unfoldable pub entryLeads : List ℕ → Entry → Bool
-entryLeads z e =
-    reaches (entryRoute z e) (circuitAt z (e .circuit) .receive .node)
-    (distanceOf (columns z) (rows z) (circuitAt z (e .circuit) .read .node) (circuitAt z (e .circuit) .receive .node))
+entryLeads z e = reaches (entryRoute z e) (destinationOf z (e .circuit)) (hopsOf z (e .circuit))
 
 unfoldable pub rule9 : List ℕ → Bool
 rule9 z = all (schedules z) (λ j. eachEntry z j (entryLeads z))

@@ -11,7 +11,7 @@ use Rattle.sheet.specs.declared.entries.Entry.{Entry}
 abbrev pub columns : List ℕ → ℕ
 columns z = word z 0
 
-abbrev pub rows : List ℕ → ℕ
+unfoldable pub rows : List ℕ → ℕ
 rows z = word z 1
 
 abbrev pub memoryWords : List ℕ → ℕ
@@ -25,6 +25,10 @@ schedules z = word z 4
 
 abbrev pub nodes : List ℕ → ℕ
 nodes z = columns z * rows z
+
+-- the most words that a sheet can have: a head, 64 circuits, and 8 schedules of 256 entries
+abbrev pub sheetWords : ℕ
+sheetWords = 5 + 6 * 64 + 8 * (2 + 4 * 256)
 
 -- circuit k, six words behind the head: source, destination, read offset, read length, receive offset, receive length
 unfoldable pub circuitAt : List ℕ → ℕ → Circuit
@@ -50,12 +54,9 @@ schedulePlace z (suc j) = nextPlace z (schedulePlace z j)
 abbrev pub period : List ℕ → ℕ → ℕ
 period z j = word z (schedulePlace z j)
 
--- the entries at a place, and those of schedule j: a part of the sheet
-abbrev pub entriesAt : List ℕ → ℕ → List ℕ
-entriesAt z place = take (4 * statedEntries z place) (drop (place + 2) z)
-
+-- the entries of schedule j: a part of the sheet
 unfoldable pub entriesOf : List ℕ → ℕ → List ℕ
-entriesOf z j = entriesAt z (schedulePlace z j)
+entriesOf z j = take (4 * statedEntries z (schedulePlace z j)) (drop (schedulePlace z j + 2) z)
 
 -- how many entries such a part has
 abbrev pub entryCount : List ℕ → ℕ

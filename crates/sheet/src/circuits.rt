@@ -6,6 +6,9 @@ ghost use Rattle.words.specs.Tests.{all};
 ghost use Rattle.sheet.specs.Sheet.{circuits, circuitAt};
 ghost use Rattle.sheet.specs.Rules.{regionFits, circuitFits, circuitPrecedes, precedes, apart, receiveApart, rule4, rule5, rule6};
 ghost use Rattle.sheet.specs.Inner.Passed.{Headed, Framed};
+use super::head::circuits_of;
+use super::head::memory_of;
+use super::head::nodes_of;
 
 // A region of a node's memory.
 pub struct Region {
@@ -117,9 +120,9 @@ pub fn keeps_rule4(z: &[u32]) -> bool
     requires { ⌜ Framed (now z) ⌝ }
     ensures { λ r. ⌜ r ≡ rule4 (now (z .entry)) ⌝ }
 {
-    let nodes = words::get(z, 0) * words::get(z, 1);
-    let memory = words::get(z, 2);
-    let count = words::get(z, 3);
+    let nodes = nodes_of(z);
+    let memory = memory_of(z);
+    let count = circuits_of(z);
     let mut k: u32 = 0;
     while k < count {
         if Circuit::at(z, k).fits(nodes, memory) {
@@ -136,7 +139,7 @@ pub fn keeps_rule5(z: &[u32]) -> bool
     requires { ⌜ Framed (now z) ⌝ }
     ensures { λ r. ⌜ r ≡ rule5 (now (z .entry)) ⌝ }
 {
-    let count = words::get(z, 3);
+    let count = circuits_of(z);
     let mut k: u32 = 0;
     while k + 1 < count {
         if Circuit::at(z, k).is_before(Circuit::at(z, k + 1)) {
@@ -185,7 +188,7 @@ fn receive_apart(z: &[u32], j: u32) -> bool
     requires { ⌜ (Framed (now z)) × (rule4 (now z) ≡ true) × (j < circuits (now z)) ⌝ }
     ensures { λ r. ⌜ r ≡ all (circuits (now (z .entry))) (receiveApart (now (z .entry)) j) ⌝ }
 {
-    let count = words::get(z, 3);
+    let count = circuits_of(z);
     let own = Circuit::at(z, j);
     let receive = own.receive;
     let mut k: u32 = 0;
@@ -204,7 +207,7 @@ pub fn keeps_rule6(z: &[u32]) -> bool
     requires { ⌜ (Framed (now z)) × (rule4 (now z) ≡ true) ⌝ }
     ensures { λ r. ⌜ r ≡ rule6 (now (z .entry)) ⌝ }
 {
-    let count = words::get(z, 3);
+    let count = circuits_of(z);
     let mut j: u32 = 0;
     while j < count {
         if receive_apart(z, j) {

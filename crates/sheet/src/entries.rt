@@ -9,6 +9,8 @@ ghost use Rattle.sheet.specs.Inner.Passed.{Headed, Framed};
 use super::circuits::is_ordered;
 use super::frame::entries_of;
 use super::frame::schedule_period;
+use super::head::circuits_of;
+use super::head::schedules_of;
 
 // An entry of a schedule: the slot of a circuit, and its packets' route.
 pub struct Entry {
@@ -80,7 +82,7 @@ fn schedule_fits(z: &[u32], j: u32) -> bool
 {
     let period = schedule_period(z, j);
     if words::is_between(9, 1024, period) {
-        return entries_fit(entries_of(z, j), words::get(z, 3), period);
+        return entries_fit(entries_of(z, j), circuits_of(z), period);
     }
     false
 }
@@ -91,7 +93,7 @@ pub fn keeps_rule7(z: &[u32]) -> bool
     requires { ⌜ Framed (now z) ⌝ }
     ensures { λ r. ⌜ r ≡ rule7 (now (z .entry)) ⌝ }
 {
-    let count = words::get(z, 4);
+    let count = schedules_of(z);
     let mut j: u32 = 0;
     while j < count {
         if schedule_fits(z, j) {
@@ -124,7 +126,7 @@ pub fn keeps_rule8(z: &[u32]) -> bool
     requires { ⌜ Framed (now z) ⌝ }
     ensures { λ r. ⌜ r ≡ rule8 (now (z .entry)) ⌝ }
 {
-    let count = words::get(z, 4);
+    let count = schedules_of(z);
     let mut j: u32 = 0;
     while j < count {
         if entries_ascend(entries_of(z, j)) {

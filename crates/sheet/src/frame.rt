@@ -6,6 +6,14 @@ ghost use Rattle.sheet.specs.Sheet.{schedules, schedulePlace, period, en
 ghost use Rattle.sheet.specs.Rules.{rule1, rule2, rule3};
 ghost use Rattle.sheet.specs.Inner.Passed.{Headed, Framed, Placed};
 ghost use Rattle.sheet.specs.Inner.Frame.{placeAfter};
+use super::head::circuits_of;
+use super::head::columns_of;
+use super::head::memory_of;
+use super::head::rows_of;
+use super::head::schedules_of;
+
+// The most words that a sheet can have: a head, 64 circuits, and 8 schedules of 256 entries.
+pub const SHEET_WORDS: u32 = 5 + 6 * 64 + 8 * (2 + 4 * 256);
 
 // Where a schedule may begin.
 pub enum Place {
@@ -24,11 +32,11 @@ pub fn keeps_rule1(z: &[u32]) -> bool
 pub fn keeps_rule2(z: &[u32]) -> bool
     ensures { λ r. ⌜ r ≡ rule2 (now (z .entry)) ⌝ }
 {
-    if words::is_between(2, 4, words::get(z, 0)) {
-        if words::is_between(2, 4, words::get(z, 1)) {
-            if words::is_between(1, 16384, words::get(z, 2)) {
-                if words::is_between(0, 64, words::get(z, 3)) {
-                    return words::is_between(1, 8, words::get(z, 4));
+    if words::is_between(2, 4, columns_of(z)) {
+        if words::is_between(2, 4, rows_of(z)) {
+            if words::is_between(1, 16384, memory_of(z)) {
+                if words::is_between(0, 64, circuits_of(z)) {
+                    return words::is_between(1, 8, schedules_of(z));
                 }
             }
         }
@@ -56,8 +64,8 @@ pub fn keeps_rule3(z: &[u32]) -> bool
     requires { ⌜ Headed (now z) ⌝ }
     ensures { λ r. ⌜ r ≡ rule3 (now (z .entry)) ⌝ }
 {
-    let count = words::get(z, 4);
-    let mut at = 5 + 6 * (words::get(z, 3) as usize);
+    let count = schedules_of(z);
+    let mut at = 5 + 6 * (circuits_of(z) as usize);
     let mut j: u32 = 0;
     while j < count {
         let after = place_after(z, at);
@@ -79,7 +87,7 @@ pub fn schedule_place(z: &[u32], j: u32) -> usize
     requires { ⌜ (Framed (now z)) × (j < schedules (now z)) ⌝ }
     ensures { λ r. ⌜ (r ≡ schedulePlace (now (z .entry)) j) × Placed (now (z .entry)) r ⌝ }
 {
-    let mut at = 5 + 6 * (words::get(z, 3) as usize);
+    let mut at = 5 + 6 * (circuits_of(z) as usize);
     let mut i: u32 = 0;
     while i < j {
         at = at + 2 + 4 * (words::get(z, at + 1) as usize);

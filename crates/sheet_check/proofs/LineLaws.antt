@@ -5,41 +5,42 @@ use mathlib.Core.Bool.{Bool, true, false}
 use mathlib.Core.List.{List, [], _∷_, _++_}
 use mathlib.Core.Path.{_≡_, refl, sym, _∙_, ap}
 use native.Mathlib.Omega.{arith}
-use lib.ListN.{length, take, replicate, length-replicate, length-append}
-use lib.Seq.{length-take-le}
+use lib.ListN.{length, take, replicate, length-append}
 use Rattle.words.specs.Tests.{_<?_}
-use Rattle.words.specs.Words.{pick, tab, putAll}
+use Rattle.words.specs.Words.{pick, tab}
+use Rattle.words.specs.Inner.Puts.{putAll}
 use Rattle.words.proofs.TestLaws.{yes<, no<}
-use Rattle.words.proofs.WordLaws.{length-putAll}
+use Rattle.words.proofs.WordLaws.{length-putAll, putAll-append, putAll-front, length-zeros}
+use Rattle.sheet.specs.Sheet.{sheetWords}
 use Rattle.sheet.specs.Rules.{verdict}
 use Rattle.octets.specs.Octets.{wordIn}
 use Rattle.listing.specs.Text.{lineEnd, field, refused}
-use Rattle.listing.proofs.TextLaws.{putAll-append, putAll-front, field-short}
+use Rattle.listing.proofs.TextLaws.{field-short}
 use Rattle.checker.specs.declared.Outcome.{Outcome}
 use Rattle.checker.specs.declared.Outcome.the-variants.{Passes as PassesOutcome, Refused as RefusedOutcome}
 use Rattle.checker.specs.Answers.{outcomeOf}
 use Rattle.sheet_check.specs.declared.Line.{Line}
 use Rattle.sheet_check.specs.declared.Line.the-variants.{Passes, Refused, TooLarge, InputEnds}
-use Rattle.sheet_check.specs.Line.{mostWords, sheetOf, verdictLine, lineOf, textOf}
+use Rattle.sheet_check.specs.Line.{sheetOf, verdictLine, lineOf, textOf}
 
 module _ (b : List ℕ) where
   pub no-length : length b < 4 → InputEnds ≡ lineOf b
   unfolding lineOf
   no-length h =
-      sym (ap (λ (t : Bool). pick t InputEnds (pick (mostWords <? wordIn b 0) TooLarge (pick (length b <? 4 * (1 + wordIn b 0)) InputEnds (verdictLine (verdict (sheetOf b)))))) (yes< h))
+      sym (ap (λ (t : Bool). pick t InputEnds (pick (sheetWords <? wordIn b 0) TooLarge (pick (length b <? 4 * (1 + wordIn b 0)) InputEnds (verdictLine (verdict (sheetOf b)))))) (yes< h))
 
   module _ (h : 4 ≤ length b) (n : ℕ) (e : n ≡ wordIn b 0) where
-    has-length : pick (mostWords <? wordIn b 0) TooLarge (pick (length b <? 4 * (1 + wordIn b 0)) InputEnds (verdictLine (verdict (sheetOf b)))) ≡ lineOf b
+    has-length : pick (sheetWords <? wordIn b 0) TooLarge (pick (length b <? 4 * (1 + wordIn b 0)) InputEnds (verdictLine (verdict (sheetOf b)))) ≡ lineOf b
     unfolding lineOf
     has-length =
-        sym (ap (λ (t : Bool). pick t InputEnds (pick (mostWords <? wordIn b 0) TooLarge (pick (length b <? 4 * (1 + wordIn b 0)) InputEnds (verdictLine (verdict (sheetOf b)))))) (no< h))
+        sym (ap (λ (t : Bool). pick t InputEnds (pick (sheetWords <? wordIn b 0) TooLarge (pick (length b <? 4 * (1 + wordIn b 0)) InputEnds (verdictLine (verdict (sheetOf b)))))) (no< h))
 
-    pub too-large : mostWords < n → TooLarge ≡ lineOf b
+    pub too-large : sheetWords < n → TooLarge ≡ lineOf b
     too-large l =
         sym (ap (λ (t : Bool). pick t TooLarge (pick (length b <? 4 * (1 + wordIn b 0)) InputEnds (verdictLine (verdict (sheetOf b))))) (yes< (omega (arith, e, l))))
         ∙ has-length
 
-    module _ (l : n ≤ mostWords) where
+    module _ (l : n ≤ sheetWords) where
       small : pick (length b <? 4 * (1 + wordIn b 0)) InputEnds (verdictLine (verdict (sheetOf b))) ≡ lineOf b
       small =
           sym (ap (λ (t : Bool). pick t TooLarge (pick (length b <? 4 * (1 + wordIn b 0)) InputEnds (verdictLine (verdict (sheetOf b))))) (no< (omega (arith, e, l))))
@@ -73,12 +74,9 @@ module _ (b sheet : List ℕ) (n : ℕ) (l : n ≡ wordIn b 0) (q : sheet ≡ ta
   judged-refused k e = sym (ap lined e) ∙ judged-is
 
 -- the part of the words that a sheet needs
-pub part-length : (n m : ℕ) → n ≤ m → length {A = ℕ} (take n (replicate m 0)) ≡ n
-part-length n m h = length-take-le n (replicate m 0) (omega (arith, length-replicate {A = ℕ} m 0))
-
 pub part-ready : (n m : ℕ) (b : List ℕ) → n ≤ m → 4 * (1 + n) ≤ length b → n ≡ wordIn b 0
     → (4 * (1 + length {A = ℕ} (take n (replicate m 0))) ≤ length b) × (length {A = ℕ} (take n (replicate m 0)) ≡ wordIn b 0)
-part-ready n m b h k e = (omega (arith, part-length n m h), part-length n m h ∙ e)
+part-ready n m b h k e = (omega (arith, length-zeros n m h), length-zeros n m h ∙ e)
 
 -- `refused ` with zeros behind it, and the number put there
 pub refused-put : (n count : ℕ) (s : List ℕ) → count ≡ 8 + length (field n lineEnd)

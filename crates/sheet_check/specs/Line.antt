@@ -5,15 +5,12 @@ use mathlib.Core.List.{List, [], _∷_, _++_}
 use lib.ListN.{length}
 use Rattle.words.specs.Tests.{_<?_}
 use Rattle.words.specs.Words.{pick, tab}
+use Rattle.sheet.specs.Sheet.{sheetWords}
 use Rattle.sheet.specs.Rules.{verdict}
 use Rattle.octets.specs.Octets.{wordIn}
 use Rattle.listing.specs.Text.{lineEnd, field, tooLarge, inputEnds, refused}
 use Rattle.sheet_check.specs.declared.Line.{Line}
 use Rattle.sheet_check.specs.declared.Line.the-variants.{Passes, Refused, TooLarge, InputEnds}
-
--- the most words that a sheet can have: a head, 64 circuits, and 8 schedules of 256 entries
-abbrev pub mostWords : ℕ
-mostWords = 8597
 
 -- the sheet that follows its length
 abbrev pub sheetOf : List ℕ → List ℕ
@@ -26,7 +23,7 @@ verdictLine (suc n) = Refused (suc n)
 unfoldable pub lineOf : List ℕ → Line
 lineOf bytes =
     pick (length bytes <? 4) InputEnds
-    (pick (mostWords <? wordIn bytes 0) TooLarge
+    (pick (sheetWords <? wordIn bytes 0) TooLarge
     (pick (length bytes <? 4 * (1 + wordIn bytes 0)) InputEnds (verdictLine (verdict (sheetOf bytes)))))
 
 -- `passes`, and a line end

@@ -40,14 +40,14 @@ fn line_for(bytes: &[u8]) -> Line
         return Line::InputEnds;
     }
     let count = octets::word_in(bytes, 0);
-    if count > 8597 {
+    if count > sheet::SHEET_WORDS {
         return Line::TooLarge;
     }
     let n = count as usize;
     if bytes.len() < 4 * (1 + n) {
         return Line::InputEnds;
     }
-    let mut words = [0u32; 8597];
+    let mut words = [0u32; sheet::SHEET_WORDS as usize];
     judged(bytes, &mut words[..n])
 }
 
@@ -96,7 +96,7 @@ fn answer(bytes: &[u8]) -> Text
 
 // Reads, and hands the bytes of the answer to the write call.
 fn main() {
-    let mut bytes = [0u8; 34392];
+    let mut bytes = [0u8; 4 * (1 + sheet::SHEET_WORDS as usize)];
     let n = io::read_full(STDIN_FILENO, &mut bytes);
     let text = answer(&bytes[..n]);
     let line = text.bytes;

@@ -2,16 +2,16 @@
 -- Assumes nothing.
 use Prim.Native.Nat.{ℕ, zero, suc, _+_, _*_, _≤_, _<_}
 use mathlib.Core.List.{List}
-use mathlib.Core.Path.{_≡_}
+use mathlib.Core.Path.{_≡_, refl}
 use native.Mathlib.Omega.{arith}
-use native.Mathlib.Nat.{mul-le-mul}
 use lib.ListN.{length}
 use Rattle.words.proofs.TestLaws.{and-right, is=}
 use Rattle.sheet.specs.Sheet.{memoryWords, circuits, schedules, nodes, circuitAt, schedulePlace, period}
 use Rattle.sheet.specs.Rules.{rule3, verdict}
 use Rattle.sheet.specs.Inner.Passed.{Framed, Ranged, CircuitSmall}
-use Rattle.sheet.proofs.PassedLaws.{placed, circuit-small, period-range}
+use Rattle.sheet.proofs.PassedLaws.{nodes-few, placed, circuit-small, period-range}
 use Rattle.sheet.proofs.VerdictLaws.{routed}
+use Rattle.network.specs.Registers.{sheetWords}
 
 -- the bounds of a sheet that passes
 pub record SheetBounds (z : List ℕ) : Type 0 where
@@ -20,7 +20,7 @@ pub record SheetBounds (z : List ℕ) : Type 0 where
   pub few-circuits : circuits z ≤ 64
   pub some-schedule : 1 ≤ schedules z
   pub small-memory : memoryWords z ≤ 16384
-  pub fits : length z ≤ 8597
+  pub fits : length z ≤ sheetWords
 
 -- each schedule adds at most 2 words and 256 entries
 place-high : (z : List ℕ) → Framed z → (j : ℕ) → j ≤ schedules z → schedulePlace z j ≤ 389 + 1026 * j
@@ -28,7 +28,7 @@ unfolding schedulePlace
 place-high z f zero l = omega (arith, f .headed .circuits-high)
 place-high z f (suc j) l = omega (arith, place-high z f j (omega arith), placed z f j (omega arith) .few)
 
-length-high : (z : List ℕ) → Framed z → length z ≤ 8597
+length-high : (z : List ℕ) → Framed z → length z ≤ sheetWords
 unfolding rule3
 length-high z f =
     omega (arith, place-high z f (schedules z) (omega arith), f .headed .schedules-high, is= _ _ (and-right _ _ (f .divided)))
@@ -39,7 +39,7 @@ sheet-bounds z e =
     let h = r .framed .headed in
     record {
       ranged = r;
-      few-nodes = mul-le-mul (h .columns-high) (h .rows-high);
+      few-nodes = nodes-few z h;
       few-circuits = h .circuits-high;
       some-schedule = h .schedules-low;
       small-memory = h .memory-high;

@@ -1,23 +1,25 @@
 -- A sound state in facts: each clause at each index, as records with named fields; and back from the facts to the test.
 -- Assumes nothing.
-use Prim.Native.Nat.{ℕ, zero, suc, _+_, _*_, _≤_, _<_}
+use Prim.Native.Nat.{ℕ, _+_, _*_, _≤_, _<_}
 use mathlib.Core.Bool.{Bool, true, false, false≢true}
 use mathlib.Core.List.{List}
-use mathlib.Core.Path.{_≡_, refl, sym, _∙_, subst}
+use mathlib.Core.Path.{_≡_, sym, _∙_, subst}
 use native.Mathlib.Omega.{arith}
 use native.Mathlib.Decide.{ℕ-discrete}
-use Rattle.words.specs.Tests.{all, _and_, _or_, _≤?_, _=?_, _≠?_}
+use Rattle.words.specs.Tests.{_and_, _or_, _=?_, _≠?_}
 use Rattle.words.proofs.TestLaws.{and-left, and-right, and-both, or-yes, or-skip, or-cases, is≤, is<, is=, yes≤, yes<, yes=, yes≠, no≠}
-use Rattle.words.proofs.AllLaws.{all-at}
+use Rattle.words.proofs.AllLaws.{all-at, all-of}
 use Rattle.packet.specs.Header.{dataKind, interruptKind, kinds, kindOf}
 use Rattle.sheet.specs.declared.circuits.Region.{Region}
 use Rattle.sheet.specs.declared.circuits.Circuit.{Circuit}
 use Rattle.sheet.specs.Sheet.{circuits, schedules, nodes, circuitAt, period}
 use Rattle.sheet.specs.Rules.{verdict}
 use Rattle.network.specs.View.{Sender}
-use Rattle.network.specs.Registers.{reg, sheetLength, sheetIn, sheetWords, clockRow, cyclePlace, inForcePlace, orderMarkPlace, orderSchedulePlace, linkMark, linkWord, headMark, headWord, choiceRow, latchRow, outMark, outWord, receiveMark, receiveKind, landingMark, leftRow, readRow, writeRow, kindRow}
+use Rattle.network.specs.Registers.{reg, sheetLength, sheetIn, sheetWords, clockRow, cyclePlace, inForcePlace, orderMarkPlace, orderSchedulePlace}
+use Rattle.network.specs.Registers.{linkMark, linkWord, headMark, headWord, choiceRow, latchRow, outMark, outWord, receiveMark, receiveKind}
+use Rattle.network.specs.Registers.{landingMark, leftRow, kindRow}
 use Rattle.network.specs.Seen.{seenSender}
-use Rattle.soundness.specs.Sound.{sheetSound, clockSound, orderSound, kindTravels, liesIn, transferSound, cellSound, routerSound, nodeSound, sound}
+use Rattle.soundness.specs.Sound.{sheetSound, clockSound, orderSound, kindTravels, liesIn, restInside, kindAllowed, interruptSingle, transferSound, cellSound, routerSound, nodeSound, sound}
 
 -- so many words from an address on lie in a region, in numbers
 pub record Lies (r : Region) (address count : ℕ) : Type 0 where
@@ -27,12 +29,6 @@ pub record Lies (r : Region) (address count : ℕ) : Type 0 where
 pub lies : (r : Region) (address count : ℕ) → liesIn r address count ≡ true → Lies r address count
 unfolding liesIn
 lies r address count e = record { low = is≤ _ _ (and-left _ _ e); high = is≤ _ _ (and-right _ _ e) }
-
--- a test that holds of each number below n
-pub all-of : (n : ℕ) (test : ℕ → Bool) → ((k : ℕ) → k < n → test k ≡ true) → all n test ≡ true
-unfolding all
-all-of zero test h = refl
-all-of (suc n) test h = and-both (all-of n test (λ k l. h k (omega arith))) (h n (omega arith))
 
 -- what is tested only beside a mark, or a count, that is not 0
 pub beside : (x : ℕ) {b : Bool} → x =? 0 or b ≡ true → 1 ≤ x → b ≡ true
@@ -88,36 +84,28 @@ pub record TransferParts (circuit : Circuit) (x : Sender) : Type 0 where
   pub reads : 1 ≤ x .left → Lies (circuit .read) (x .readAddress) (x .left)
   pub writes : 1 ≤ x .left → Lies (circuit .receive) (x .writeAddress) (x .left)
 
--- what is tested where words are left
-abbrev liveSound : List ℕ → ℕ → Bool
-liveSound s c =
-    kindTravels (reg s kindRow c)
-    and (reg s kindRow c =? dataKind or reg s leftRow c ≤? 1)
-    and liesIn (circuitAt (sheetIn s) c .read) (reg s readRow c) (reg s leftRow c)
-    and liesIn (circuitAt (sheetIn s) c .receive) (reg s writeRow c) (reg s leftRow c)
-
 pub transfer-parts : (s : List ℕ) (c : ℕ) → transferSound s c ≡ true → TransferParts (circuitAt (sheetIn s) c) (seenSender s c)
 unfolding transferSound
 transfer-parts s c e = record {
-  to-go = is≤ _ _ (and-left _ _ e);
-  travels = λ l. and-left _ _ (rest l);
-  single = λ l k. is≤ _ _ (beside (reg s kindRow c) (and-left _ _ (and-right _ _ (rest l))) k);
-  reads = λ l. lies _ _ _ (and-left _ _ (and-right _ _ (and-right _ _ (rest l))));
-  writes = λ l. lies _ _ _ (and-right _ _ (and-right _ _ (and-right _ _ (rest l))));
+  to-go = is≤ _ _ (and-right _ _ e);
+  travels = λ l. and-left _ _ (and-right _ _ (rest l));
+  single = λ l k. is≤ _ _ (beside (reg s kindRow c) (and-right _ _ (and-right _ _ (rest l))) k);
+  reads = λ l. lies _ _ _ (and-left _ _ (and-left _ _ (rest l)));
+  writes = λ l. lies _ _ _ (and-right _ _ (and-left _ _ (rest l)));
 }
   where
-    rest : 1 ≤ reg s leftRow c → liveSound s c ≡ true
-    rest l = beside (reg s leftRow c) (and-right _ _ e) l
+    rest : 1 ≤ reg s leftRow c → (restInside s c and kindAllowed s c and interruptSingle s c) ≡ true
+    rest l = beside (reg s leftRow c) (and-left _ _ e) l
 
 pub transfer-test : (s : List ℕ) (c : ℕ) → TransferParts (circuitAt (sheetIn s) c) (seenSender s c) → transferSound s c ≡ true
 unfolding transferSound
 transfer-test s c x =
-    and-both (yes≤ (x .to-go))
+    and-both
     (beside-test (reg s leftRow c)
     (λ l.
-    and-both (x .travels l)
-    (and-both (beside-test (reg s kindRow c) (λ k. yes≤ (x .single l k)))
-    (and-both (lies-test (x .reads l)) (lies-test (x .writes l))))))
+    and-both (and-both (lies-test (x .reads l)) (lies-test (x .writes l)))
+    (and-both (x .travels l) (beside-test (reg s kindRow c) (λ k. yes≤ (x .single l k))))))
+    (yes≤ (x .to-go))
 
 -- an input's registers, and an output's
 pub record RouterParts (s : List ℕ) (k : ℕ) : Type 0 where

@@ -5,19 +5,20 @@ use mathlib.Core.Bool.{Bool, true, false}
 use mathlib.Core.List.{List}
 use mathlib.Core.Path.{_≡_, refl, sym, _∙_, ap, ap₂}
 use native.Mathlib.Omega.{arith}
-use native.Mathlib.Nat.{mul-le-mul}
 use Rattle.words.specs.Tests.{all, _and_, _or_, _≤?_, _<?_, _=?_}
 use Rattle.words.specs.Words.{word}
-use Rattle.words.proofs.TestLaws.{and-no, and-on, and-left, and-right, or-yes, or-on, yes≤, no≤, yes<, no<, yes=, no=, yes≠, no≠, is=}
+use Rattle.words.proofs.TestLaws.{and-no, and-on, and-left, and-right, and-no-right, or-yes, or-on, yes≤, no≤, yes<, no<, yes=, no=, yes≠, no≠, is=}
 use Rattle.words.proofs.AllLaws.{all-more, all-done, all-fails}
 use Rattle.packet.specs.Header.{dataKind, interruptKind, kindOf}
 use Rattle.sheet.specs.declared.circuits.Region.{Region}
 use Rattle.sheet.specs.declared.circuits.Circuit.{Circuit}
-use Rattle.sheet.specs.Sheet.{columns, rows, circuits, schedules, nodes, circuitAt, period}
-use Rattle.sheet.specs.Inner.Passed.{Framed}
+use Rattle.sheet.specs.Sheet.{circuits, schedules, nodes, circuitAt, period}
 use Rattle.sheet.specs.Rules.{verdict}
-use Rattle.network.specs.Registers.{reg, sheetLength, sheetIn, clockRow, cyclePlace, inForcePlace, orderMarkPlace, orderSchedulePlace, linkMark, headMark, outMark, latchRow, receiveMark, receiveKind, landingMark, leftRow, readRow, writeRow, kindRow, toGoRow}
-use Rattle.soundness.specs.Sound.{sheetSound, clockSound, orderSound, kindTravels, liesIn, transferSound, cellSound, routerSound, nodeSound, sound}
+use Rattle.network.specs.Registers.{reg, sheetLength, sheetIn, clockRow, cyclePlace, inForcePlace, orderMarkPlace, orderSchedulePlace, linkMark}
+use Rattle.network.specs.Registers.{headMark, outMark, latchRow, receiveMark, receiveKind, landingMark, leftRow, readRow, writeRow, kindRow, toGoRow}
+use Rattle.network.specs.Registers.{movingWords, sheetWords}
+use Rattle.soundness.specs.Sound.{sheetSound, clockSound, orderSound, kindTravels, liesIn, kindAllowed, interruptSingle, toGoWithin, transferSound, cellSound, routerSound, nodeSound, sound}
+use Rattle.sheet.proofs.PassedLaws.{nodes-are}
 
 -- a test of three parts, with the first two taken together
 and-over : (a b d : Bool) → ((a and b) and d) ≡ (a and b and d)
@@ -77,7 +78,7 @@ module _ (s : List ℕ) (k : ℕ) where
       (and-on (cell-empty _ _ head)
       (and-on (cell-empty _ _ out) (and-on (sym (or-yes _ head)) (ap (λ (x : ℕ). x ≤? 5) e))))
 
--- the rest of a transfer that has words left
+-- the rest of a transfer that has words left, in the order in which code tests it
 abbrev pub restSound : Circuit → ℕ → ℕ → ℕ → ℕ → Bool
 restSound circuit kind read write left =
     kindTravels kind
@@ -85,31 +86,50 @@ restSound circuit kind read write left =
     and liesIn (circuit .read) read left
     and liesIn (circuit .receive) write left
 
+inside-first : (kind single read receive : Bool) → (kind and single and read and receive) ≡ (read and receive) and kind and single
+unfolding _and_
+inside-first true true true true = refl
+inside-first true true true false = refl
+inside-first true true false receive = refl
+inside-first true false true true = refl
+inside-first true false true false = refl
+inside-first true false false receive = refl
+inside-first false single true true = refl
+inside-first false single true false = refl
+inside-first false single false receive = refl
+
+-- what is tested first in code stands last in the definition
+last-holds : {a b v : Bool} → b ≡ true → v ≡ a → v ≡ a and b
+unfolding _and_
+last-holds {a = true} h e = e ∙ sym h
+last-holds {a = false} h e = e
+
 -- a circuit's transfer
 module _ (s : List ℕ) (c left toGo : ℕ) (p : left ≡ reg s leftRow c) (q : toGo ≡ reg s toGoRow c) where
   pub transfer-over : left < toGo → false ≡ transferSound s c
   unfolding transferSound
-  transfer-over l = and-no _ (no≤ (let h : reg s leftRow c < reg s toGoRow c = omega arith in h))
+  transfer-over l = sym (and-no-right _ _ (no≤ (let h : reg s leftRow c < reg s toGoRow c = omega arith in h)))
 
-  within : toGo ≤ left → (reg s toGoRow c ≤? reg s leftRow c) ≡ true
+  within : toGo ≤ left → toGoWithin s c ≡ true
   within l = yes≤ (let h : reg s toGoRow c ≤ reg s leftRow c = omega arith in h)
 
   pub transfer-none : toGo ≤ left → left ≡ 0 → true ≡ transferSound s c
   unfolding transferSound
-  transfer-none l e = and-on (within l) (or-yes _ (yes= (sym p ∙ e)))
+  transfer-none l e = last-holds (within l) (or-yes _ (yes= (sym p ∙ e)))
 
   pub transfer-rest : (z : List ℕ) → z ≡ sheetIn s → (circuit : Circuit) (kind read write : ℕ) {v : Bool} → circuit ≡ circuitAt z c
       → kind ≡ reg s kindRow c → read ≡ reg s readRow c → write ≡ reg s writeRow c → toGo ≤ left → (left ≡ 0 → ⊥)
       → v ≡ restSound circuit kind read write left → v ≡ transferSound s c
   unfolding transferSound
   transfer-rest z own circuit kind read write a b d e l ne r =
-      and-on (within l)
+      last-holds (within l)
       (or-on (no= (λ h. ne (p ∙ h)))
       (r ∙ ap (λ (x : Circuit). restSound x kind read write left) (a ∙ ap (λ (y : List ℕ). circuitAt y c) own)
       ∙ ap (λ (x : ℕ). restSound (circuitAt (sheetIn s) c) x read write left) b
       ∙ ap (λ (x : ℕ). restSound (circuitAt (sheetIn s) c) (reg s kindRow c) x write left) d
       ∙ ap (λ (x : ℕ). restSound (circuitAt (sheetIn s) c) (reg s kindRow c) (reg s readRow c) x left) e
-      ∙ ap (λ (x : ℕ). restSound (circuitAt (sheetIn s) c) (reg s kindRow c) (reg s readRow c) (reg s writeRow c) x) p))
+      ∙ ap (λ (x : ℕ). restSound (circuitAt (sheetIn s) c) (reg s kindRow c) (reg s readRow c) (reg s writeRow c) x) p
+      ∙ inside-first (kindAllowed s c) (interruptSingle s c) _ _))
 
 -- a node's receive unit
 abbrev pub receiveSound : List ℕ → ℕ → Bool
@@ -180,21 +200,21 @@ module _ (s z : List ℕ) (own : z ≡ sheetIn s) where
   pub count-circuits : {count : ℕ} → count ≡ circuits z → count ≡ circuits (sheetIn s)
   count-circuits e = e ∙ ap circuits own
 
-  pub count-nodes : {a b : ℕ} → a ≡ columns z → b ≡ rows z → a * b ≡ nodes (sheetIn s)
-  count-nodes e f = ap₂ _*_ (e ∙ ap columns own) (f ∙ ap rows own)
+  pub count-nodes : {count : ℕ} → count ≡ nodes z → count ≡ nodes (sheetIn s)
+  count-nodes e = e ∙ ap nodes own
 
-  pub count-inputs : {a b : ℕ} → a ≡ columns z → b ≡ rows z → a * b * 5 ≡ nodes (sheetIn s) * 5
-  count-inputs e f = ap (λ (n : ℕ). n * 5) (count-nodes e f)
+  pub count-inputs : {count : ℕ} → count ≡ nodes z → count * 5 ≡ nodes (sheetIn s) * 5
+  count-inputs e = ap (λ (n : ℕ). n * 5) (count-nodes e)
 
   -- the sheet, and what is behind it
   module _ (n : ℕ) (p : n ≡ sheetLength s) where
-    pub sound-long : 8597 < n → false ≡ sound s
+    pub sound-long : sheetWords < n → false ≡ sound s
     unfolding sound sheetSound
-    sound-long l = and-no _ (sym (and-no _ (no≤ (let h : 8597 < sheetLength s = omega arith in h))))
+    sound-long l = and-no _ (sym (and-no _ (no≤ (let h : sheetWords < sheetLength s = omega arith in h))))
 
-    module _ (l : n ≤ 8597) (number : ℕ) (q : number ≡ verdict z) where
-      fits : (sheetLength s ≤? 8597) ≡ true
-      fits = yes≤ (let h : sheetLength s ≤ 8597 = omega arith in h)
+    module _ (l : n ≤ sheetWords) (number : ℕ) (q : number ≡ verdict z) where
+      fits : (sheetLength s ≤? sheetWords) ≡ true
+      fits = yes≤ (let h : sheetLength s ≤ sheetWords = omega arith in h)
 
       number-is : number ≡ verdict (sheetIn s)
       number-is = q ∙ ap verdict own
@@ -213,16 +233,10 @@ module _ (s z : List ℕ) (own : z ≡ sheetIn s) where
       unfolding sound sheetSound
       sound-rest e r = and-on (sym (and-on fits (sym (yes= (sym number-is ∙ e))))) r
 
--- the length of the sheet, and its nodes
-pub long-sheet : (s : List ℕ) (n : ℕ) → n ≡ word s 1680 → n ≡ sheetLength s
+-- the length of the sheet
+pub long-sheet : (s : List ℕ) (n : ℕ) → n ≡ word s movingWords → n ≡ sheetLength s
 unfolding sheetLength
 long-sheet s n e = e
-
-pub few-nodes : (z : List ℕ) → Framed z → (a b : ℕ) → a ≡ columns z → b ≡ rows z → a * b ≤ 16
-few-nodes z f a b p q =
-    let wide : a ≤ 4 = omega (arith, f .headed .columns-high) in
-    let high : b ≤ 4 = omega (arith, f .headed .rows-high) in
-    mul-le-mul wide high
 
 -- a loop that tests each number: one more holds, one fails, all hold
 module _ (p : ℕ → Bool) (k : ℕ) (h : all k p ≡ true) where

@@ -8,7 +8,9 @@ use Rattle.packet.specs.Header.{dataKind, interruptKind, kindOf}
 use Rattle.sheet.specs.declared.circuits.Region.{Region}
 use Rattle.sheet.specs.Sheet.{circuits, schedules, nodes, circuitAt, period}
 use Rattle.sheet.specs.Rules.{verdict}
-use Rattle.network.specs.Registers.{reg, sheetLength, sheetIn, sheetWords, clockRow, cyclePlace, inForcePlace, orderMarkPlace, orderSchedulePlace, linkMark, linkWord, headMark, headWord, choiceRow, latchRow, outMark, outWord, receiveMark, receiveKind, landingMark, leftRow, readRow, writeRow, kindRow, toGoRow}
+use Rattle.network.specs.Registers.{reg, sheetLength, sheetIn, sheetWords, clockRow, cyclePlace, inForcePlace, orderMarkPlace, orderSchedulePlace}
+use Rattle.network.specs.Registers.{linkMark, linkWord, headMark, headWord, choiceRow, latchRow, outMark, outWord, receiveMark, receiveKind}
+use Rattle.network.specs.Registers.{landingMark, leftRow, readRow, writeRow, kindRow, toGoRow}
 
 -- the state's sheet, with its stored length, passes 1 to 11
 unfoldable pub sheetSound : List ℕ → Bool
@@ -34,16 +36,31 @@ kindTravels kind = kind =? dataKind or kind =? interruptKind
 unfoldable pub liesIn : Region → ℕ → ℕ → Bool
 liesIn r address count = r .offset ≤? address and address + count ≤? r .offset + r .size
 
--- a transfer with words left has a kind that travels, an interrupt at most one word, and the rest of it lies in its regions; a packet
--- still being sent has no more words to go than are left
+-- circuit c's transfer, clause by clause: no word is left of it
+abbrev pub noneLeft : List ℕ → ℕ → Bool
+noneLeft s c = reg s leftRow c =? 0
+
+-- its rest lies in its regions
+abbrev pub restInside : List ℕ → ℕ → Bool
+restInside s c =
+    liesIn (circuitAt (sheetIn s) c .read) (reg s readRow c) (reg s leftRow c)
+    and liesIn (circuitAt (sheetIn s) c .receive) (reg s writeRow c) (reg s leftRow c)
+
+-- its kind is not 1 or 3
+abbrev pub kindAllowed : List ℕ → ℕ → Bool
+kindAllowed s c = kindTravels (reg s kindRow c)
+
+-- what is no data, an interrupt, has at most one word left
+abbrev pub interruptSingle : List ℕ → ℕ → Bool
+interruptSingle s c = reg s kindRow c =? dataKind or reg s leftRow c ≤? 1
+
+-- a packet still being sent has no more words to go than are left
+abbrev pub toGoWithin : List ℕ → ℕ → Bool
+toGoWithin s c = reg s toGoRow c ≤? reg s leftRow c
+
+-- the rest, the kind and the interrupt are tested of a transfer with words left
 unfoldable pub transferSound : List ℕ → ℕ → Bool
-transferSound s c =
-    reg s toGoRow c ≤? reg s leftRow c
-    and (reg s leftRow c =? 0
-    or kindTravels (reg s kindRow c)
-    and (reg s kindRow c =? dataKind or reg s leftRow c ≤? 1)
-    and liesIn (circuitAt (sheetIn s) c .read) (reg s readRow c) (reg s leftRow c)
-    and liesIn (circuitAt (sheetIn s) c .receive) (reg s writeRow c) (reg s leftRow c))
+transferSound s c = (noneLeft s c or restInside s c and kindAllowed s c and interruptSingle s c) and toGoWithin s c
 
 -- a mark on a wire is a known one, and no header has kind 1 or 3
 unfoldable pub cellSound : ℕ → ℕ → Bool

@@ -171,7 +171,7 @@ fn clock_sound(s: &[u32], z: &[u32]) -> bool
     ensures { λ r. ⌜ r ≡ clockSound (now (s .entry)) ⌝ }
 {
     let schedule = reg(s, network::CLOCK_ROW, network::IN_FORCE_PLACE);
-    if schedule < words::get(z, 4) {
+    if schedule < sheet::schedules_of(z) {
         let cycle = reg(s, network::CLOCK_ROW, network::CYCLE_PLACE);
         return cycle < sheet::schedule_period(z, schedule);
     }
@@ -190,7 +190,7 @@ fn order_sound(s: &[u32], z: &[u32]) -> bool
     if mark == 0 {
         return true;
     }
-    reg(s, network::CLOCK_ROW, network::ORDER_SCHEDULE_PLACE) < words::get(z, 4)
+    reg(s, network::CLOCK_ROW, network::ORDER_SCHEDULE_PLACE) < sheet::schedules_of(z)
 }
 
 // Each circuit's transfer.
@@ -198,7 +198,7 @@ fn transfers_sound(s: &[u32], z: &[u32]) -> bool
     requires { ⌜ now z ≡ sheetIn (now s) ⌝ }
     ensures { λ r. ⌜ r ≡ all (circuits (sheetIn (now (s .entry)))) (transferSound (now (s .entry))) ⌝ }
 {
-    let count = words::get(z, 3);
+    let count = sheet::circuits_of(z);
     let mut c: u32 = 0;
     while c < count {
         if transfer_sound(s, z, c) {
@@ -215,7 +215,7 @@ fn routers_sound(s: &[u32], z: &[u32]) -> bool
     requires { ⌜ (now z ≡ sheetIn (now s)) × (Framed (now z)) ⌝ }
     ensures { λ r. ⌜ r ≡ all (nodesOf (sheetIn (now (s .entry))) * 5) (routerSound (now (s .entry))) ⌝ }
 {
-    let count = words::get(z, 0) * words::get(z, 1) * 5;
+    let count = sheet::nodes_of(z) * 5;
     let mut k: u32 = 0;
     while k < count {
         if router_sound(s, k) {
@@ -232,7 +232,7 @@ fn nodes_sound(s: &[u32], z: &[u32]) -> bool
     requires { ⌜ (now z ≡ sheetIn (now s)) × (Framed (now z)) ⌝ }
     ensures { λ r. ⌜ r ≡ all (nodesOf (sheetIn (now (s .entry)))) (nodeSound (now (s .entry))) ⌝ }
 {
-    let count = words::get(z, 0) * words::get(z, 1);
+    let count = sheet::nodes_of(z);
     let mut n: u32 = 0;
     while n < count {
         if node_sound(s, n) {
@@ -262,7 +262,7 @@ fn parts_sound(s: &[u32], z: &[u32]) -> bool
 pub fn is_sound(s: &[u32]) -> bool
     ensures { λ r. ⌜ r ≡ sound (now (s .entry)) ⌝ }
 {
-    if network::SHEET_WORDS < words::get(s, network::MOVING_WORDS) {
+    if sheet::SHEET_WORDS < words::get(s, network::MOVING_WORDS) {
         return false;
     }
     let z = network::sheet_of(s);

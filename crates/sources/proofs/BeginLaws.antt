@@ -23,7 +23,7 @@ use Rattle.network.specs.Inner.Machine.{slotIn}
 use Rattle.network.specs.Inner.Paired.{Paired}
 use Rattle.network.proofs.SlotLaws.{found-inside, length-none, length-is, route-none, route-is}
 use Rattle.sources.specs.Inner.Slots.{slotTable, slotPut, Behind}
-use Rattle.sources.proofs.TableLaws.{tab-same, tab-set}
+use Rattle.words.proofs.TableLaws.{tab-same, tab-set}
 
 -- an entry put into the table, or not
 module _ (entry : Entry) (number cycle : ℕ) (slots : List ℕ) where

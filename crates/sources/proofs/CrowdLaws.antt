@@ -9,7 +9,7 @@ use native.Mathlib.Numerals.{add-one}
 use native.Mathlib.Decide.{ℕ-discrete}
 use Rattle.words.specs.Tests.{any, _and_, _or_, _≤?_, _=?_}
 use Rattle.words.specs.Words.{pick, countOf}
-use Rattle.words.proofs.TestLaws.{and-both, and-left, and-right, or-skip, yes=, no=, is=, yes≤, no≤, is≤}
+use Rattle.words.proofs.TestLaws.{and-both, and-left, and-right, or-skip, or-false, yes=, no=, is=, yes≤, no≤, is≤}
 use Rattle.words.proofs.AllLaws.{any-at, any-same, any-none}
 use Rattle.words.proofs.WordLaws.{countOf-more}
 use Rattle.sheet.specs.Sheet.{nodes}
@@ -107,18 +107,18 @@ module _ (s : List ℕ) (node : ℕ) where
   count-by n b e =
       countOf-more (wants s node) n ∙ ap (λ (x : Bool). pick x (countOf n (wants s node) + 1) (countOf n (wants s node))) e
 
-  record Counted (n : ℕ) : Type 0 where
+  record WantsCounted (n : ℕ) : Type 0 where
     none : firstMark n (ownMark s node) ≡ 0 → countOf n (wants s node) ≡ 0
     some : (firstMark n (ownMark s node) ≡ 0 → ⊥) → 1 ≤ countOf n (wants s node)
 
-  counted-start : Counted 0
+  counted-start : WantsCounted 0
   unfolding countOf
   counted-start = record { none = λ h. refl; some = λ ne. absurd (ne (first-none (ownMark s node))) }
 
-  counted-more : (n : ℕ) → Counted n → Counted (n + 1)
+  counted-more : (n : ℕ) → WantsCounted n → WantsCounted (n + 1)
   counted-more n g = go (wants s node n) refl
     where
-      go : (b : Bool) → wants s node n ≡ b → Counted (n + 1)
+      go : (b : Bool) → wants s node n ≡ b → WantsCounted (n + 1)
       go true t = record {
         none = λ h. absurd (wanted (ℕ-discrete (firstMark n (ownMark s node)) 0) h);
         some = λ ne. omega (arith, count-by n true t);
@@ -139,9 +139,9 @@ module _ (s : List ℕ) (node : ℕ) where
           idle (yes e) = e
           idle (no ne) = absurd (false≢true (sym t ∙ marked-wants s node n ne))
 
-  counted : (n : ℕ) → Counted n
+  counted : (n : ℕ) → WantsCounted n
   counted zero = counted-start
-  counted (suc n) = subst Counted (add-one n) (counted-more n (counted n))
+  counted (suc n) = subst WantsCounted (add-one n) (counted-more n (counted n))
 
 -- two circuits before c want one wire
 abbrev pub crowdedBefore : List ℕ → ℕ → Bool
@@ -150,11 +150,6 @@ crowdedBefore s c = any (nodes (sheetIn s)) (λ node. 2 ≤? countOf c (wants s 
 pub crowded-start : (s : List ℕ) → crowdedBefore s 0 ≡ false
 unfolding countOf
 crowded-start s = any-none (nodes (sheetIn s)) _ (λ k l. no≤ (omega arith))
-
-pub or-false : (a : Bool) → a ≡ a or false
-unfolding _or_
-or-false true = refl
-or-false false = refl
 
 module _ (s : List ℕ) (c : ℕ) (inside : sourceOf (sheetIn s) c < nodes (sheetIn s)) where
   abbrev here : ℕ

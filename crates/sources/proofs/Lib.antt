@@ -1,4 +1,3 @@
-pub mod TableLaws
 pub mod BeginLaws
 pub mod SourceLaws
 pub mod SentLaws

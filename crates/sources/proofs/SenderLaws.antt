@@ -5,9 +5,8 @@ use mathlib.Core.Bool.{Bool, true, false}
 use mathlib.Core.List.{List, []}
 use mathlib.Core.Path.{_≡_, refl, sym, subst, _∙_, ap, ap₂}
 use native.Mathlib.Omega.{arith}
-use native.Mathlib.Decide.{ℕ-discrete}
 use lib.ListN.{length}
-use Rattle.words.specs.Tests.{_≤?_}
+use Rattle.words.specs.Tests.{_≤?_, _=?_}
 use Rattle.words.specs.Words.{pick, tab}
 use Rattle.words.proofs.TestLaws.{and-both, yes≤, no≤}
 use Rattle.sheet.specs.Sheet.{circuits, schedules}
@@ -15,11 +14,12 @@ use Rattle.sheet.specs.Inner.Passed.{Framed}
 use Rattle.sheet.specs.Slots.{entryBeginning, slotLength}
 use Rattle.network.specs.View.{Sender}
 use Rattle.network.specs.Cycle.{Move, rests, opens, sends, move, stepSender}
-use Rattle.network.specs.Registers.{reg, put, sheetIn, movingWords, clockRow, cyclePlace, inForcePlace, leftRow, readRow, writeRow, kindRow, toGoRow}
+use Rattle.network.specs.Registers.{reg, put, sheetIn, movingWords, clockRow, cyclePlace, inForcePlace, leftRow, readRow, writeRow, kindRow, toGoRow, rowCount, rowWords}
 use Rattle.network.specs.Seen.{seenSender}
-use Rattle.network.specs.Inner.Machine.{slotIn, moveIn, nextSender, nextInRow, nextRows}
+use Rattle.network.specs.Inner.Machine.{slotIn, moveIn, nextSender, rowIn, nextInRow, nextRows}
 use Rattle.network.specs.Inner.Paired.{Paired}
 use Rattle.network.specs.Inner.Stages.{stage}
+use Rattle.network.proofs.RowCases.{in-rows, _besides_, no-more}
 use Rattle.network.proofs.RowLaws.{sender-same}
 use Rattle.network.proofs.FillLaws.{Wrote, wrote-one, wrote-then, wrote-nothing, Staged, stage-start, stage-more, still, beside, staged-sheet, staged-is}
 use Rattle.sources.specs.Inner.Slots.{slotTable}
@@ -97,38 +97,21 @@ module _ (s : List ℕ) (c left : ℕ) (a : left ≡ reg s leftRow c) where
       pub still-going : (remaining ≡ 0 → ⊥) → 1 ≤ reg s toGoRow c
       still-going more = omega (arith, more)
 
--- a fact of each of the senders' rows
-rows-four : (P : ℕ → Type 0) → P 16 → P 17 → P 18 → P 19 → (row : ℕ) → 16 ≤ row → row ≤ 19 → P row
-rows-four P a b d e row low high = go (ℕ-discrete 16 row) (ℕ-discrete 17 row) (ℕ-discrete 18 row)
-  where
-    go : Dec (16 ≡ row) → Dec (17 ≡ row) → Dec (18 ≡ row) → P row
-    go (yes h) y z = subst P h a
-    go (no x) (yes h) z = subst P h b
-    go (no x) (no y) (yes h) = subst P h d
-    go (no x) (no y) (no z) = subst P (let h : 19 ≡ row = omega (arith, x, y, z) in h) e
-
-rows-five : (P : ℕ → Type 0) → P 16 → P 17 → P 18 → P 19 → P 20 → (row : ℕ) → 16 ≤ row → row ≤ 20 → P row
-rows-five P a b d e f row low high = go (ℕ-discrete 20 row)
-  where
-    go : Dec (20 ≡ row) → P row
-    go (yes h) = subst P h f
-    go (no x) = rows-four P a b d e row low (omega (arith, x))
-
 -- what a circuit writes is its registers after the cycle
-module _ (s : List ℕ) (long : movingWords ≤ length s) (c : ℕ) (few : c < 80) where
+module _ (s : List ℕ) (long : movingWords ≤ length s) (c : ℕ) (few : c < rowWords) where
   abbrev new : ℕ → ℕ
   new row = nextInRow s [] row c
 
   -- the registers, by what the circuit does
   record After (m : Move) : Type 0 where
-    left-is : new 16 ≡ stepSender m (slotIn s c) (seenSender s c) .left
-    read-is : new 17 ≡ stepSender m (slotIn s c) (seenSender s c) .readAddress
-    write-is : new 18 ≡ stepSender m (slotIn s c) (seenSender s c) .writeAddress
-    kind-is : new 19 ≡ stepSender m (slotIn s c) (seenSender s c) .kind
-    going-is : new 20 ≡ stepSender m (slotIn s c) (seenSender s c) .toGo
+    left-is : new leftRow ≡ stepSender m (slotIn s c) (seenSender s c) .left
+    read-is : new readRow ≡ stepSender m (slotIn s c) (seenSender s c) .readAddress
+    write-is : new writeRow ≡ stepSender m (slotIn s c) (seenSender s c) .writeAddress
+    kind-is : new kindRow ≡ stepSender m (slotIn s c) (seenSender s c) .kind
+    going-is : new toGoRow ≡ stepSender m (slotIn s c) (seenSender s c) .toGo
 
   after-by : (m : Move) → moveIn s c ≡ m → After m
-  unfolding nextInRow nextRows
+  unfolding nextInRow rowIn nextRows _=?_
   after-by m e = record {
     left-is = ap (λ (x : Move). stepSender x (slotIn s c) (seenSender s c) .left) e;
     read-is = ap (λ (x : Move). stepSender x (slotIn s c) (seenSender s c) .readAddress) e;
@@ -137,23 +120,25 @@ module _ (s : List ℕ) (long : movingWords ≤ length s) (c : ℕ) (few : c < 8
     going-is = ap (λ (x : Move). stepSender x (slotIn s c) (seenSender s c) .toGo) e;
   }
 
-  wrote-rests : After rests → Wrote 16 20 c new s s
+  wrote-rests : After rests → Wrote leftRow toGoRow c new s s
   wrote-rests g =
-      wrote-nothing 16 20 c new s
-      (rows-five (λ (row : ℕ). new row ≡ reg s row c) (g .left-is) (g .read-is) (g .write-is) (g .kind-is) (g .going-is))
+      wrote-nothing leftRow toGoRow c new s
+      (in-rows (λ (row : ℕ). new row ≡ reg s row c) leftRow toGoRow
+      (g .left-is besides g .read-is besides g .write-is besides g .kind-is besides g .going-is besides no-more))
 
-  wrote-opens : After opens → Wrote 16 20 c new s (put s toGoRow c (min (slotIn s c - 1) (reg s leftRow c)))
+  wrote-opens : After opens → Wrote leftRow toGoRow c new s (put s toGoRow c (min (slotIn s c - 1) (reg s leftRow c)))
   wrote-opens g =
-      wrote-then 16 19 20 c new s s _ (omega arith) (omega arith) (omega arith) few
-      (wrote-nothing 16 19 c new s
-      (rows-four (λ (row : ℕ). new row ≡ reg s row c) (g .left-is) (g .read-is) (g .write-is) (g .kind-is)))
-      (wrote-one 20 c _ new s (omega arith) few long (sym (g .going-is)))
+      wrote-then leftRow kindRow toGoRow c new s s _ (omega arith) (omega arith) (omega arith) few
+      (wrote-nothing leftRow kindRow c new s
+      (in-rows (λ (row : ℕ). new row ≡ reg s row c) leftRow kindRow
+      (g .left-is besides g .read-is besides g .write-is besides g .kind-is besides no-more)))
+      (wrote-one toGoRow c _ new s (omega arith) few long (sym (g .going-is)))
 
-  wrote-sends : After sends → Wrote 16 20 c new s (sendWord s c)
+  wrote-sends : After sends → Wrote leftRow toGoRow c new s (sendWord s c)
   unfolding sendWord
   wrote-sends g =
-      wrote-then 16 19 20 c new s s₃ _ (omega arith) (omega arith) (omega arith) few kinds
-      (wrote-one 20 c _ new s₃ (omega arith) few (omega (arith, three .same-length)) (sym (g .going-is)))
+      wrote-then leftRow kindRow toGoRow c new s s₃ _ (omega arith) (omega arith) (omega arith) few kinds
+      (wrote-one toGoRow c _ new s₃ (omega arith) few (omega (arith, three .same-length)) (sym (g .going-is)))
     where
       s₁ : List ℕ
       s₁ = put s leftRow c (reg s leftRow c - 1)
@@ -164,68 +149,68 @@ module _ (s : List ℕ) (long : movingWords ≤ length s) (c : ℕ) (few : c < 8
       s₃ : List ℕ
       s₃ = put s₂ writeRow c (reg s writeRow c + 1)
 
-      one : Wrote 16 16 c new s s₁
-      one = wrote-one 16 c _ new s (omega arith) few long (sym (g .left-is))
+      one : Wrote leftRow leftRow c new s s₁
+      one = wrote-one leftRow c _ new s (omega arith) few long (sym (g .left-is))
 
-      two : Wrote 16 17 c new s s₂
+      two : Wrote leftRow readRow c new s s₂
       two =
-          wrote-then 16 16 17 c new s s₁ s₂ (omega arith) (omega arith) (omega arith) few one
-          (wrote-one 17 c _ new s₁ (omega arith) few (omega (arith, one .same-length)) (sym (g .read-is)))
+          wrote-then leftRow leftRow readRow c new s s₁ s₂ (omega arith) (omega arith) (omega arith) few one
+          (wrote-one readRow c _ new s₁ (omega arith) few (omega (arith, one .same-length)) (sym (g .read-is)))
 
-      three : Wrote 16 18 c new s s₃
+      three : Wrote leftRow writeRow c new s s₃
       three =
-          wrote-then 16 17 18 c new s s₂ s₃ (omega arith) (omega arith) (omega arith) few two
-          (wrote-one 18 c _ new s₂ (omega arith) few (omega (arith, two .same-length)) (sym (g .write-is)))
+          wrote-then leftRow readRow writeRow c new s s₂ s₃ (omega arith) (omega arith) (omega arith) few two
+          (wrote-one writeRow c _ new s₂ (omega arith) few (omega (arith, two .same-length)) (sym (g .write-is)))
 
-      kind-stays : reg s₃ 19 c ≡ reg s 19 c
-      kind-stays = three .elsewhere 19 c (omega arith) few (λ x y z. omega arith)
+      kind-stays : reg s₃ kindRow c ≡ reg s kindRow c
+      kind-stays = three .elsewhere kindRow c (omega arith) few (λ x y z. omega arith)
 
-      kinds : Wrote 16 19 c new s s₃
+      kinds : Wrote leftRow kindRow c new s s₃
       kinds =
-          wrote-then 16 18 19 c new s s₃ s₃ (omega arith) (omega arith) (omega arith) few three
-          (wrote-nothing 19 19 c new s₃ (λ row x y. subst (λ (r : ℕ). new r ≡ reg s₃ r c) (let h : 19 ≡ row = omega arith in h) (g .kind-is ∙ sym kind-stays)))
+          wrote-then leftRow writeRow kindRow c new s s₃ s₃ (omega arith) (omega arith) (omega arith) few three
+          (wrote-nothing kindRow kindRow c new s₃ (λ row x y. subst (λ (r : ℕ). new r ≡ reg s₃ r c) (let h : kindRow ≡ row = omega arith in h) (g .kind-is ∙ sym kind-stays)))
 
-  wrote-by : (m : Move) → After m → Wrote 16 20 c new s (senderPut m s c)
+  wrote-by : (m : Move) → After m → Wrote leftRow toGoRow c new s (senderPut m s c)
   unfolding senderPut
   wrote-by rests g = wrote-rests g
   wrote-by opens g = wrote-opens g
   wrote-by sends g = wrote-sends g
 
-  wrote-circuit : Wrote 16 20 c new s (senderPut (moveIn s c) s c)
+  wrote-circuit : Wrote leftRow toGoRow c new s (senderPut (moveIn s c) s c)
   wrote-circuit = wrote-by (moveIn s c) (after-by (moveIn s c) refl)
 
 -- the circuits before c have stepped
 pub record Stepping (s₀ : List ℕ) (count : ℕ) (s : List ℕ) (c : ℕ) : Type 0 where
   pub inside : c ≤ count
   pub whole : count ≡ circuits (sheetIn s₀)
-  pub staged : Staged 16 20 c (nextInRow s₀ []) s₀ s
+  pub staged : Staged leftRow toGoRow c (nextInRow s₀ []) s₀ s
 
 pub stepping-start : (s₀ z : List ℕ) → z ≡ sheetIn s₀ → (count : ℕ) → count ≡ circuits z → Stepping s₀ count s₀ 0
 stepping-start s₀ z e count q =
-    record { inside = omega arith; whole = q ∙ ap circuits e; staged = stage-start 16 20 (nextInRow s₀ []) s₀ }
+    record { inside = omega arith; whole = q ∙ ap circuits e; staged = stage-start leftRow toGoRow (nextInRow s₀ []) s₀ }
 
 module _ (s₀ : List ℕ) (p : Steppable s₀) (count : ℕ) (s : List ℕ) (c : ℕ) (g : Stepping s₀ count s c) where
   pub stepping-length : length s ≡ length s₀
   stepping-length = g .staged .same-length
 
-  pub stepping-done : count ≤ c → s ≡ stage 16 20 (circuits (sheetIn s₀)) (nextInRow s₀ []) s₀
+  pub stepping-done : count ≤ c → s ≡ stage leftRow toGoRow (circuits (sheetIn s₀)) (nextInRow s₀ []) s₀
   stepping-done l =
       let q : c ≡ circuits (sheetIn s₀) = omega (arith, g .inside, g .whole) in
-      staged-is 16 20 c (nextInRow s₀ []) s₀ s (p .long) (g .staged)
-      ∙ ap (λ (n : ℕ). stage 16 20 n (nextInRow s₀ []) s₀) q
+      staged-is leftRow toGoRow c (nextInRow s₀ []) s₀ s (p .long) (g .staged)
+      ∙ ap (λ (n : ℕ). stage leftRow toGoRow n (nextInRow s₀ []) s₀) q
 
   module _ (l : c < count) where
     few : c < 64
     few = omega (arith, g .whole, p .framed .headed .circuits-high)
 
     sheet-same : sheetIn s ≡ sheetIn s₀
-    sheet-same = staged-sheet 16 20 c (nextInRow s₀ []) s₀ s (g .staged)
+    sheet-same = staged-sheet leftRow toGoRow c (nextInRow s₀ []) s₀ s (g .staged)
 
-    clock-same : (k : ℕ) → k < 80 → reg s clockRow k ≡ reg s₀ clockRow k
-    clock-same k h = beside 16 20 c (nextInRow s₀ []) s₀ s (g .staged) clockRow k (omega arith) h (λ x y. omega arith)
+    clock-same : (k : ℕ) → k < rowWords → reg s clockRow k ≡ reg s₀ clockRow k
+    clock-same k h = beside leftRow toGoRow c (nextInRow s₀ []) s₀ s (g .staged) clockRow k (omega arith) h (λ x y. omega arith)
 
-    row-same : (row : ℕ) → row < 21 → reg s row c ≡ reg s₀ row c
-    row-same row h = still 16 20 c (nextInRow s₀ []) s₀ s (g .staged) row c h (omega (arith, few)) (omega arith)
+    row-same : (row : ℕ) → row < rowCount → reg s row c ≡ reg s₀ row c
+    row-same row h = still leftRow toGoRow c (nextInRow s₀ []) s₀ s (g .staged) row c h (omega (arith, few)) (omega arith)
 
     inside-own : c < circuits (sheetIn s₀)
     inside-own = omega (arith, g .whole)
@@ -277,14 +262,19 @@ module _ (s₀ : List ℕ) (p : Steppable s₀) (count : ℕ) (s : List ℕ) (c 
     next-same : nextSender s c ≡ nextSender s₀ c
     next-same = ap₂ (λ (slot : ℕ) (x : Sender). stepSender (move slot x) slot x) slot-same sender-kept
 
-    rows-same : (row : ℕ) → 16 ≤ row → row ≤ 20 → nextInRow s [] row c ≡ nextInRow s₀ [] row c
-    unfolding nextInRow nextRows
+    rows-same : (row : ℕ) → leftRow ≤ row → row ≤ toGoRow → nextInRow s [] row c ≡ nextInRow s₀ [] row c
+    unfolding nextInRow rowIn nextRows _=?_
     rows-same =
-        rows-five (λ (row : ℕ). nextInRow s [] row c ≡ nextInRow s₀ [] row c) (ap (λ (x : Sender). x .left) next-same)
-        (ap (λ (x : Sender). x .readAddress) next-same) (ap (λ (x : Sender). x .writeAddress) next-same)
-        (ap (λ (x : Sender). x .kind) next-same) (ap (λ (x : Sender). x .toGo) next-same)
+        in-rows (λ (row : ℕ). nextInRow s [] row c ≡ nextInRow s₀ [] row c) leftRow toGoRow (
+        ap (λ (x : Sender). x .left) next-same
+        besides ap (λ (x : Sender). x .readAddress) next-same
+        besides ap (λ (x : Sender). x .writeAddress) next-same
+        besides ap (λ (x : Sender). x .kind) next-same
+        besides ap (λ (x : Sender). x .toGo) next-same
+        besides no-more
+        )
 
-    wrote-same : Wrote 16 20 c (λ row. nextInRow s₀ [] row c) s (senderPut (moveIn s c) s c)
+    wrote-same : Wrote leftRow toGoRow c (λ row. nextInRow s₀ [] row c) s (senderPut (moveIn s c) s c)
     wrote-same =
         let w = wrote-circuit s (omega (arith, p .long, stepping-length)) c (omega (arith, few)) in
         record {
@@ -299,6 +289,6 @@ module _ (s₀ : List ℕ) (p : Steppable s₀) (count : ℕ) (s : List ℕ) (c 
       inside = omega arith;
       whole = g .whole;
       staged =
-          stage-more 16 20 c (nextInRow s₀ []) s₀ s after (omega arith) (omega (arith, few)) (g .staged)
-          (subst (Wrote 16 20 c (λ row. nextInRow s₀ [] row c) s) (sym e) wrote-same);
+          stage-more leftRow toGoRow c (nextInRow s₀ []) s₀ s after (omega arith) (omega (arith, few)) (g .staged)
+          (subst (Wrote leftRow toGoRow c (λ row. nextInRow s₀ [] row c) s) (sym e) wrote-same);
     }

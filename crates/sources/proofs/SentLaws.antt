@@ -5,7 +5,6 @@ use mathlib.Core.Bool.{Bool, true, false}
 use mathlib.Core.List.{List}
 use mathlib.Core.Path.{_≡_, sym, _∙_, ap}
 use native.Mathlib.Omega.{arith}
-use native.Mathlib.Nat.{mul-le-mul}
 use Rattle.words.specs.Tests.{_≤?_}
 use Rattle.words.specs.Words.{word, pick}
 use Rattle.words.proofs.TestLaws.{and-left, is≤, yes≤, no≤}
@@ -71,10 +70,7 @@ module _ (s z : List ℕ) (g : Sendable s z) (c : ℕ) (inside : c < circuits z)
       pub header-refused : (n : ℕ) → b ≡ Refused n → ⊥
       header-refused n q = let z : _≡_ {A = ℕ} 0 1 = cc (made, q) in omega arith
 
--- the place of a memory word fits
-pub place-fits : (a b : ℕ) → a < 4294967296 → b < 4294967296 → a * b ≤ 18446744065119617025
-place-fits a b p q = mul-le-mul {n₁ = a} {m₁ = b} {n₂ = 4294967295} {m₂ = 4294967295} (omega arith) (omega arith)
-
+-- the memory word that was read
 pub read-is : (s z m : List ℕ) → Paired s z → (c : ℕ) (x : Circuit) (r a v : ℕ) → x ≡ circuitAt z c → r ≡ memoryWords z
     → a ≡ reg s readRow c → v ≡ word m (x .read .node * r + a) → v ≡ readIn s m c
 read-is s z m g c x r a v e f h q =

@@ -5,28 +5,26 @@ use mathlib.Core.Bool.{Bool, true, false}
 use mathlib.Core.List.{List}
 use mathlib.Core.Path.{_≡_, refl, sym, subst, _∙_, ap, ap₂}
 use native.Mathlib.Omega.{arith}
-use native.Mathlib.Numerals.{add-one}
 use native.Mathlib.Decide.{ℕ-discrete}
-use native.Mathlib.Nat.{mul-le-mul}
 use lib.ListN.{length, set}
 use Rattle.words.specs.Tests.{any, _and_, _or_, _≤?_, _=?_}
 use Rattle.words.specs.Words.{word, pick, tab}
-use Rattle.words.proofs.TestLaws.{and-no, and-on, or-on, yes=, no=, yes≤, no≤}
+use Rattle.words.proofs.TestLaws.{and-no, and-on, or-on, or-false, or-pairs, yes=, no=, yes≤, no≤}
+use Rattle.words.proofs.AllLaws.{any-more}
 use Rattle.words.proofs.WordLaws.{length-tab, tab-at}
+use Rattle.words.proofs.TableLaws.{tab-same, tab-set}
 use Rattle.sheet.specs.declared.circuits.Circuit.{Circuit}
-use Rattle.sheet.specs.Sheet.{columns, rows, circuits, nodes, circuitAt}
-use Rattle.sheet.specs.Inner.Passed.{Headed}
+use Rattle.sheet.specs.Sheet.{circuits, nodes, circuitAt}
 use Rattle.sheet.specs.Slots.{sourceOf}
-use Rattle.sheet.proofs.PassedLaws.{circuit-small}
+use Rattle.sheet.proofs.PassedLaws.{nodes-few, circuit-small}
 use Rattle.network.specs.Cycle.{moveOf}
 use Rattle.network.specs.Registers.{reg, sheetIn, leftRow, toGoRow}
 use Rattle.network.specs.Inner.Machine.{slotIn, markOf, sentMark, sentWord, ownMark, firstMark, firstWord, sourceMark, sourceWord, crowdsIn, reopensIn}
 use Rattle.network.specs.Inner.Paired.{Sendable}
 use Rattle.sources.specs.Inner.Steps.{Steppable}
 use Rattle.sources.specs.Inner.Wires.{marksBefore, wordsBefore, putFree, crowdsAt}
-use Rattle.sources.proofs.TableLaws.{tab-same, tab-set}
 use Rattle.sources.proofs.SourceLaws.{mark-none, source-read}
-use Rattle.sources.proofs.CrowdLaws.{first-new, first-old, first-idle, word-new, word-old, word-idle, own-here, own-other, own-empty, or-false, crowdedBefore, crowded-start, crowded-more}
+use Rattle.sources.proofs.CrowdLaws.{first-new, first-old, first-idle, word-new, word-old, word-idle, own-here, own-other, own-empty, crowdedBefore, crowded-start, crowded-more}
 
 -- a wire that is taken, and one that is free
 module _ (marks : List ℕ) (node v : ℕ) (e : v ≡ word marks node) where
@@ -93,9 +91,6 @@ module _ (s : List ℕ) (c mark : ℕ) (e : mark ≡ sentMark s c) (h : mark ≡
   idle-words m words q = q ∙ tab-same 16 _ _ (λ n l. word-idle (ownMark s n) c (sentWord s m) (own-empty s n c idle))
 
 -- one that puts a mark there
-nodes-few : (z : List ℕ) → Headed z → nodes z ≤ 16
-nodes-few z h = mul-le-mul {n₁ = columns z} {m₁ = rows z} {n₂ = 4} {m₂ = 4} (h .columns-high) (h .rows-high)
-
 module _ (s z : List ℕ) (g : Sendable s z) (c : ℕ) (l : c < circuits z) where
   abbrev source : ℕ
   source = sourceOf (sheetIn s) c
@@ -215,17 +210,6 @@ pub record Wiring (s z m : List ℕ) (count : ℕ) (marks cells : List ℕ) (fau
   pub marks-done : marks ≡ marksBefore s c
   pub words-done : cells ≡ wordsBefore s m c
   pub fault-done : fault ≡ crowdedBefore s c or any c (reopensIn s)
-
-any-more : (p : ℕ → Bool) (n : ℕ) → any (n + 1) p ≡ any n p or p n
-unfolding any
-any-more p n = rw add-one
-
-or-pairs : (a b x y : Bool) → (a or b) or (x or y) ≡ (a or x) or (b or y)
-unfolding _or_
-or-pairs true b x y = refl
-or-pairs false true true y = refl
-or-pairs false true false y = refl
-or-pairs false false x y = refl
 
 module _ (s z m : List ℕ) (g : Sendable s z) (count : ℕ) where
   pub wiring-start : (marks cells : List ℕ) → count ≡ circuits z → marks ≡ tab 16 (λ (n : ℕ). 0) → cells ≡ tab 16 (λ (n : ℕ). 0)

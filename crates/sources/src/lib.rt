@@ -146,7 +146,7 @@ fn read_now(s: &[u32], z: &[u32], m: &[u32], c: u32) -> u32
 {
     let circuit = Circuit::at(z, c);
     let read = circuit.read;
-    let room = words::get(z, 2);
+    let room = sheet::memory_of(z);
     words::get(
         m,
         (read.node as usize) * (room as usize) + (reg(s, network::READ_ROW, c) as usize),
@@ -243,7 +243,7 @@ pub fn source_wires(
     ensures marks { λ _. ⌜ now (marks .exit) ≡ tab 16 (sourceMark (now (s .entry))) ⌝ }
     ensures cells { λ _. ⌜ now (cells .exit) ≡ tab 16 (sourceWord (now (s .entry)) (now (m .entry))) ⌝ }
 {
-    let count = words::get(z, 3);
+    let count = sheet::circuits_of(z);
     let mut fault = false;
     let mut c: u32 = 0;
     while c < count {
@@ -305,9 +305,9 @@ fn step_sender(s: &mut [u32], slots: &[u32], c: u32)
 // Steps the senders of all circuits, in place. The call that found the state sound gives the requires.
 pub fn step_senders(s: &mut [u32], slots: &[u32])
     requires { ⌜ (Steppable (now s)) × (now slots ≡ slotTable (now s)) ⌝ }
-    ensures { λ _. ⌜ now (s .exit) ≡ stage 16 20 (circuits (sheetIn (now (s .entry)))) (nextInRow (now (s .entry)) []) (now (s .entry)) ⌝ }
+    ensures { λ _. ⌜ now (s .exit) ≡ stage leftRow toGoRow (circuits (sheetIn (now (s .entry)))) (nextInRow (now (s .entry)) []) (now (s .entry)) ⌝ }
 {
-    let count = words::get(network::sheet_of(s), 3);
+    let count = sheet::circuits_of(network::sheet_of(s));
     let mut c: u32 = 0;
     while c < count {
         step_sender(s, slots, c);

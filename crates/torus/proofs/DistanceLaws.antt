@@ -10,7 +10,8 @@ use lib.ListN.{length, getD}
 use Rattle.words.proofs.Below.{every, every-at, everyEntry, everyEntry-at}
 use Rattle.words.specs.Words.{leastFrom}
 use Rattle.words.specs.Tests.{_=?_, _or_, any}
-use Rattle.torus.specs.Torus.{InGrid, neighbourOf, walks, distanceOf}
+use Rattle.torus.specs.Torus.{neighbourOf, walks, distanceOf}
+use Rattle.torus.specs.Inner.Grid.{InGrid}
 use Rattle.torus.proofs.NeighbourLaws.{bounds}
 use Rattle.torus.proofs.DistanceTable.{distances}
 

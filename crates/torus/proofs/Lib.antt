@@ -3,3 +3,4 @@ pub mod DistanceTable
 pub mod DistanceLaws
 pub mod RouteLaws
 pub mod WalkLaws
+pub mod TravelLaws

@@ -8,7 +8,8 @@ use native.Mathlib.Nat.{mul-le-mul, le-refl, mod-le}
 use lib.Dec.{T, eqb, ltb, eqb→eq, ltb→lt}
 use Rattle.words.specs.Words.{pick}
 use Rattle.words.proofs.Below.{every, every-at}
-use Rattle.torus.specs.Torus.{InGrid, neighbourOf, oppositeOf}
+use Rattle.torus.specs.Torus.{neighbourOf, oppositeOf}
+use Rattle.torus.specs.Inner.Grid.{InGrid}
 
 -- the test passes at every node of every grid
 abbrev pub everyNode : (ℕ → ℕ → ℕ → Bool) → Bool

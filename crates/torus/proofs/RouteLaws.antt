@@ -6,15 +6,19 @@ use mathlib.Core.List.{List, [], _∷_, map}
 use mathlib.Core.Path.{_≡_, refl, sym, ap, subst, _∙_}
 use native.Mathlib.Nat.{not-suc-le-zero, le-of-suc-le-suc, mod-lt, add-zero, zero-add}
 use native.Mathlib.Decide.{ℕ-discrete}
-use native.Mathlib.Numerals.{sub-one}
+use native.Mathlib.Numerals.{add-one, sub-one}
 use native.Mathlib.Omega.{arith}
 use lib.ListN.{length, getD, set, replicate, length-set}
 use Rattle.words.specs.Tests.{_=?_}
-use Rattle.words.specs.Words.{pick, putAll}
+use Rattle.words.specs.Words.{pick}
+use Rattle.words.specs.Inner.Puts.{putAll}
 use Rattle.words.proofs.TestLaws.{yes=, no=}
 use Rattle.packet.specs.Header.{firstCode, laterCodes}
-use Rattle.torus.specs.Torus.{InGrid, neighbourOf, oppositeOf}
-use Rattle.torus.specs.Route.{Wire, source, side, memory, Use, Route, leads, nowhere, memoryOutput, outputOf, ending, overSide, fromSource, routerCycles, follow, routeFrom, wireNumber, pathOf}
+use Rattle.torus.specs.Torus.{neighbourOf, oppositeOf}
+use Rattle.torus.specs.Inner.Grid.{InGrid}
+use Rattle.torus.specs.Route.{Wire, source, side, memory, Use, Route, leads, nowhere, memoryOutput, outputOf, ending, overSide, fromSource, routerCycles, hopCycles, follow, routeFrom}
+use Rattle.torus.specs.Inner.Paths.{wireNumber, pathOf}
+use Rattle.torus.specs.Inner.Delays.{delayAt, lastDelay}
 use Rattle.torus.specs.declared.Path.{Path}
 use Rattle.torus.proofs.NeighbourLaws.{neighbour-inside}
 
@@ -50,6 +54,15 @@ output-small entry code output e l = go (entry =? code) e
 pub side-small : (entry code : ℕ) → code < 4 → (outputOf entry code ≡ memoryOutput → ⊥) → outputOf entry code < 4
 side-small entry code l ne = omega (arith, output-small entry code (outputOf entry code) refl l)
 
+-- no hop takes fewer cycles than a router, nor so many that a delay could wrap
+pub hop-low : (output : ℕ) → routerCycles ≤ hopCycles output
+unfolding hopCycles
+hop-low output = omega arith
+
+pub hop-high : (output cycles : ℕ) → cycles ≡ hopCycles output → cycles ≤ 16
+unfolding hopCycles
+hop-high output cycles e = omega arith
+
 module _ (cols rows node entry delay route : ℕ) where
   -- the output for the route's first code
   abbrev outputHere : ℕ
@@ -65,7 +78,7 @@ module _ (cols rows node entry delay route : ℕ) where
   pub follow-side : (left : ℕ) → (outputHere ≡ memoryOutput → ⊥)
       → follow (suc left) cols rows node entry delay route
       ≡ overSide (record { wire = side node outputHere; delay = delay })
-      (follow left cols rows (neighbourOf cols rows node outputHere) (oppositeOf outputHere) (delay + routerCycles) (laterCodes route))
+      (follow left cols rows (neighbourOf cols rows node outputHere) (oppositeOf outputHere) (delay + hopCycles outputHere) (laterCodes route))
   unfolding follow
   follow-side left ne = rw (no= ne, follow) refl
 
@@ -83,7 +96,7 @@ module _ (cols rows node entry delay route : ℕ) where
   pub follow-on : (left : ℕ) → 0 < left → (outputHere ≡ memoryOutput → ⊥)
       → follow left cols rows node entry delay route
       ≡ overSide (record { wire = side node outputHere; delay = delay })
-      (follow (left - 1) cols rows (neighbourOf cols rows node outputHere) (oppositeOf outputHere) (delay + routerCycles) (laterCodes route))
+      (follow (left - 1) cols rows (neighbourOf cols rows node outputHere) (oppositeOf outputHere) (delay + hopCycles outputHere) (laterCodes route))
   follow-on zero h ne = absurd (not-suc-le-zero h)
   follow-on (suc left) h ne = rw sub-one (follow-side left ne)
 
@@ -131,7 +144,7 @@ written-on wires delays at hops u nowhere = refl
 pub record Going (answer : Path) (cols rows : ℕ) (wires delays : List ℕ) (node entry delay rest hops : ℕ) : Type 0 where
   pub here : InGrid cols rows node
   pub few : hops ≤ 8
-  pub late : delay ≡ 3 * (hops + 1)
+  pub soon : delay ≤ 16 * (hops + 1)
   pub wires-long : length wires ≡ 9
   pub delays-long : length delays ≡ 9
   pub rest-leads : written wires delays (hops + 1) hops (follow (8 - hops) cols rows node entry delay rest) ≡ answer
@@ -143,7 +156,7 @@ unfolding routeFrom
 going-start cols rows node route g = record {
   here = g;
   few = omega arith;
-  late = refl;
+  soon = omega arith;
   wires-long = refl;
   delays-long = refl;
   rest-leads = written-start node (follow 8 cols rows node 4 3 route);
@@ -177,31 +190,34 @@ module _ {answer : Path} {cols rows : ℕ} {wires delays : List ℕ} {node entry
   going-opposite : hops < 8 → {output : ℕ} → output ≡ outputOf entry (firstCode rest) → (output ≡ memoryOutput → ⊥)
       → {next : ℕ} → next ≡ neighbourOf cols rows node output
       → Going answer cols rows (set wires (hops + 1) (node * 6 + output)) (set delays (hops + 1) delay) next
-      (oppositeOf output) (delay + 3) (laterCodes rest) (hops + 1)
+      (oppositeOf output) (delay + hopCycles output) (laterCodes rest) (hops + 1)
   going-opposite h {output} w ne {next} e = record {
     here = subst (InGrid cols rows) (sym e) (next-inside (g .here) output);
     few = omega arith;
-    late = omega (arith, g .late);
+    soon = omega (arith, g .soon, hop-high output (hopCycles output) refl);
     wires-long = length-set wires (hops + 1) (node * 6 + output) ∙ g .wires-long;
     delays-long = length-set delays (hops + 1) delay ∙ g .delays-long;
     rest-leads =
         let less : 8 - (hops + 1) ≡ 8 - hops - 1 = omega arith in
         rw (less, e, w)
         (written-on wires delays (hops + 1) hops (record { wire = side node (outputOf entry (firstCode rest)); delay = delay })
-        (follow (8 - hops - 1) cols rows (neighbourOf cols rows node (outputOf entry (firstCode rest))) (oppositeOf (outputOf entry (firstCode rest))) (delay + 3) (laterCodes rest))
+        (follow (8 - hops - 1) cols rows (neighbourOf cols rows node (outputOf entry (firstCode rest))) (oppositeOf (outputOf entry (firstCode rest))) (delay + hopCycles (outputOf entry (firstCode rest))) (laterCodes rest))
         ∙ sym (ap (written wires delays (hops + 1) hops) (follow-on cols rows node entry delay rest (8 - hops) (omega arith) (λ q. ne (w ∙ q))))
         ∙ g .rest-leads);
   }
 
-  -- by which side it comes in there, however that is reckoned
+  -- by which side it comes in there, and how many cycles later, however that is reckoned
   pub going-on : hops < 8 → {output : ℕ} → output ≡ outputOf entry (firstCode rest) → (output ≡ memoryOutput → ⊥)
       → {next : ℕ} → next ≡ neighbourOf cols rows node output
       → {turned : ℕ} → turned ≡ oppositeOf output
+      → {more : ℕ} → more ≡ hopCycles output
       → Going answer cols rows (set wires (hops + 1) (node * 6 + output)) (set delays (hops + 1) delay) next
-      turned (delay + 3) (laterCodes rest) (hops + 1)
-  going-on h {output} w ne {next} e {turned} t =
+      turned (delay + more) (laterCodes rest) (hops + 1)
+  going-on h {output} w ne {next} e {turned} t {more} c =
       subst (λ (x : ℕ). Going answer cols rows (set wires (hops + 1) (node * 6 + output)) (set delays (hops + 1) delay) next
-      x (delay + 3) (laterCodes rest) (hops + 1)) (sym t) (going-opposite h w ne e)
+      x (delay + more) (laterCodes rest) (hops + 1)) (sym t)
+      (subst (λ (x : ℕ). Going answer cols rows (set wires (hops + 1) (node * 6 + output)) (set delays (hops + 1) delay) next
+      (oppositeOf output) (delay + x) (laterCodes rest) (hops + 1)) (sym c) (going-opposite h w ne e))
 
   -- after eight routers, the route leads nowhere
   pub going-end : 8 ≤ hops → pathOf nowhere ≡ answer
@@ -243,7 +259,8 @@ record Led (cols rows left delay : ℕ) (uses : List Use) (node hops : ℕ) : Ty
   arrives : InGrid cols rows node
   counted : length uses ≡ hops + 1
   within : hops < left
-  small : (d : ℕ) → delay + 3 * hops ≤ d → SmallUses (cols * rows * 6) d uses
+  later : delay ≤ delayAt uses hops
+  small : (d : ℕ) → delayAt uses hops ≤ d → SmallUses (cols * rows * 6) d uses
 
 -- and nothing where it leads nowhere
 abbrev Followed : ℕ → ℕ → ℕ → ℕ → Route → Type 0
@@ -252,29 +269,35 @@ Followed cols rows left delay nowhere = Unit {0}
 
 module _ (cols rows : ℕ) where
   followed-out : (left node delay : ℕ) → InGrid cols rows node → (b : Bool) → Followed cols rows (suc left) delay (ending b node delay)
+  unfolding delayAt
   followed-out left node delay g true = record {
     arrives = g;
     counted = refl;
     within = omega arith;
+    later = omega arith;
     small = λ d h. (record { proper = tt; numbered = omega (arith, g .inside); soon = omega arith }, tt);
   }
   followed-out left node delay g false = tt
 
-  followed-on : (left node delay output : ℕ) → InGrid cols rows node → output < 4 → (r : Route) → Followed cols rows left (delay + 3) r
+  followed-on : (left node delay output : ℕ) → InGrid cols rows node → output < 4 → (r : Route) → Followed cols rows left (delay + hopCycles output) r
       → Followed cols rows (suc left) delay (overSide (record { wire = side node output; delay = delay }) r)
-  followed-on left node delay output g c (leads uses end hops) f = record {
-    arrives = f .arrives;
-    counted = omega (arith, f .counted);
-    within = omega (arith, f .within);
-    small = λ d h.
-        (record { proper = c; numbered = omega (arith, g .inside); soon = omega arith }, f .small d (omega arith));
-  }
+  unfolding delayAt
+  followed-on left node delay output g c (leads uses end hops) f =
+      let last : delayAt (record { wire = side node output; delay = delay } ∷ uses) (hops + 1) ≡ delayAt uses hops = rw add-one refl in
+      record {
+        arrives = f .arrives;
+        counted = omega (arith, f .counted);
+        within = omega (arith, f .within);
+        later = omega (arith, last, f .later);
+        small = λ d h.
+            (record { proper = c; numbered = omega (arith, g .inside); soon = omega (arith, last, f .later) }, f .small d (omega (arith, last)));
+      }
   followed-on left node delay output g c nowhere f = tt
 
   -- the rest of a route behind the router by an output
   abbrev onFrom : ℕ → ℕ → ℕ → ℕ → ℕ → Route
   onFrom left node delay route output =
-      follow left cols rows (neighbourOf cols rows node output) (oppositeOf output) (delay + routerCycles) (laterCodes route)
+      follow left cols rows (neighbourOf cols rows node output) (oppositeOf output) (delay + hopCycles output) (laterCodes route)
 
   followed : (left node entry delay route : ℕ) → InGrid cols rows node
       → Followed cols rows left delay (follow left cols rows node entry delay route)
@@ -282,12 +305,12 @@ module _ (cols rows : ℕ) where
   followed zero node entry delay route g = tt
   followed (suc left) node entry delay route g =
       go (ℕ-discrete output memoryOutput)
-      (followed left (neighbourOf cols rows node output) (oppositeOf output) (delay + routerCycles) (laterCodes route) (next-inside g output))
+      (followed left (neighbourOf cols rows node output) (oppositeOf output) (delay + hopCycles output) (laterCodes route) (next-inside g output))
     where
       output : ℕ
       output = outputOf entry (firstCode route)
 
-      go : Dec (output ≡ memoryOutput) → Followed cols rows left (delay + routerCycles) (onFrom left node delay route output)
+      go : Dec (output ≡ memoryOutput) → Followed cols rows left (delay + hopCycles output) (onFrom left node delay route output)
           → Followed cols rows (suc left) delay (follow (suc left) cols rows node entry delay route)
       go (yes e) r =
           subst (Followed cols rows (suc left) delay) (sym (follow-memory cols rows node entry delay route left e))
@@ -302,7 +325,7 @@ record LedFrom (cols rows : ℕ) (uses : List Use) (node hops : ℕ) : Type 0 wh
   arrives : InGrid cols rows node
   counted : length uses ≡ hops + 2
   within : hops ≤ 7
-  small : SmallUses (cols * rows * 6) (3 * (hops + 1)) uses
+  small : SmallUses (cols * rows * 6) (delayAt uses (suc hops)) uses
 
 abbrev FollowedFrom : ℕ → ℕ → Route → Type 0
 FollowedFrom cols rows (leads uses node hops) = LedFrom cols rows uses node hops
@@ -310,11 +333,12 @@ FollowedFrom cols rows nowhere = Unit {0}
 
 followed-source : (cols rows node : ℕ) → InGrid cols rows node → (r : Route) → Followed cols rows 8 3 r
     → FollowedFrom cols rows (fromSource (record { wire = source node; delay = 0 }) r)
+unfolding delayAt
 followed-source cols rows node g (leads uses end hops) f = record {
   arrives = f .arrives;
   counted = omega (arith, f .counted);
   within = omega (arith, f .within);
-  small = (record { proper = tt; numbered = omega (arith, g .inside); soon = omega arith }, f .small (3 * (hops + 1)) (omega arith));
+  small = (record { proper = tt; numbered = omega (arith, g .inside); soon = omega arith }, f .small (delayAt uses hops) (omega arith));
 }
 followed-source cols rows node g nowhere f = tt
 
@@ -327,7 +351,7 @@ module _ (cols rows source-node route : ℕ) (g : InGrid cols rows source-node) 
       (followed-source cols rows source-node g (follow 8 cols rows source-node 4 3 route) (followed cols rows 8 source-node 4 3 route g))
 
   -- each use of a route is of a wire of the grid, and no later than its last output
-  pub uses-small : SmallUses (cols * rows * 6) (3 * (hops + 1)) uses
+  pub uses-small : SmallUses (cols * rows * 6) (lastDelay (leads uses node hops)) uses
   uses-small = led-from .small
 
   -- a route uses a source wire, a side output for each hop, and a memory output

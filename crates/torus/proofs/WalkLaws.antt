@@ -14,7 +14,7 @@ use Rattle.words.proofs.AllLaws.{any-at}
 use Rattle.words.proofs.WordLaws.{leastFrom-least, leastFrom-most}
 use Rattle.packet.specs.Header.{firstCode, laterCodes}
 use Rattle.torus.specs.Torus.{neighbourOf, oppositeOf, walks, distanceOf}
-use Rattle.torus.specs.Route.{Use, Route, leads, nowhere, memoryOutput, outputOf, ending, overSide, fromSource, side, source, follow, routeFrom, codes, noSide, routerCycles}
+use Rattle.torus.specs.Route.{Use, Route, leads, nowhere, memoryOutput, outputOf, ending, overSide, fromSource, side, source, follow, routeFrom, codes, noSide, routerCycles, hopCycles}
 use Rattle.torus.proofs.RouteLaws.{side-small, follow-memory, follow-side}
 
 module _ (cols rows : ℕ) where
@@ -39,13 +39,13 @@ module _ (cols rows : ℕ) where
   walked zero node entry delay route = tt
   walked (suc left) node entry delay route =
       go (ℕ-discrete output memoryOutput)
-      (walked left (neighbourOf cols rows node output) (oppositeOf output) (delay + routerCycles) (laterCodes route))
+      (walked left (neighbourOf cols rows node output) (oppositeOf output) (delay + hopCycles output) (laterCodes route))
     where
       output : ℕ
       output = outputOf entry (firstCode route)
 
       rest : Route
-      rest = follow left cols rows (neighbourOf cols rows node output) (oppositeOf output) (delay + routerCycles) (laterCodes route)
+      rest = follow left cols rows (neighbourOf cols rows node output) (oppositeOf output) (delay + hopCycles output) (laterCodes route)
 
       go : Dec (output ≡ memoryOutput) → Walked (neighbourOf cols rows node output) rest
           → Walked node (follow (suc left) cols rows node entry delay route)

@@ -1,2 +1,3 @@
 pub mod Torus
 pub mod Route
+pub mod Inner

@@ -1,13 +1,11 @@
 -- Following a route (document 01, "The packet" and "The router"): one code a router, lowest first; three cycles a router.
-use Prim.Native.Nat.{ℕ, zero, suc, _+_, _*_}
+use Prim.Native.Nat.{ℕ, zero, suc, _+_}
 use mathlib.Core.Bool.{Bool, true, false}
-use mathlib.Core.List.{List, [], _∷_, map}
-use lib.ListN.{replicate}
+use mathlib.Core.List.{List, [], _∷_}
 use Rattle.words.specs.Tests.{_=?_}
-use Rattle.words.specs.Words.{pick, putAll}
+use Rattle.words.specs.Words.{pick}
 use Rattle.packet.specs.Header.{firstCode, laterCodes}
 use Rattle.torus.specs.Torus.{neighbourOf, oppositeOf}
-use Rattle.torus.specs.declared.Path.{Path}
 
 -- the entry side of a packet at its first router, where each code names a side to leave by
 abbrev pub noSide : ℕ
@@ -41,6 +39,10 @@ pub data Route : Type 0 where
 abbrev pub routerCycles : ℕ
 routerCycles = 3
 
+-- the cycles of a hop by a side: a word on a router's output by that side is on the next router's output so many cycles later
+unfoldable pub hopCycles : ℕ → ℕ
+hopCycles output = routerCycles
+
 -- out to a node's memory: the end of the route, unless bits are left above its last code
 abbrev pub ending : Bool → ℕ → ℕ → Route
 ending true node delay = leads (record { wire = memory node; delay = delay } ∷ []) node 0
@@ -64,7 +66,7 @@ follow (suc left) cols rows node entry delay route =
     elim (output =? memoryOutput) [
       | true ↦ ending (laterCodes route =? 0) node delay
       | false ↦ overSide (record { wire = side node output; delay = delay })
-          (follow left cols rows (neighbourOf cols rows node output) (oppositeOf output) (delay + routerCycles) (laterCodes route))
+          (follow left cols rows (neighbourOf cols rows node output) (oppositeOf output) (delay + hopCycles output) (laterCodes route))
     ]
 
 -- a route of 16 bits has eight codes
@@ -75,27 +77,3 @@ codes = 8
 unfoldable pub routeFrom : ℕ → ℕ → ℕ → ℕ → Route
 routeFrom cols rows node route =
     fromSource (record { wire = source node; delay = 0 }) (follow codes cols rows node noSide routerCycles route)
-
--- a node has six wires: number them by its four sides, its source and its memory
-abbrev pub wiresPerNode : ℕ
-wiresPerNode = 6
-
-abbrev pub wireNumber : Wire → ℕ
-wireNumber (source node) = node * wiresPerNode + 4
-wireNumber (side node s) = node * wiresPerNode + s
-wireNumber (memory node) = node * wiresPerNode + 5
-
--- the most wires that a route can use: the source and an output for each code
-abbrev pub mostUses : ℕ
-mostUses = 9
-
--- the answer, from where a route leads: a route of h hops uses the first h + 2 places of its two lists, and the others are 0
-abbrev pub pathOf : Route → Path
-pathOf (leads uses node hops) = record {
-  leads = true;
-  node = node;
-  hops = hops;
-  wires = putAll (replicate mostUses 0) 0 (map (λ (u : Use). wireNumber (u .wire)) uses);
-  delays = putAll (replicate mostUses 0) 0 (map (λ (u : Use). u .delay) uses);
-}
-pathOf nowhere = record { leads = false; node = 0; hops = 0; wires = replicate mostUses 0; delays = replicate mostUses 0 }

@@ -1,16 +1,8 @@
 -- The grid (document 01, "The grid"): node = row × columns + column; sides 0 north, 1 east, 2 south, 3 west, all wrapping round.
-use Prim.Native.Nat.{ℕ, zero, suc, _+_, _-_, _*_, _/_, _%_, _≤_, _<_}
+use Prim.Native.Nat.{ℕ, zero, suc, _+_, _-_, _*_, _/_, _%_}
 use mathlib.Core.Bool.{Bool}
 use Rattle.words.specs.Tests.{any, _=?_}
 use Rattle.words.specs.Words.{leastFrom}
-
--- a node of a grid of 2 to 4 columns and 2 to 4 rows
-pub record InGrid (cols rows node : ℕ) : Type 0 where
-  pub cols-low : 2 ≤ cols
-  pub cols-high : cols ≤ 4
-  pub rows-low : 2 ≤ rows
-  pub rows-high : rows ≤ 4
-  pub inside : node < cols * rows
 
 abbrev pub rowOf : ℕ → ℕ → ℕ
 rowOf cols node = node / cols

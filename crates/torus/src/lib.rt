@@ -4,8 +4,10 @@ mod distances;
 ghost use mathlib.Core.Path.{_≡_};
 ghost use mathlib.Core.Bool.{true, false};
 ghost use Prim.Native.Nat.{ℕ, _+_, _*_, _%_, _<_, _≤_};
-ghost use Rattle.torus.specs.Torus.{InGrid, neighbourOf, distanceOf};
-ghost use Rattle.torus.specs.Route.{outputOf, routeFrom, pathOf, nowhere};
+ghost use Rattle.torus.specs.Torus.{neighbourOf, distanceOf};
+ghost use Rattle.torus.specs.Inner.Grid.{InGrid};
+ghost use Rattle.torus.specs.Route.{outputOf, hopCycles, routeFrom, nowhere};
+ghost use Rattle.torus.specs.Inner.Paths.{pathOf};
 use distances::DISTANCES;
 
 // The entry side of a packet at its first router, and a router's output to its node's memory; 0 to 3 are the sides.
@@ -133,6 +135,13 @@ pub fn output_of(entry: u32, code: u32) -> u32
     }
 }
 
+// The cycles of a hop by a side, from one router's output to the next router's.
+fn hop_cycles(side: u32) -> u32
+    ensures { λ r. ⌜ r ≡ hopCycles side ⌝ }
+{
+    ROUTER_CYCLES
+}
+
 // The answer for a route that leads nowhere.
 fn nowhere_path() -> Path
     ensures { λ r. ⌜ r ≡ pathOf nowhere ⌝ }
@@ -181,7 +190,7 @@ pub fn follow_route(cols: u32, rows: u32, source: u32, route: u32) -> Path
         wires[at] = node * WIRES_PER_NODE + output;
         node = neighbour(cols, rows, node, output);
         entry = (output + 2) % 4;
-        delay += ROUTER_CYCLES;
+        delay += hop_cycles(output);
         hops += 1;
     }
     nowhere_path()

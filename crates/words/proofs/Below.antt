@@ -15,20 +15,20 @@ abbrev pub every : ℕ → (ℕ → Bool) → Bool
 every zero test = true
 every (suc n) test = test n && every n test
 
-and-left : (a b : Bool) → T (a && b) → T a
-and-left true b t = tt
-and-left false b t = t
+first-passes : (a b : Bool) → T (a && b) → T a
+first-passes true b t = tt
+first-passes false b t = t
 
-and-right : (a b : Bool) → T (a && b) → T b
-and-right true b t = t
-and-right false b t = absurd t
+rest-passes : (a b : Bool) → T (a && b) → T b
+rest-passes true b t = t
+rest-passes false b t = absurd t
 
 pub every-at : (n : ℕ) (test : ℕ → Bool) → T (every n test) → (k : ℕ) → k < n → T (test k)
 every-at zero test t k h = absurd (not-suc-le-zero h)
-every-at (suc n) test t k h = go (ℕ-discrete k n) (every-at n test (and-right (test n) (every n test) t) k)
+every-at (suc n) test t k h = go (ℕ-discrete k n) (every-at n test (rest-passes (test n) (every n test) t) k)
   where
     go : Dec (k ≡ n) → (k < n → T (test k)) → T (test k)
-    go (yes e) r = subst (λ (m : ℕ). T (test m)) (sym e) (and-left (test n) (every n test) t)
+    go (yes e) r = subst (λ (m : ℕ). T (test m)) (sym e) (first-passes (test n) (every n test) t)
     go (no ne) r = r (omega (arith, ne))
 
 -- the test passes at each entry of the list and its place, counted from i
@@ -40,10 +40,10 @@ entry-from : (test : ℕ → ℕ → Bool) (xs : List ℕ) (i : ℕ) → T (ever
     → T (test (i + k) (getD xs k 0))
 entry-from test [] i t k h = absurd (not-suc-le-zero h)
 entry-from test (x ∷ xs) i t zero h =
-    subst (λ (m : ℕ). T (test m x)) (sym (add-zero i)) (and-left (test i x) (everyEntry test (suc i) xs) t)
+    subst (λ (m : ℕ). T (test m x)) (sym (add-zero i)) (first-passes (test i x) (everyEntry test (suc i) xs) t)
 entry-from test (x ∷ xs) i t (suc k) h =
     subst (λ (m : ℕ). T (test m (getD xs k 0))) (suc-add i k ∙ sym (add-suc i k))
-    (entry-from test xs (suc i) (and-right (test i x) (everyEntry test (suc i) xs) t) k (le-of-suc-le-suc h))
+    (entry-from test xs (suc i) (rest-passes (test i x) (everyEntry test (suc i) xs) t) k (le-of-suc-le-suc h))
 
 pub everyEntry-at : (test : ℕ → ℕ → Bool) (xs : List ℕ) → T (everyEntry test 0 xs) → (k : ℕ) → k < length xs
     → T (test k (getD xs k 0))

@@ -1,13 +1,13 @@
 -- Laws of the first number that applies: it is 0 exactly where every test holds.
 -- Assumes nothing.
-use Prim.Native.Nat.{ℕ, _<_}
+use Prim.Native.Nat.{ℕ, suc, _<_}
 use mathlib.Core.Bool.{Bool, true, false, false≢true}
 use mathlib.Core.Path.{_≡_, refl, sym, _∙_, ap}
 use native.Mathlib.Omega.{arith}
-use Rattle.words.specs.Tests.{_=?_}
+use Rattle.words.specs.Tests.{_=?_, _and_}
 use Rattle.words.specs.Words.{pick}
 use Rattle.words.specs.Numbers.{unless, _then_}
-use Rattle.words.proofs.TestLaws.{is=, yes=}
+use Rattle.words.proofs.TestLaws.{is=, yes=, no=}
 
 -- no number of two applies
 pub then-zero : (a b : ℕ) → (a then b) ≡ 0 → (a ≡ 0) × (b ≡ 0)
@@ -32,3 +32,26 @@ zero-then {a} {b} e f = ap (λ (t : Bool). pick t b a) (yes= e) ∙ f
 pub zero-unless : (number : ℕ) {test : Bool} → test ≡ true → unless number test ≡ 0
 unfolding unless
 zero-unless number {test} e = ap (λ (t : Bool). pick t 0 number) e
+
+-- tests one after another
+pub then-test : (a b : ℕ) → ((a then b) =? 0) ≡ (a =? 0 and b =? 0)
+unfolding _then_ _and_
+then-test a b = go (a =? 0) refl
+  where
+    go : (t : Bool) → (a =? 0) ≡ t → (pick t b a =? 0) ≡ (t and b =? 0)
+    go true e = refl
+    go false e = e
+
+pub unless-test : (n : ℕ) (t : Bool) → (unless (suc n) t =? 0) ≡ t
+unfolding unless
+unless-test n true = yes= refl
+unless-test n false = no= (λ e. absurd (let z : ⊥ = omega arith in z))
+
+-- behind a number that is 0, the rest decides
+pub after-zero : {a : ℕ} (b : ℕ) → a ≡ 0 → ((a then b) =? 0) ≡ (b =? 0)
+unfolding _and_
+after-zero {a} b e = then-test a b ∙ ap (λ (t : Bool). t and b =? 0) (yes= e)
+
+-- a test, then a number
+pub test-then : (n : ℕ) (t : Bool) (b : ℕ) → ((unless (suc n) t then b) =? 0) ≡ (t and b =? 0)
+test-then n t b = then-test (unless (suc n) t) b ∙ ap (λ (u : Bool). u and b =? 0) (unless-test n t)

@@ -1,7 +1,9 @@
 -- What a test made of the shut operators gives, part by part; a test from its fact, and the fact from its test.
 -- Assumes nothing.
 use Prim.Native.Nat.{ℕ, _<_, _≤_}
-use mathlib.Core.Bool.{Bool, true, false, not}
+use mathlib.Core.Bool.{Bool, true, false, not, false≢true}
+use native.Mathlib.Omega.{arith}
+use native.Mathlib.Decide.{decLe}
 use borrow.Author.Tests.{le-leb, lt-leb, lt-ltb, le-ltb, eq-eqb, ne-eqb, leb-true, ltb-true, eqb-true}
 use Rattle.words.specs.Tests.{_and_, _or_, _≤?_, _<?_, _=?_, _≠?_}
 use mathlib.Core.Path.{_≡_, refl, _∙_, sym, ap}
@@ -108,8 +110,44 @@ pub is= : (a b : ℕ) → (a =? b) ≡ true → a ≡ b
 unfolding _=?_
 is= a b h = eqb-true a b h
 
+pub is≠ : (a b : ℕ) → (a ≠? b) ≡ true → a ≡ b → ⊥
+is≠ a b h e = false≢true (sym (no≠ e) ∙ h)
+
+pub not< : (a b : ℕ) → (a <? b) ≡ false → b ≤ a
+not< a b e = go (decLe b a)
+  where
+    go : Dec (b ≤ a) → b ≤ a
+    go (yes p) = p
+    go (no p) = absurd (false≢true (sym e ∙ yes< (omega (arith, p))))
+
 -- one of two tests holds
 pub or-cases : (a b : Bool) {A : Type 0} → a or b ≡ true → (a ≡ true → A) → (b ≡ true → A) → A
 unfolding _or_
 or-cases true b e f g = f refl
 or-cases false b e f g = g e
+
+-- several tests in another order
+pub or-false : (a : Bool) → a ≡ a or false
+unfolding _or_
+or-false true = refl
+or-false false = refl
+
+pub or-swap : (a b : Bool) → a or b ≡ b or a
+unfolding _or_
+or-swap true b = or-yes-right b
+  where
+    or-yes-right : (b : Bool) → true ≡ b or true
+    or-yes-right true = refl
+    or-yes-right false = refl
+or-swap false b = or-false b
+
+pub or-assoc : (a b c : Bool) → a or (b or c) ≡ (a or b) or c
+unfolding _or_
+or-assoc true b c = refl
+or-assoc false b c = refl
+
+pub or-pairs : (a b c d : Bool) → (a or b) or (c or d) ≡ (a or c) or (b or d)
+unfolding _or_
+or-pairs true b c d = refl
+or-pairs false true c d = or-skip c refl
+or-pairs false false c d = refl

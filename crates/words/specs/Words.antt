@@ -2,7 +2,7 @@
 use mathlib.Core.Bool.{Bool, true, false}
 use mathlib.Core.List.{List, [], _∷_, _++_}
 use Prim.Native.Nat.{ℕ, suc, zero, _+_}
-use lib.ListN.{getD, set}
+use lib.ListN.{getD}
 
 -- word k of a list of words, 0 past its end
 abbrev pub word : List ℕ → ℕ → ℕ
@@ -27,11 +27,6 @@ lastOf (suc n) test = pick (test n) (suc n) (lastOf n test)
 unfoldable pub countOf : ℕ → (ℕ → Bool) → ℕ
 countOf zero test = 0
 countOf (suc n) test = pick (test n) (suc (countOf n test)) (countOf n test)
-
--- the list with some words put in from a place on
-unfoldable pub putAll : List ℕ → ℕ → List ℕ → List ℕ
-putAll s at [] = s
-putAll s at (x ∷ xs) = putAll (set s at x) (at + 1) xs
 
 -- the least number from k on, of so many, at which the test holds; past them all where there is none
 unfoldable pub leastFrom : ℕ → ℕ → (ℕ → Bool) → ℕ

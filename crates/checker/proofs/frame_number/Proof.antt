@@ -17,10 +17,24 @@ keeps-rule3-requires : tie.Need-keeps-rule3-requires
 keeps-rule3-requires c κs = headed _ (sym (c .before .before .before .keeps-rule1 .ensures) ∙ c .before .before .if1 .taken) (sym (c .before .keeps-rule2 .ensures) ∙ c .if2 .taken)
 
 returns : tie.Need-returns
-returns c = on _ _ _ (sym (c .before .before .before .before .before .keeps-rule1 .ensures) ∙ c .before .before .before .before .if1 .taken) (on _ _ _ (sym (c .before .before .before .keeps-rule2 .ensures) ∙ c .before .before .if2 .taken) (on _ _ _ (sym (c .before .keeps-rule3 .ensures) ∙ c .if3 .taken) (done _)))
+returns c =
+    let at-if2 = c .before .before in
+    let at-keeps-rule2 = at-if2 .before in
+    let at-if1 = at-keeps-rule2 .before in
+    let at-keeps-rule1 = at-if1 .before in
+    on _ _ _ (sym (at-keeps-rule1 .keeps-rule1 .ensures) ∙ at-if1 .if1 .taken)
+    (on _ _ _ (sym (at-keeps-rule2 .keeps-rule2 .ensures) ∙ at-if2 .if2 .taken)
+    (on _ _ _ (sym (c .before .keeps-rule3 .ensures) ∙ c .if3 .taken) (done _)))
 
 returns-2 : tie.Need-returns-2
-returns-2 c = on _ _ _ (sym (c .before .before .before .before .before .keeps-rule1 .ensures) ∙ c .before .before .before .before .if1 .taken) (on _ _ _ (sym (c .before .before .before .keeps-rule2 .ensures) ∙ c .before .before .if2 .taken) (here _ _ _ (sym (c .before .keeps-rule3 .ensures) ∙ c .if3 .left)))
+returns-2 c =
+    let at-if2 = c .before .before in
+    let at-keeps-rule2 = at-if2 .before in
+    let at-if1 = at-keeps-rule2 .before in
+    let at-keeps-rule1 = at-if1 .before in
+    on _ _ _ (sym (at-keeps-rule1 .keeps-rule1 .ensures) ∙ at-if1 .if1 .taken)
+    (on _ _ _ (sym (at-keeps-rule2 .keeps-rule2 .ensures) ∙ at-if2 .if2 .taken)
+    (here _ _ _ (sym (c .before .keeps-rule3 .ensures) ∙ c .if3 .left)))
 
 returns-3 : tie.Need-returns-3
 returns-3 c = on _ _ _ (sym (c .before .before .before .keeps-rule1 .ensures) ∙ c .before .before .if1 .taken) (here _ _ _ (sym (c .before .keeps-rule2 .ensures) ∙ c .if2 .left))

@@ -19,28 +19,115 @@ slice-aggregate-keeps-rule9 : tie.Need-slice-aggregate-keeps-rule9
 slice-aggregate-keeps-rule9 c = search needs
 
 keeps-rule9-requires : tie.Need-keeps-rule9-requires
-keeps-rule9-requires c κs = (record { framed = c .before .before .before .before .before .before .before .pre .0; circuits-fit = c .before .before .before .before .before .before .before .pre .1; entries-fit = sym (c .before .before .before .before .before .keeps-rule7 .ensures) ∙ c .before .before .before .before .if1 .taken }, c .before .circuit-distances .ensures)
+keeps-rule9-requires c κs =
+    let at-if1 = c .before .before .before .before in
+    let at-keeps-rule7 = at-if1 .before in
+    let entry = at-keeps-rule7 .before .before in (
+      record {
+        framed = entry .pre .0;
+        circuits-fit = entry .pre .1;
+        entries-fit = sym (at-keeps-rule7 .keeps-rule7 .ensures) ∙ at-if1 .if1
+            .taken;
+      },
+      c .before .circuit-distances .ensures,
+    )
 
 slice-aggregate-keeps-rule10 : tie.Need-slice-aggregate-keeps-rule10
 slice-aggregate-keeps-rule10 c = search needs
 
 keeps-rule10-requires : tie.Need-keeps-rule10-requires
-keeps-rule10-requires c κs = (record { ranged = record { framed = c .before .before .before .before .before .before .before .before .before .before .pre .0; circuits-fit = c .before .before .before .before .before .before .before .before .before .before .pre .1; entries-fit = sym (c .before .before .before .before .before .before .before .before .keeps-rule7 .ensures) ∙ c .before .before .before .before .before .before .before .if1 .taken }; routes-lead = sym (c .before .before .keeps-rule9 .ensures) ∙ c .before .if3 .taken }, c .before .before .before .before .circuit-distances .ensures)
+keeps-rule10-requires c κs =
+    let at-keeps-rule9 = c .before .before in
+    let at-circuit-distances = at-keeps-rule9 .before .before in
+    let at-if1 = at-circuit-distances .before .before .before in
+    let at-keeps-rule7 = at-if1 .before in
+    let entry = at-keeps-rule7 .before .before in (
+      record {
+        ranged = record {
+          framed = entry .pre .0;
+          circuits-fit = entry .pre .1;
+          entries-fit = sym
+              (at-keeps-rule7 .keeps-rule7 .ensures) ∙ at-if1 .if1 .taken;
+        };
+        routes-lead = sym (at-keeps-rule9 .keeps-rule9 .ensures) ∙ c .before .if3
+            .taken;
+      },
+      at-circuit-distances .circuit-distances .ensures,
+    )
 
 keeps-rule11-requires : tie.Need-keeps-rule11-requires
-keeps-rule11-requires c κs = record { ranged = record { framed = c .before .before .before .before .before .before .before .before .before .before .before .before .pre .0; circuits-fit = c .before .before .before .before .before .before .before .before .before .before .before .before .pre .1; entries-fit = sym (c .before .before .before .before .before .before .before .before .before .before .keeps-rule7 .ensures) ∙ c .before .before .before .before .before .before .before .before .before .if1 .taken }; routes-lead = sym (c .before .before .before .before .keeps-rule9 .ensures) ∙ c .before .before .before .if3 .taken; packets-end = sym (c .before .keeps-rule10 .ensures) ∙ c .if4 .taken }
+keeps-rule11-requires c κs =
+    let at-if3 = c .before .before .before in
+    let at-keeps-rule9 = at-if3 .before in
+    let at-if1 = at-keeps-rule9 .before .before .before .before .before in
+    let at-keeps-rule7 = at-if1 .before in
+    let entry = at-keeps-rule7 .before .before in
+    record {
+      ranged = record {
+        framed = entry .pre .0;
+        circuits-fit = entry .pre .1;
+        entries-fit = sym
+            (at-keeps-rule7 .keeps-rule7 .ensures) ∙ at-if1 .if1 .taken;
+      };
+      routes-lead = sym (at-keeps-rule9 .keeps-rule9 .ensures) ∙ at-if3 .if3
+          .taken;
+      packets-end = sym (c .before .keeps-rule10 .ensures) ∙ c .if4 .taken;
+    }
 
 returns : tie.Need-returns
-returns c = on _ _ _ (sym (c .before .before .before .before .before .before .before .before .before .before .before .before .keeps-rule7 .ensures) ∙ c .before .before .before .before .before .before .before .before .before .before .before .if1 .taken) (on _ _ _ (sym (c .before .before .before .before .before .before .before .before .before .before .keeps-rule8 .ensures) ∙ c .before .before .before .before .before .before .before .before .before .if2 .taken) (on _ _ _ (sym (c .before .before .before .before .before .before .keeps-rule9 .ensures) ∙ c .before .before .before .before .before .if3 .taken) (on _ _ _ (sym (c .before .before .before .keeps-rule10 .ensures) ∙ c .before .before .if4 .taken) (on _ _ _ (sym (c .before .keeps-rule11 .ensures) ∙ c .if5 .taken) (done _)))))
+returns c =
+    let at-if4 = c .before .before in
+    let at-keeps-rule10 = at-if4 .before in
+    let at-if3 = at-keeps-rule10 .before .before in
+    let at-keeps-rule9 = at-if3 .before in
+    let at-if2 = at-keeps-rule9 .before .before .before in
+    let at-keeps-rule8 = at-if2 .before in
+    let at-if1 = at-keeps-rule8 .before in
+    let at-keeps-rule7 = at-if1 .before in
+    on _ _ _ (sym (at-keeps-rule7 .keeps-rule7 .ensures) ∙ at-if1 .if1 .taken)
+    (on _ _ _ (sym (at-keeps-rule8 .keeps-rule8 .ensures) ∙ at-if2 .if2 .taken)
+    (on _ _ _ (sym (at-keeps-rule9 .keeps-rule9 .ensures) ∙ at-if3 .if3 .taken)
+    (on _ _ _ (sym (at-keeps-rule10 .keeps-rule10 .ensures) ∙ at-if4 .if4 .taken)
+    (on _ _ _ (sym (c .before .keeps-rule11 .ensures) ∙ c .if5 .taken) (done _)))))
 
 returns-2 : tie.Need-returns-2
-returns-2 c = on _ _ _ (sym (c .before .before .before .before .before .before .before .before .before .before .before .before .keeps-rule7 .ensures) ∙ c .before .before .before .before .before .before .before .before .before .before .before .if1 .taken) (on _ _ _ (sym (c .before .before .before .before .before .before .before .before .before .before .keeps-rule8 .ensures) ∙ c .before .before .before .before .before .before .before .before .before .if2 .taken) (on _ _ _ (sym (c .before .before .before .before .before .before .keeps-rule9 .ensures) ∙ c .before .before .before .before .before .if3 .taken) (on _ _ _ (sym (c .before .before .before .keeps-rule10 .ensures) ∙ c .before .before .if4 .taken) (here _ _ _ (sym (c .before .keeps-rule11 .ensures) ∙ c .if5 .left)))))
+returns-2 c =
+    let at-if4 = c .before .before in
+    let at-keeps-rule10 = at-if4 .before in
+    let at-if3 = at-keeps-rule10 .before .before in
+    let at-keeps-rule9 = at-if3 .before in
+    let at-if2 = at-keeps-rule9 .before .before .before in
+    let at-keeps-rule8 = at-if2 .before in
+    let at-if1 = at-keeps-rule8 .before in
+    let at-keeps-rule7 = at-if1 .before in
+    on _ _ _ (sym (at-keeps-rule7 .keeps-rule7 .ensures) ∙ at-if1 .if1 .taken)
+    (on _ _ _ (sym (at-keeps-rule8 .keeps-rule8 .ensures) ∙ at-if2 .if2 .taken)
+    (on _ _ _ (sym (at-keeps-rule9 .keeps-rule9 .ensures) ∙ at-if3 .if3 .taken)
+    (on _ _ _ (sym (at-keeps-rule10 .keeps-rule10 .ensures) ∙ at-if4 .if4 .taken)
+    (here _ _ _ (sym (c .before .keeps-rule11 .ensures) ∙ c .if5 .left)))))
 
 returns-3 : tie.Need-returns-3
-returns-3 c = on _ _ _ (sym (c .before .before .before .before .before .before .before .before .before .before .keeps-rule7 .ensures) ∙ c .before .before .before .before .before .before .before .before .before .if1 .taken) (on _ _ _ (sym (c .before .before .before .before .before .before .before .before .keeps-rule8 .ensures) ∙ c .before .before .before .before .before .before .before .if2 .taken) (on _ _ _ (sym (c .before .before .before .before .keeps-rule9 .ensures) ∙ c .before .before .before .if3 .taken) (here _ _ _ (sym (c .before .keeps-rule10 .ensures) ∙ c .if4 .left))))
+returns-3 c =
+    let at-if3 = c .before .before .before in
+    let at-keeps-rule9 = at-if3 .before in
+    let at-if2 = at-keeps-rule9 .before .before .before in
+    let at-keeps-rule8 = at-if2 .before in
+    let at-if1 = at-keeps-rule8 .before in
+    let at-keeps-rule7 = at-if1 .before in
+    on _ _ _ (sym (at-keeps-rule7 .keeps-rule7 .ensures) ∙ at-if1 .if1 .taken)
+    (on _ _ _ (sym (at-keeps-rule8 .keeps-rule8 .ensures) ∙ at-if2 .if2 .taken)
+    (on _ _ _ (sym (at-keeps-rule9 .keeps-rule9 .ensures) ∙ at-if3 .if3 .taken)
+    (here _ _ _ (sym (c .before .keeps-rule10 .ensures) ∙ c .if4 .left))))
 
 returns-4 : tie.Need-returns-4
-returns-4 c = on _ _ _ (sym (c .before .before .before .before .before .before .before .keeps-rule7 .ensures) ∙ c .before .before .before .before .before .before .if1 .taken) (on _ _ _ (sym (c .before .before .before .before .before .keeps-rule8 .ensures) ∙ c .before .before .before .before .if2 .taken) (here _ _ _ (sym (c .before .keeps-rule9 .ensures) ∙ c .if3 .left)))
+returns-4 c =
+    let at-if2 = c .before .before .before .before in
+    let at-keeps-rule8 = at-if2 .before in
+    let at-if1 = at-keeps-rule8 .before in
+    let at-keeps-rule7 = at-if1 .before in
+    on _ _ _ (sym (at-keeps-rule7 .keeps-rule7 .ensures) ∙ at-if1 .if1 .taken)
+    (on _ _ _ (sym (at-keeps-rule8 .keeps-rule8 .ensures) ∙ at-if2 .if2 .taken)
+    (here _ _ _ (sym (c .before .keeps-rule9 .ensures) ∙ c .if3 .left)))
 
 returns-5 : tie.Need-returns-5
 returns-5 c = on _ _ _ (sym (c .before .before .before .keeps-rule7 .ensures) ∙ c .before .before .if1 .taken) (here _ _ _ (sym (c .before .keeps-rule8 .ensures) ∙ c .if2 .left))

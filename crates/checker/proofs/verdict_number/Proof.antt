@@ -19,10 +19,21 @@ returns-2 : tie.Need-returns-2
 returns-2 c = circuits-decide _ _ (c .before .before .before .frame-number .ensures) (c .before .before .if1 .left) _ (c .before .circuits-number .ensures) (c .if2 .taken)
 
 schedules-number-requires : tie.Need-schedules-number-requires
-schedules-number-requires c κs = (frame-kept _ (sym (c .before .before .before .frame-number .ensures) ∙ c .before .before .if1 .left), circuits-kept _ (sym (c .before .circuits-number .ensures) ∙ c .if2 .left))
+schedules-number-requires c κs =
+    let at-if1 = c .before .before in
+    let at-frame-number = at-if1 .before in (
+      frame-kept _ (sym (at-frame-number .frame-number .ensures) ∙ at-if1 .if1 .left),
+      circuits-kept _
+          (sym (c .before .circuits-number .ensures) ∙ c .if2 .left),
+    )
 
 returns-3 : tie.Need-returns-3
-returns-3 c = entries-decide _ _ (c .before .before .before .before .frame-number .ensures) (c .before .before .before .if1 .left) _ (c .before .before .circuits-number .ensures) (c .before .if2 .left) _ (c .schedules-number .ensures)
+returns-3 c =
+    let at-circuits-number = c .before .before in
+    let at-if1 = at-circuits-number .before in
+    let at-frame-number = at-if1 .before in
+    entries-decide _ _ (at-frame-number .frame-number .ensures) (at-if1 .if1 .left) _ (at-circuits-number .circuits-number .ensures)
+    (c .before .if2 .left) _ (c .schedules-number .ensures)
 
 pub verdict-number-spec : {M : Type 1} → statement M
 verdict-number-spec =

@@ -28,7 +28,12 @@ entries-of-requires : tie.Need-entries-of-requires Inv-loop μ-loop
 entries-of-requires c κs = (c .before .before .before .pre .0 .ranged .framed, c .before .before .before .pre .1)
 
 loop-holds : tie.Need-loop-holds Inv-loop μ-loop
-loop-holds c = (omega arith, placing-start _ _ _ _ _ _ refl (c .before .before .before .before .pre .0) (c .before .before .before .before .pre .1) (c .before .before .before .before .pre .2) (c .before .before .before .before .pre .3) (c .entries-of .ensures) (ap (λ (n : ℕ). n + 6) (c .before .schedule-period .ensures)))
+loop-holds c =
+    let entry = c .before .before .before .before in (
+      omega arith,
+      placing-start _ _ _ _ _ _ refl (entry .pre .0) (entry .pre .1) (entry .pre .2) (entry .pre .3) (c .entries-of .ensures)
+          (ap (λ (n : ℕ). n + 6) (c .before .schedule-period .ensures)),
+    )
 
 at-requires : tie.Need-at-requires Inv-loop μ-loop
 at-requires c κs = omega arith
@@ -43,13 +48,30 @@ loop-less : tie.Need-loop-less Inv-loop μ-loop
 loop-less c = omega arith
 
 loop-again : tie.Need-loop-again Inv-loop μ-loop
-loop-again c = (omega arith, placing-more _ _ _ _ _ (c .before .before .before .before .before .before .before .loop .i) _ (c .before .before .before .before .before .before .before .loop .inv .1) (omega arith) _ (c .before .before .before .before .at .ensures) _ (c .before .before .before .place-entry .ensures) (c .if1 .taken))
+loop-again c =
+    let at-place-entry = c .before .before .before in
+    let at-at = at-place-entry .before in
+    let at-loop = at-at .before .before .before in (
+      omega arith,
+      placing-more _ _ _ _ _ (at-loop .loop .i) _ (at-loop .loop .inv .1) (omega arith) _ (at-at .at .ensures) _
+          (at-place-entry .place-entry .ensures) (c .if1 .taken),
+    )
 
 same-length : tie.Need-same-length Inv-loop μ-loop
-same-length c = failed-length _ _ _ _ _ (c .before .before .before .before .before .before .before .loop .i) _ (c .before .before .before .before .before .before .before .loop .inv .1) (omega arith) _ (c .before .before .before .before .at .ensures) _ (c .before .before .before .place-entry .ensures) (c .if1 .left)
+same-length c =
+    let at-place-entry = c .before .before .before in
+    let at-at = at-place-entry .before in
+    let at-loop = at-at .before .before .before in
+    failed-length _ _ _ _ _ (at-loop .loop .i) _ (at-loop .loop .inv .1) (omega arith) _ (at-at .at .ensures) _
+    (at-place-entry .place-entry .ensures) (c .if1 .left)
 
 returns : tie.Need-returns Inv-loop μ-loop
-returns c = placing-fails _ _ _ _ _ (c .before .before .before .before .before .before .before .loop .i) _ (c .before .before .before .before .before .before .before .loop .inv .1) (omega arith) _ (c .before .before .before .before .at .ensures) _ (c .before .before .before .place-entry .ensures) (c .if1 .left)
+returns c =
+    let at-place-entry = c .before .before .before in
+    let at-at = at-place-entry .before in
+    let at-loop = at-at .before .before .before in
+    placing-fails _ _ _ _ _ (at-loop .loop .i) _ (at-loop .loop .inv .1) (omega arith) _ (at-at .at .ensures) _
+    (at-place-entry .place-entry .ensures) (c .if1 .left)
 
 same-length-2 : tie.Need-same-length-2 Inv-loop μ-loop
 same-length-2 c = placing-length _ _ _ _ _ _ _ (c .before .loop .inv .1)

@@ -36,10 +36,22 @@ place-of-requires : tie.Need-place-of-requires Inv-loop μ-loop
 place-of-requires c κs = (c .before .before .before .pre .stride-small, c .before .before .before .pre .cycle-small)
 
 run-taken-requires : tie.Need-run-taken-requires Inv-loop μ-loop
-run-taken-requires c κs = (c .before .before .before .before .pre .size-low, c .before .before .before .before .pre .size-high, omega (arith, c .before .before .before .before .pre .fits (c .before .before .loop .i) (c .before .loop-test .taken), c .place-of .ensures))
+run-taken-requires c κs =
+    let at-loop = c .before .before in
+    let entry = at-loop .before .before in (
+      entry .pre .size-low,
+      entry .pre .size-high,
+      omega
+          (arith, entry .pre .fits (at-loop .loop .i) (c .before .loop-test .taken), c .place-of .ensures),
+    )
 
 returns : tie.Need-returns Inv-loop μ-loop
-returns c = packet-hit _ _ _ _ _ _ (c .before .before .before .before .loop .i) (c .before .before .before .loop-test .taken) _ (c .before .before .place-of .ensures) _ (c .before .run-taken .ensures) (c .if1 .taken) ∙ c .before .before .before .before .loop .inv .1
+returns c =
+    let at-place-of = c .before .before in
+    let at-loop-test = at-place-of .before in
+    let at-loop = at-loop-test .before in
+    packet-hit _ _ _ _ _ _ (at-loop .loop .i) (at-loop-test .loop-test .taken) _ (at-place-of .place-of .ensures) _
+    (c .before .run-taken .ensures) (c .if1 .taken) ∙ at-loop .loop .inv .1
 
 add-i : tie.Need-add-i Inv-loop μ-loop
 add-i c = omega arith
@@ -48,7 +60,14 @@ loop-less : tie.Need-loop-less Inv-loop μ-loop
 loop-less c = omega arith
 
 loop-again : tie.Need-loop-again Inv-loop μ-loop
-loop-again c = (omega arith, packet-on _ _ _ _ _ _ (c .before .before .before .before .loop .i) (c .before .before .before .loop-test .taken) _ (c .before .before .place-of .ensures) _ (c .before .run-taken .ensures) (c .if1 .left) ∙ c .before .before .before .before .loop .inv .1)
+loop-again c =
+    let at-place-of = c .before .before in
+    let at-loop-test = at-place-of .before in
+    let at-loop = at-loop-test .before in (
+      omega arith,
+      packet-on _ _ _ _ _ _ (at-loop .loop .i) (at-loop-test .loop-test .taken) _ (at-place-of .place-of .ensures) _
+          (c .before .run-taken .ensures) (c .if1 .left) ∙ at-loop .loop .inv .1,
+    )
 
 returns-2 : tie.Need-returns-2 Inv-loop μ-loop
 returns-2 c = packet-clear _ _ _ _ _ _ (c .before .loop .i) (c .loop-test .left) _ ∙ c .before .loop .inv .1

@@ -9,17 +9,29 @@ use Rattle.clash.proofs.place_entry.Tie as tie
 at-requires : tie.Need-at-requires
 at-requires c κs = search needs
 
-get-requires : tie.Need-get-requires
-get-requires c κs = search needs
+columns-of-requires : tie.Need-columns-of-requires
+columns-of-requires c κs = search needs
 
-get-requires-2 : tie.Need-get-requires-2
-get-requires-2 c κs = search needs
+rows-of-requires : tie.Need-rows-of-requires
+rows-of-requires c κs = search needs
 
 follow-route-requires : tie.Need-follow-route-requires
-follow-route-requires c κs = source-read _ _ _ _ (c .before .before .before .before .before .before .pre) _ (c .before .before .before .at .ensures) _ _ (c .before .get .ensures) (c .get2 .ensures)
+follow-route-requires c κs =
+    let at-at = c .before .before .before in
+    let entry = at-at .before .before .before in
+    source-read _ _ _ _ (entry .pre) _ (at-at .at .ensures) _ _ (c .before .columns-of .ensures) (c .rows-of .ensures)
 
 add-count : tie.Need-add-count
-add-count c = omega (arith, entry-hops _ _ _ _ (c .before .before .before .before .before .before .before .before .pre) _ (c .before .before .before .before .before .at .ensures) _ _ (c .before .before .before .get .ensures) (c .before .before .get2 .ensures) _ (c .before .follow-route .ensures))
+add-count c =
+    let at-rows-of = c .before .before in
+    let at-columns-of = at-rows-of .before in
+    let at-at = at-columns-of .before .before in
+    let entry = at-at .before .before .before in
+    omega (
+      arith,
+      entry-hops _ _ _ _ (entry .pre) _ (at-at .at .ensures) _ _ (at-columns-of .columns-of .ensures)
+          (at-rows-of .rows-of .ensures) _ (c .before .follow-route .ensures),
+    )
 
 cast-count : tie.Need-cast-count
 cast-count c = search needs
@@ -28,30 +40,63 @@ cast-cycle : tie.Need-cast-cycle
 cast-cycle c = search needs
 
 packet-taken-requires : tie.Need-packet-taken-requires
-packet-taken-requires c κs = entry-held _ _ _ _ (c .before .before .before .before .before .before .before .before .before .before .before .before .pre) _ (c .before .before .before .before .before .before .before .before .before .at .ensures) _ _ (c .before .before .before .before .before .before .before .get .ensures) (c .before .before .before .before .before .before .get2 .ensures) _ (c .before .before .before .before .before .follow-route .ensures)
+packet-taken-requires c κs =
+    let at-follow-route = c .before .before .before .before .before in
+    let at-rows-of = at-follow-route .before in
+    let at-columns-of = at-rows-of .before in
+    let at-at = at-columns-of .before .before in
+    let entry = at-at .before .before .before in
+    entry-held _ _ _ _ (entry .pre) _ (at-at .at .ensures) _ _ (at-columns-of .columns-of .ensures) (at-rows-of .rows-of .ensures) _
+    (at-follow-route .follow-route .ensures)
 
 same-length : tie.Need-same-length
 same-length c = search needs
 
 returns : tie.Need-returns
-returns c = hit-answer _ _ _ (c .before .packet-taken .ensures) (c .if1 .taken) (entry-places _ _ _ _ (c .before .before .before .before .before .before .before .before .before .before .before .before .before .before .pre) _ (c .before .before .before .before .before .before .before .before .before .before .before .at .ensures) _ _ (c .before .before .before .before .before .before .before .before .before .get .ensures) (c .before .before .before .before .before .before .before .before .get2 .ensures) _ (c .before .before .before .before .before .before .before .follow-route .ensures))
+returns c =
+    let at-follow-route = c .before .before .before .before .before .before .before in
+    let at-rows-of = at-follow-route .before in
+    let at-columns-of = at-rows-of .before in
+    let at-at = at-columns-of .before .before in
+    let entry = at-at .before .before .before in
+    hit-answer _ _ _ (c .before .packet-taken .ensures) (c .if1 .taken)
+    (entry-places _ _ _ _ (entry .pre) _ (at-at .at .ensures) _ _ (at-columns-of .columns-of .ensures) (at-rows-of .rows-of .ensures) _
+    (at-follow-route .follow-route .ensures))
 
 take-packet-requires : tie.Need-take-packet-requires
-take-packet-requires c κs = entry-held _ _ _ _ (c .before .before .before .before .before .before .before .before .before .before .before .before .before .before .before .pre) _ (c .before .before .before .before .before .before .before .before .before .before .before .before .at .ensures) _ _ (c .before .before .before .before .before .before .before .before .before .before .get .ensures) (c .before .before .before .before .before .before .before .before .before .get2 .ensures) _ (c .before .before .before .before .before .before .before .before .follow-route .ensures)
+take-packet-requires c κs =
+    let at-follow-route = c .before .before .before .before .before .before .before .before in
+    let at-rows-of = at-follow-route .before in
+    let at-columns-of = at-rows-of .before in
+    let at-at = at-columns-of .before .before in
+    let entry = at-at .before .before .before in
+    entry-held _ _ _ _ (entry .pre) _ (at-at .at .ensures) _ _ (at-columns-of .columns-of .ensures) (at-rows-of .rows-of .ensures) _
+    (at-follow-route .follow-route .ensures)
 
 same-length-2 : tie.Need-same-length-2
 same-length-2 c = search needs
 
 returns-2 : tie.Need-returns-2
-returns-2 c = take-answer _ _ _ _ (c .before .before .before .before .before .packet-taken .ensures) (c .before .before .before .before .if1 .left) (c .before .before .take-packet .ensures) (entry-places _ _ _ _ (c .before .before .before .before .before .before .before .before .before .before .before .before .before .before .before .before .before .before .pre) _ (c .before .before .before .before .before .before .before .before .before .before .before .before .before .before .before .at .ensures) _ _ (c .before .before .before .before .before .before .before .before .before .before .before .before .before .get .ensures) (c .before .before .before .before .before .before .before .before .before .before .before .before .get2 .ensures) _ (c .before .before .before .before .before .before .before .before .before .before .before .follow-route .ensures))
+returns-2 c =
+    let at-take-packet = c .before .before in
+    let at-if1 = at-take-packet .before .before in
+    let at-packet-taken = at-if1 .before in
+    let at-follow-route = at-packet-taken .before .before .before .before .before .before in
+    let at-rows-of = at-follow-route .before in
+    let at-columns-of = at-rows-of .before in
+    let at-at = at-columns-of .before .before in
+    let entry = at-at .before .before .before in
+    take-answer _ _ _ _ (at-packet-taken .packet-taken .ensures) (at-if1 .if1 .left) (at-take-packet .take-packet .ensures)
+    (entry-places _ _ _ _ (entry .pre) _ (at-at .at .ensures) _ _ (at-columns-of .columns-of .ensures) (at-rows-of .rows-of .ensures) _
+    (at-follow-route .follow-route .ensures))
 
 pub place-entry-spec : {M : Type 1} → statement M
 place-entry-spec =
     tie.close
     (tie.spec
     at-requires
-    get-requires
-    get-requires-2
+    columns-of-requires
+    rows-of-requires
     follow-route-requires
     add-count
     cast-count

@@ -41,7 +41,15 @@ place-of-requires : tie.Need-place-of-requires Inv-loop μ-loop
 place-of-requires c κs = (c .before .before .before .pre .stride-small, c .before .before .before .pre .cycle-small)
 
 take-run-requires : tie.Need-take-run-requires Inv-loop μ-loop
-take-run-requires c κs = (c .before .before .before .before .before .pre .size-low, c .before .before .before .before .before .pre .size-high, omega (arith, c .before .before .before .before .before .pre .fits (c .before .before .before .loop .i) (c .before .before .loop-test .taken), c .before .place-of .ensures, c .before .before .before .loop .inv .1))
+take-run-requires c κs =
+    let at-loop-test = c .before .before in
+    let at-loop = at-loop-test .before in
+    let entry = at-loop .before .before in (
+      entry .pre .size-low,
+      entry .pre .size-high,
+      omega
+          (arith, entry .pre .fits (at-loop .loop .i) (at-loop-test .loop-test .taken), c .before .place-of .ensures, at-loop .loop .inv .1),
+    )
 
 add-i : tie.Need-add-i Inv-loop μ-loop
 add-i c = omega arith
@@ -51,10 +59,22 @@ loop-less c = omega arith
 
 loop-again : tie.Need-loop-again Inv-loop μ-loop
 loop-again c =
-    let l = c .before .before .before .before .before .before .loop in
-    let fits : c .before .before .before .before .place-of .result + c .before .before .before .before .before .before .before .before .args .size + 32 ≤ 32 * length (l .table) = omega (arith, c .before .before .before .before .before .before .before .before .pre .fits (l .i) (c .before .before .before .before .before .loop-test .taken), c .before .before .before .before .place-of .ensures, l .inv .1) in
-    let row = row-taken (l .table) _ (c .before .before .before .before .place-of .result) (c .before .before .before .before .before .before .before .before .args .size) (l .inv .2) (c .before .before .before .before .before .before .before .before .pre .size-high) fits (c .before .before .take-run .ensures) in
-    (omega arith, row .same-length ∙ l .inv .1, λ x. c .slice-known2 .given x .fits, λ after t. l .inv .3 after (packet-takes _ _ _ _ _ _ (l .i) (c .before .before .before .before .before .loop-test .taken) _ (c .before .before .before .before .place-of .ensures) _ _ after row t))
+    let at-take-run = c .before .before in
+    let at-place-of = at-take-run .before .before in
+    let at-loop-test = at-place-of .before in
+    let at-loop = at-loop-test .before in
+    let entry = at-loop .before .before in
+    let l = at-loop .loop in
+    let fits : at-place-of .place-of .result + entry .args .size + 32 ≤ 32 * length (l .table) = omega
+    (arith, entry .pre .fits (l .i) (at-loop-test .loop-test .taken), at-place-of .place-of .ensures, l .inv .1) in
+    let row = row-taken (l .table) _ (at-place-of .place-of .result) (entry .args .size) (l .inv .2) (entry .pre .size-high) fits
+    (at-take-run .take-run .ensures) in (
+      omega arith,
+      row .same-length ∙ l .inv .1,
+      λ x. c .slice-known2 .given x .fits,
+      λ after t. l .inv .3 after
+          (packet-takes _ _ _ _ _ _ (l .i) (at-loop-test .loop-test .taken) _ (at-place-of .place-of .ensures) _ _ after row t),
+    )
 
 same-length : tie.Need-same-length Inv-loop μ-loop
 same-length c = c .before .loop .inv .1

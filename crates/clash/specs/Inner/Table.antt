@@ -5,12 +5,13 @@ use mathlib.Core.Bool.{Bool, true, false, not}
 use mathlib.Core.Path.{_≡_}
 use lib.ListN.{length}
 use Rattle.words.specs.Words.{word}
-use Rattle.torus.specs.Torus.{InGrid}
-use Rattle.torus.specs.Route.{wireNumber, wiresPerNode}
+use Rattle.torus.specs.Inner.Grid.{InGrid}
+use Rattle.torus.specs.Inner.Paths.{wireNumber, wiresPerNode}
+use Rattle.torus.specs.Inner.Delays.{lastDelay}
 use Rattle.sheet.specs.declared.entries.Entry.{Entry}
 use Rattle.sheet.specs.Sheet.{columns, rows, nodes, schedules, circuitAt, period}
 use Rattle.sheet.specs.Wires.{WireCycle}
-use Rattle.sheet.specs.Rules.{entryRoute, entryLeads, entryOccupied, routeHops}
+use Rattle.sheet.specs.Rules.{entryRoute, entryLeads, entryOccupied}
 use Rattle.occupancy.specs.Inner.Occupancy.{run, taken, anyTaken, Takes}
 
 -- the place of a wire in a cycle
@@ -55,8 +56,8 @@ HoldsAllWires length z stride = nodes z * wiresPerNode * stride + 32 ≤ 32 * le
 pub record Placeable (length : ℕ) (z : List ℕ) (e : Entry) (stride : ℕ) : Type 0 where
   pub source-inside : InGrid (columns z) (rows z) (circuitAt z (e .circuit) .read .node)
   pub leads-there : entryLeads z e ≡ true
-  pub in-time : e .offset + 3 * (routeHops (entryRoute z e) + 1) + e .size ≤ stride
+  pub in-time : e .offset + lastDelay (entryRoute z e) + e .size ≤ stride
   pub size-low : 1 ≤ e .size
   pub size-high : e .size ≤ 16
   pub stride-small : stride ≤ 65536
-  pub room : HoldsAllWires length z stride
+  pub holds-wires : HoldsAllWires length z stride

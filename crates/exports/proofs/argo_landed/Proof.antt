@@ -1,6 +1,7 @@
 -- `exports::argo_landed` meets its contract: the session's answer is made of its number and the landing.
 -- Assumes nothing.
-use Rattle.exports.proofs.PackedLaws.{landed-is}
+use mathlib.Core.Path.{_∙_, ap}
+use Rattle.exports.specs.Packed.{packedLanded}
 use borrow.Author.Needs.{needs}
 use Rattle.exports.proofs.argo_landed.Statement.{statement}
 use Rattle.exports.proofs.argo_landed.Tie as tie
@@ -12,7 +13,7 @@ packed-landed-requires : tie.Need-packed-landed-requires
 packed-landed-requires c κs = search needs
 
 returns : tie.Need-returns
-returns c = landed-is _ _ _ _ _ (c .before .what-landed .ensures) (c .packed-landed .ensures)
+returns c = c .packed-landed .ensures ∙ ap (packedLanded (c .before .before .before .args .field)) (c .before .what-landed .ensures)
 
 pub argo-landed-spec : {M : Type 1} → statement M
 argo-landed-spec = tie.close (tie.spec what-landed-requires packed-landed-requires returns)

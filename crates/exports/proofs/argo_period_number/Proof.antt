@@ -1,6 +1,7 @@
 -- `exports::argo_period_number` meets its contract: the session's answer is made of its number and the period number.
 -- Assumes nothing.
-use Rattle.exports.proofs.PackedLaws.{found-is}
+use mathlib.Core.Path.{_∙_, ap}
+use Rattle.exports.specs.Packed.{packedFound}
 use borrow.Author.Needs.{needs}
 use Rattle.exports.proofs.argo_period_number.Statement.{statement}
 use Rattle.exports.proofs.argo_period_number.Tie as tie
@@ -12,7 +13,7 @@ packed-found-requires : tie.Need-packed-found-requires
 packed-found-requires c κs = search needs
 
 returns : tie.Need-returns
-returns c = found-is _ _ _ _ (c .before .period-number .ensures) (c .packed-found .ensures)
+returns c = c .packed-found .ensures ∙ ap packedFound (c .before .period-number .ensures)
 
 pub argo-period-number-spec : {M : Type 1} → statement M
 argo-period-number-spec = tie.close (tie.spec period-number-requires packed-found-requires returns)

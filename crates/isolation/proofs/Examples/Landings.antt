@@ -1,15 +1,15 @@
 -- Sheet A as a session: document 01's key example with its three landings, in cycles 7, 8 and 16, and what is answered at every other point.
 -- Assumes nothing.
-use Prim.Native.Nat.{ℕ, _≤_}
+use Prim.Native.Nat.{ℕ, _*_, _≤_}
 use mathlib.Core.List.{List, [], _∷_, map}
 use mathlib.Core.Path.{_≡_, refl, _∙_, ap}
 use native.Mathlib.Omega.{arith}
-use lib.ListN.{take, replicate}
+use lib.ListN.{length, take, replicate}
 use Rattle.words.specs.Words.{leastFrom, lastOf}
 use Rattle.words.specs.Tests.{all, any, between, _and_, _or_, _≤?_, _<?_, _=?_, _≠?_}
 use Rattle.torus.specs.Torus.{neighbourOf, walks, distanceOf}
 use Rattle.torus.specs.Route.{outputOf, follow, routeFrom}
-use Rattle.sheet.specs.Sheet.{schedulePlace, circuitAt, entriesOf, entryAt}
+use Rattle.sheet.specs.Sheet.{rows, memoryWords, nodes, schedulePlace, circuitAt, entriesOf, entryAt}
 use Rattle.sheet.specs.Slots.{beginsAt, entryBeginning, slotLength}
 use Rattle.sheet.specs.Wires.{sameWire, same, during, occupied, member, meet}
 use Rattle.sheet.specs.Rules.{rule1, rule2, scheduleFits, rule3, firstBroken, verdict}
@@ -39,28 +39,32 @@ unfolding verdict firstBroken
     regionFits circuitFits rule4 precedes circuitPrecedes rule5 apart receiveApart rule6
     eachEntry entryFits rule7At rule7 entryPrecedes rule8At rule8
     entryRoute entryLeads rule9 entryEnds rule10 entryOccupied rule11At rule11
-    schedulePlace circuitAt entriesOf entryAt
+    rows schedulePlace circuitAt entriesOf entryAt
     sameWire same during occupied member meet
     neighbourOf walks distanceOf outputOf follow routeFrom
     leastFrom all any between _and_ _or_ _≤?_ _<?_ _=?_ _≠?_
 sheet-passes = refl
 
+pub memories-long : length memories ≡ nodes sheet * memoryWords sheet
+unfolding rows
+memories-long = refl
+
 -- the start of three words, then 20 cycles, on a state of zeros
-abbrev pub calls : List Call
-calls = start 0 0 0 3 0 ∷ replicate 20 cycle
+abbrev pub callsA : List Call
+callsA = start 0 0 0 3 0 ∷ replicate 20 cycle
 
 abbrev pub sessionA : Session
 sessionA = record {
   lent = record { state = zeros; memory = memories };
   sheet = sheet;
-  calls = calls;
-  carried-out = load-zero sheet zeros memories sheet-passes zeros-long refl;
-  loads-refused = bad-loads calls _ refl;
+  calls = callsA;
+  carried-out = load-zero sheet zeros memories sheet-passes zeros-long memories-long;
+  loads-refused = bad-loads callsA _ refl;
 }
 
 -- what is reckoned to have landed last after the first k calls
 abbrev pub landsAfter : ℕ → Item
-landsAfter k = lastLanded sheet 0 memories (decided sheet memories (take k calls) [])
+landsAfter k = lastLanded sheet 0 memories (decided sheet memories (take k callsA) [])
 
 -- at every point, what landed at node 1 as the session answers is what is reckoned
 pub landings : (k : ℕ) → k ≤ 21 → circuitLanding sessionA 0 k ≡ landsAfter k
@@ -72,6 +76,6 @@ landings k l =
 pub wanted : map landsAfter (0 ∷ 1 ∷ 2 ∷ 3 ∷ 4 ∷ 5 ∷ 6 ∷ 7 ∷ 8 ∷ 9 ∷ 10 ∷ 11 ∷ 12 ∷ 13 ∷ 14 ∷ 15 ∷ 16 ∷ 17 ∷ 18 ∷ 19 ∷ 20 ∷ 21 ∷ [])
     ≡ none ∷ none ∷ none ∷ none ∷ none ∷ none ∷ none ∷ none ∷ none ∷ item 0 0 11 ∷ item 0 1 22
     ∷ none ∷ none ∷ none ∷ none ∷ none ∷ none ∷ none ∷ item 0 2 33 ∷ none ∷ none ∷ none ∷ []
-unfolding reckonedLanding leavesIn slotLength entryBeginning beginsAt schedulePlace circuitAt entriesOf entryAt lastOf any _and_ _or_ _≤?_ _<?_ _=?_
+unfolding rows reckonedLanding leavesIn slotLength entryBeginning beginsAt schedulePlace circuitAt entriesOf entryAt lastOf any _and_ _or_ _≤?_ _<?_ _=?_
     distanceOf leastFrom walks neighbourOf kindTravels liesIn
 wanted = refl

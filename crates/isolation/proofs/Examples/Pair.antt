@@ -1,9 +1,9 @@
 -- Demand 3 applied to two sessions on one grid that differ in all that the theorem leaves free: the sheet, the memory's size, the circuit's
 -- number and routes, schedules' numbers and orders, other circuits' transfers, other stores, questions and refused calls.
 -- Assumes nothing.
-use Prim.Native.Nat.{ℕ, zero, suc, _+_, _-_, _≤_, _<_}
+use Prim.Native.Nat.{ℕ, zero, suc, _+_, _-_, _*_, _≤_, _<_}
 use mathlib.Core.Bool.{Bool, true, false}
-use mathlib.Core.List.{List, [], _∷_, _++_}
+use mathlib.Core.List.{List, [], _∷_, _++_, flatMap}
 use mathlib.Core.Path.{_≡_, refl, sym, _∙_, ap}
 use native.Mathlib.Omega.{arith}
 use lib.ListN.{length, replicate, getD}
@@ -12,7 +12,7 @@ use Rattle.words.specs.Tests.{all, any, between, _and_, _or_, _≤?_, _<?_, _=?
 use Rattle.torus.specs.Torus.{neighbourOf, walks, distanceOf}
 use Rattle.torus.specs.Route.{outputOf, follow, routeFrom}
 use Rattle.sheet.specs.declared.circuits.Circuit.{Circuit}
-use Rattle.sheet.specs.Sheet.{schedulePlace, circuitAt, period, entriesOf, entryAt}
+use Rattle.sheet.specs.Sheet.{rows, memoryWords, nodes, schedulePlace, circuitAt, period, entriesOf, entryAt}
 use Rattle.sheet.specs.Slots.{beginsAt, entryBeginning, slotLength, sourceOf, destinationOf}
 use Rattle.sheet.specs.Wires.{sameWire, same, during, occupied, member, meet}
 use Rattle.sheet.specs.Rules.{rule1, rule2, scheduleFits, rule3, firstBroken, verdict}
@@ -22,18 +22,20 @@ use Rattle.sheet.specs.Rules.{entryRoute, entryLeads, rule9, entryEnds, rule10,
 use Rattle.network.specs.Registers.{stateWords}
 use Rattle.session.specs.declared.Found.the-variants.{Word as FoundWord}
 use Rattle.soundness.specs.Sound.{kindTravels, liesIn}
+use Rattle.session.specs.Answers.{fetchAnswer}
 use Rattle.session.specs.Calls.{Call, load, start, store, fetch, left, periodNumber, landed, order, cycle, ask}
-use Rattle.isolation.specs.Sessions.{Session, afterLoad, Event, startDone, storeDone, orderDone, cycleDone}
-use Rattle.isolation.specs.Calendar.{Calendar, calendarAfter}
+use Rattle.isolation.specs.Sessions.{Session, afterLoad, Event, storeDone, orderDone, cycleDone}
+use Rattle.isolation.specs.Calendar.{calendarAfter, cyclesDone, pointAfter, scheduleIn}
 use Rattle.isolation.specs.Reckoning.{Item, item, reckonedLanding, leavesIn}
-use Rattle.isolation.specs.Demand.{fetchAnswer, inRegion, itsRecord, circuitLanding, pointAfter, actsAfter, scheduleIn, Alike, Undisturbed}
+use Rattle.isolation.specs.Demand.{inRegion, itsRecord, circuitLanding, Alike, Undisturbed}
 use Rattle.isolation.proofs.Reckoning.Regions.{in-high}
-use Rattle.isolation.proofs.Reckoning.Points.{upTo}
+use Rattle.isolation.proofs.Reckoning.Points.{upTo, eventsOf}
 use Rattle.isolation.proofs.Reckoning.EventsDecided.{decided}
 use Rattle.isolation.proofs.Reckoning.Reckons.{as-reckoned}
-use Rattle.isolation.proofs.Reckoning.Undisturbed.{eventsOf, all-events, time-before}
+use Rattle.isolation.proofs.Reckoning.Alike.{actsIn, acts-are}
+use Rattle.isolation.proofs.Reckoning.Undisturbed.{schedule-before}
 use Rattle.isolation.proofs.DemandProved.{demand3}
-use Rattle.isolation.proofs.Examples.Witness.{badLoads, bad-loads, load-zero, zeros, zeros-long, events-are, lastLanded, landed-by, table, table-at}
+use Rattle.isolation.proofs.Examples.Witness.{badLoads, bad-loads, load-zero, zeros, zeros-long, startEvent, events-are, cycles-by, lastLanded, landed-by, table, table-at}
 
 -- the first sheet: 8 memory words a node, and one circuit, 0, from node 0 to node 1; its slots go by route 13 (east), at offset 0 for two
 -- words in schedule 0 of period 10, at offset 2 for one word in schedule 1 of period 12
@@ -62,7 +64,7 @@ unfolding verdict firstBroken
     regionFits circuitFits rule4 precedes circuitPrecedes rule5 apart receiveApart rule6
     eachEntry entryFits rule7At rule7 entryPrecedes rule8At rule8
     entryRoute entryLeads rule9 entryEnds rule10 entryOccupied rule11At rule11
-    schedulePlace circuitAt entriesOf entryAt
+    rows schedulePlace circuitAt entriesOf entryAt
     sameWire same during occupied member meet
     neighbourOf walks distanceOf outputOf follow routeFrom
     leastFrom all any between _and_ _or_ _≤?_ _<?_ _=?_ _≠?_
@@ -100,13 +102,26 @@ pub loads-bad : (badLoads oneCalls ∷ badLoads otherCalls ∷ []) ≡ true ∷ 
 unfolding verdict firstBroken rule1 _≤?_ _=?_
 loads-bad = refl
 
+-- the memories have the sheets' lengths, and the grids as many rows
+pub one-whole : length oneMemory ≡ nodes oneSheet * memoryWords oneSheet
+unfolding rows
+one-whole = refl
+
+pub other-whole : length otherMemory ≡ nodes otherSheet * memoryWords otherSheet
+unfolding rows
+other-whole = refl
+
+rows-alike : rows oneSheet ≡ rows otherSheet
+unfolding rows
+rows-alike = refl
+
 -- both sessions, on any lent state
 abbrev pub oneOn : (s : List ℕ) → stateWords ≤ length s → Session
 oneOn s long = record {
   lent = record { state = s; memory = oneMemory };
   sheet = oneSheet;
   calls = oneCalls;
-  carried-out = load-zero oneSheet s oneMemory (ap (λ (l : List ℕ). word l 0) sheets-pass) long refl;
+  carried-out = load-zero oneSheet s oneMemory (ap (λ (l : List ℕ). word l 0) sheets-pass) long one-whole;
   loads-refused = bad-loads oneCalls _ (ap (λ (l : List Bool). getD l 0 false) loads-bad);
 }
 
@@ -115,33 +130,33 @@ otherOn s long = record {
   lent = record { state = s; memory = otherMemory };
   sheet = otherSheet;
   calls = otherCalls;
-  carried-out = load-zero otherSheet s otherMemory (ap (λ (l : List ℕ). word l 1) sheets-pass) long refl;
+  carried-out = load-zero otherSheet s otherMemory (ap (λ (l : List ℕ). word l 1) sheets-pass) long other-whole;
   loads-refused = bad-loads otherCalls _ (ap (λ (l : List Bool). getD l 1 false) loads-bad);
 }
 
 -- the events of both: the refused calls and the questions have none
 abbrev pub oneEvents : List Event
 oneEvents =
-    (startDone 0 0 0 4 0 ∷ replicate 3 cycleDone)
+    (startEvent 0 0 0 4 0 ∷ replicate 3 cycleDone)
     ++ (orderDone 1 3 ∷ storeDone 0 3 76 ∷ storeDone 0 3 77 ∷ replicate 5 cycleDone)
     ++ (storeDone 1 3 55 ∷ replicate 17 cycleDone)
-    ++ (startDone 0 1 2 1 2 ∷ replicate 15 cycleDone)
+    ++ (startEvent 0 1 2 1 2 ∷ replicate 15 cycleDone)
 
 abbrev pub otherEvents : List Event
 otherEvents =
-    (startDone 0 0 4 2 0 ∷ storeDone 3 5 99 ∷ startDone 1 0 0 4 0 ∷ replicate 3 cycleDone)
+    (startEvent 0 0 4 2 0 ∷ storeDone 3 5 99 ∷ startEvent 1 0 0 4 0 ∷ replicate 3 cycleDone)
     ++ (storeDone 0 3 76 ∷ storeDone 0 3 77 ∷ replicate 5 cycleDone)
     ++ (storeDone 1 3 55 ∷ storeDone 0 6 12 ∷ cycleDone ∷ [])
     ++ (orderDone 2 3 ∷ replicate 16 cycleDone)
-    ++ (startDone 1 1 2 1 2 ∷ startDone 0 0 4 1 2 ∷ replicate 15 cycleDone)
+    ++ (startEvent 1 1 2 1 2 ∷ startEvent 0 0 4 1 2 ∷ replicate 15 cycleDone)
 
 one-decided : decided oneSheet oneMemory oneCalls [] ≡ oneEvents
-unfolding reckonedLanding leavesIn slotLength entryBeginning beginsAt schedulePlace circuitAt entriesOf entryAt lastOf any _and_ _or_ _≤?_ _<?_ _=?_
+unfolding rows reckonedLanding leavesIn slotLength entryBeginning beginsAt schedulePlace circuitAt entriesOf entryAt lastOf any _and_ _or_ _≤?_ _<?_ _=?_
     kindTravels liesIn
 one-decided = refl
 
 other-decided : decided otherSheet otherMemory otherCalls [] ≡ otherEvents
-unfolding reckonedLanding leavesIn slotLength entryBeginning beginsAt schedulePlace circuitAt entriesOf entryAt lastOf any _and_ _or_ _≤?_ _<?_ _=?_
+unfolding rows reckonedLanding leavesIn slotLength entryBeginning beginsAt schedulePlace circuitAt entriesOf entryAt lastOf any _and_ _or_ _≤?_ _<?_ _=?_
     kindTravels liesIn
 other-decided = refl
 
@@ -150,6 +165,13 @@ one-events s long = events-are (oneOn s long) ∙ one-decided
 
 pub other-events : (s : List ℕ) (long : stateWords ≤ length s) → eventsOf (otherOn s long) ≡ otherEvents
 other-events s long = events-are (otherOn s long) ∙ other-decided
+
+-- both carry out 40 cycles
+one-cycles : (s : List ℕ) (long : stateWords ≤ length s) → cyclesDone (oneOn s long) (length oneCalls) ≡ 40
+one-cycles s long = cycles-by (oneOn s long) oneEvents (one-events s long)
+
+other-cycles : (s : List ℕ) (long : stateWords ≤ length s) → cyclesDone (otherOn s long) (length otherCalls) ≡ 40
+other-cycles s long = cycles-by (otherOn s long) otherEvents (other-events s long)
 
 -- the schedules in force: 0 in both up to cycle 29, then 1 in the first session and 2 in the other
 abbrev schedulesIn : ℕ → List ℕ
@@ -164,7 +186,7 @@ schedules-are = refl
 
 pub one-schedule : (s : List ℕ) (long : stateWords ≤ length s) (t : ℕ) → t < 40 → scheduleIn (oneOn s long) t ≡ pick (t <? 30) 0 1
 one-schedule s long t l =
-    ap (λ (k : Calendar). k .schedule) (time-before (oneOn s long) t l)
+    schedule-before (oneOn s long) t (omega (arith, one-cycles s long))
     ∙ ap (λ (es : List Event). calendarAfter oneSheet (upTo es t) .schedule) (one-events s long)
     ∙ ap (λ (p : List ℕ). word p 0) (table-at 40 schedulesIn schedulesWanted schedules-are t l)
     ∙ go (t <? 30)
@@ -175,7 +197,7 @@ one-schedule s long t l =
 
 pub other-schedule : (s : List ℕ) (long : stateWords ≤ length s) (t : ℕ) → t < 40 → scheduleIn (otherOn s long) t ≡ pick (t <? 30) 0 2
 other-schedule s long t l =
-    ap (λ (k : Calendar). k .schedule) (time-before (otherOn s long) t l)
+    schedule-before (otherOn s long) t (omega (arith, other-cycles s long))
     ∙ ap (λ (es : List Event). calendarAfter otherSheet (upTo es t) .schedule) (other-events s long)
     ∙ ap (λ (p : List ℕ). word p 1) (table-at 40 schedulesIn schedulesWanted schedules-are t l)
     ∙ go (t <? 30)
@@ -246,8 +268,8 @@ receive-words (suc (suc (suc zero))) l = refl
 receive-words (suc (suc (suc (suc address)))) l = absurd (let z : ⊥ = omega arith in z)
 
 -- the circuit's acts in both, after each number of cycles
-acts-alike : table 40 (actsAfter oneSheet 0 oneEvents) ≡ table 40 (actsAfter otherSheet 1 otherEvents)
-unfolding circuitAt _and_ _≤?_ _<?_ _=?_
+acts-alike : table 40 (actsIn oneSheet 0 oneEvents) ≡ table 40 (actsIn otherSheet 1 otherEvents)
+unfolding flatMap circuitAt _and_ _≤?_ _<?_ _=?_
 acts-alike = refl
 
 -- its record in both
@@ -293,14 +315,13 @@ module _ (s s′ : List ℕ) (long : stateWords ≤ length s) (long′ : stateWo
   pub alike-on : Alike first second 0 1 40
   alike-on = record {
     same-columns = refl;
-    same-rows = refl;
+    same-rows = rows-alike;
     same-record = record-one ∙ sym record-other;
-    same-read = alike-read;
-    same-receive = alike-receive;
+    same-regions = record { read = alike-read; receive = alike-receive };
     same-acts = λ t l.
-        ap (λ (es : List Event). actsAfter oneSheet 0 es t) (all-events first ∙ one-events s long)
-        ∙ table-at 40 (actsAfter oneSheet 0 oneEvents) (actsAfter otherSheet 1 otherEvents) acts-alike t l
-        ∙ sym (ap (λ (es : List Event). actsAfter otherSheet 1 es t) (all-events second ∙ other-events s′ long′));
+        acts-are first 0 t ∙ ap (λ (es : List Event). actsIn oneSheet 0 es t) (one-events s long)
+        ∙ table-at 40 (actsIn oneSheet 0 oneEvents) (actsIn otherSheet 1 otherEvents) acts-alike t l
+        ∙ sym (acts-are second 1 t ∙ ap (λ (es : List Event). actsIn otherSheet 1 es t) (other-events s′ long′));
     same-lengths = λ t l.
         ap (period oneSheet) (one-schedule s long t l) ∙ lengths-alike (t <? 30)
         ∙ sym (ap (period otherSheet) (other-schedule s′ long′ t l));
@@ -311,7 +332,9 @@ module _ (s s′ : List ℕ) (long : stateWords ≤ length s) (long′ : stateWo
 
   -- so the circuit is undisturbed
   pub undisturbed-on : Undisturbed first second 0 1 40
-  undisturbed-on = demand3 .undisturbed first second 0 1 40 (omega arith) (omega arith) (omega arith) (omega arith) alike-on
+  undisturbed-on =
+      demand3 .undisturbed first second 0 1 40 (omega arith) (omega arith) (omega (arith, one-cycles s long))
+      (omega (arith, other-cycles s′ long′)) alike-on
 
 -- the two sessions on zeros, and demand 3 applied to them
 abbrev pub one : Session
@@ -341,27 +364,27 @@ abbrev landsIn : ℕ → Item
 landsIn t = lastLanded oneSheet 0 oneMemory (upTo oneEvents t ++ (cycleDone ∷ []))
 
 lands-first : landsIn 7 ≡ item 0 0 11
-unfolding reckonedLanding leavesIn slotLength entryBeginning beginsAt lastOf entriesOf entryAt schedulePlace circuitAt
+unfolding rows reckonedLanding leavesIn slotLength entryBeginning beginsAt lastOf entriesOf entryAt schedulePlace circuitAt
     neighbourOf walks distanceOf leastFrom any _and_ _or_ _≤?_ _<?_ _=?_
 lands-first = refl
 
 lands-second : landsIn 8 ≡ item 0 1 22
-unfolding reckonedLanding leavesIn slotLength entryBeginning beginsAt lastOf entriesOf entryAt schedulePlace circuitAt
+unfolding rows reckonedLanding leavesIn slotLength entryBeginning beginsAt lastOf entriesOf entryAt schedulePlace circuitAt
     neighbourOf walks distanceOf leastFrom any _and_ _or_ _≤?_ _<?_ _=?_
 lands-second = refl
 
 lands-third : landsIn 17 ≡ item 0 2 33
-unfolding reckonedLanding leavesIn slotLength entryBeginning beginsAt lastOf entriesOf entryAt schedulePlace circuitAt
+unfolding rows reckonedLanding leavesIn slotLength entryBeginning beginsAt lastOf entriesOf entryAt schedulePlace circuitAt
     neighbourOf walks distanceOf leastFrom any _and_ _or_ _≤?_ _<?_ _=?_
 lands-third = refl
 
 lands-stored : landsIn 18 ≡ item 0 3 77
-unfolding reckonedLanding leavesIn slotLength entryBeginning beginsAt lastOf entriesOf entryAt schedulePlace circuitAt
+unfolding rows reckonedLanding leavesIn slotLength entryBeginning beginsAt lastOf entriesOf entryAt schedulePlace circuitAt
     neighbourOf walks distanceOf leastFrom any _and_ _or_ _≤?_ _<?_ _=?_
 lands-stored = refl
 
 lands-interrupt : landsIn 39 ≡ item 2 2 22
-unfolding reckonedLanding leavesIn slotLength entryBeginning beginsAt lastOf entriesOf entryAt schedulePlace circuitAt
+unfolding rows reckonedLanding leavesIn slotLength entryBeginning beginsAt lastOf entriesOf entryAt schedulePlace circuitAt
     neighbourOf walks distanceOf leastFrom any _and_ _or_ _≤?_ _<?_ _=?_
 lands-interrupt = refl
 

@@ -9,17 +9,18 @@ use lib.ListN.{replicate}
 use Rattle.words.specs.Words.{leastFrom, lastOf}
 use Rattle.words.specs.Tests.{any, _and_, _or_, _≤?_, _<?_, _=?_}
 use Rattle.torus.specs.Torus.{neighbourOf, walks, distanceOf}
-use Rattle.sheet.specs.Sheet.{schedulePlace, circuitAt, entriesOf, entryAt}
+use Rattle.sheet.specs.Sheet.{rows, schedulePlace, circuitAt, entriesOf, entryAt}
 use Rattle.sheet.specs.Slots.{beginsAt, entryBeginning, slotLength}
 use Rattle.soundness.specs.Sound.{kindTravels, liesIn}
 use Rattle.session.specs.Calls.{Call, start, store, cycle}
-use Rattle.isolation.specs.Sessions.{Session, Event, startDone, storeDone, cycleDone}
+use Rattle.isolation.specs.Sessions.{Session, Event, storeDone, cycleDone}
 use Rattle.isolation.specs.Reckoning.{Item, none, item, reckonedLanding, leavesIn}
-use Rattle.isolation.specs.Demand.{Undisturbed, circuitLanding, pointAfter}
+use Rattle.isolation.specs.Calendar.{pointAfter}
+use Rattle.isolation.specs.Demand.{Undisturbed, circuitLanding}
 use Rattle.isolation.proofs.Reckoning.Points.{upTo}
 use Rattle.isolation.proofs.Reckoning.EventsDecided.{decided}
-use Rattle.isolation.proofs.Examples.Witness.{bad-loads, load-zero, zeros, zeros-long, events-are, lastLanded, landed-by}
-use Rattle.isolation.proofs.Examples.Landings.{sheet, memories, sheet-passes}
+use Rattle.isolation.proofs.Examples.Witness.{bad-loads, load-zero, zeros, zeros-long, events-are, lastLanded, landed-by, startEvent}
+use Rattle.isolation.proofs.Examples.Landings.{sheet, memories, sheet-passes, memories-long}
 
 -- sheet A with a transfer of three words; before the first cycle two words are stored at address 1 of the read region, one after the other
 abbrev storesThen : ℕ → ℕ → List Call
@@ -30,21 +31,21 @@ storing a b = record {
   lent = record { state = zeros; memory = memories };
   sheet = sheet;
   calls = storesThen a b;
-  carried-out = load-zero sheet zeros memories sheet-passes zeros-long refl;
+  carried-out = load-zero sheet zeros memories sheet-passes zeros-long memories-long;
   loads-refused = bad-loads (storesThen a b) _ refl;
 }
 
 abbrev eventsThen : ℕ → ℕ → List Event
-eventsThen a b = startDone 0 0 0 3 0 ∷ storeDone 0 1 a ∷ storeDone 0 1 b ∷ replicate 9 cycleDone
+eventsThen a b = startEvent 0 0 0 3 0 ∷ storeDone 0 1 a ∷ storeDone 0 1 b ∷ replicate 9 cycleDone
 
 events-decided-so : (a b : ℕ) → decided sheet memories (storesThen a b) [] ≡ eventsThen a b
-unfolding reckonedLanding leavesIn slotLength entryBeginning beginsAt schedulePlace circuitAt entriesOf entryAt lastOf any _and_ _or_ _≤?_ _<?_ _=?_
+unfolding rows reckonedLanding leavesIn slotLength entryBeginning beginsAt schedulePlace circuitAt entriesOf entryAt lastOf any _and_ _or_ _≤?_ _<?_ _=?_
     kindTravels liesIn
 events-decided-so a b = refl
 
 -- the word stored last lands in cycle 8
 reckoned-so : (a b : ℕ) → lastLanded sheet 0 memories (upTo (eventsThen a b) 8 ++ (cycleDone ∷ [])) ≡ item 0 1 b
-unfolding reckonedLanding leavesIn slotLength entryBeginning beginsAt lastOf entriesOf entryAt schedulePlace circuitAt
+unfolding rows reckonedLanding leavesIn slotLength entryBeginning beginsAt lastOf entriesOf entryAt schedulePlace circuitAt
     neighbourOf walks distanceOf leastFrom any _and_ _or_ _≤?_ _<?_ _=?_
 reckoned-so a b = refl
 
@@ -53,12 +54,12 @@ last-lands a b =
     landed-by (storing a b) 0 (eventsThen a b) (omega arith) (events-are (storing a b) ∙ events-decided-so a b) 8 (omega arith)
     ∙ reckoned-so a b
 
-abbrev wordOf : Item → ℕ
-wordOf none = 0
-wordOf (item kind address w) = w
+abbrev itemWord : Item → ℕ
+itemWord none = 0
+itemWord (item kind address w) = w
 
 -- so the two orders are told apart
 pub order-shows : Undisturbed (storing 76 77) (storing 77 76) 0 0 9 → ⊥
 order-shows u =
-    let same : _≡_ {A = ℕ} 77 76 = ap wordOf (sym (last-lands 76 77) ∙ u .landings 8 (omega arith) ∙ last-lands 77 76) in
+    let same : _≡_ {A = ℕ} 77 76 = ap itemWord (sym (last-lands 76 77) ∙ u .landings 8 (omega arith) ∙ last-lands 77 76) in
     omega (arith, same)

@@ -1,20 +1,21 @@
 -- The key's examples (a) to (m): the table's numbers are computed from the definitions, by one computation.
 -- Assumes nothing.
-use Prim.Native.Nat.{ℕ, zero, suc, _+_}
-use mathlib.Core.Path.{_≡_, refl, sym, subst, _∙_, ap, ap₂}
+use Prim.Native.Nat.{ℕ, zero, suc, _+_, _-_}
+use mathlib.Core.Path.{_≡_, refl, sym, subst, ap₂}
 use native.Mathlib.Nat.{zero-add, suc-add}
 use mathlib.Core.List.{List, [], _∷_, _++_, map}
 use lib.ListN.{set, replicate, drop}
 use Rattle.words.specs.Words.{leastFrom, tab}
 use Rattle.words.specs.Tests.{all, any, between, _and_, _or_, _≤?_, _<?_, _=?_, _≠?_}
 use Rattle.torus.specs.Torus.{neighbourOf, walks, distanceOf}
-use Rattle.torus.specs.Route.{outputOf, follow, routeFrom}
-use Rattle.network.specs.Registers.{reg, sheetLength, sheetIn, stateWords, numberPlace}
+use Rattle.torus.specs.Route.{outputOf, hopCycles, follow, routeFrom}
+use Rattle.network.specs.Registers.{reg, sheetLength, sheetIn, stateWords, numberPlace, movingWords}
 use Rattle.soundness.specs.Sound.{sheetSound, clockSound, orderSound, kindTravels, liesIn, transferSound, cellSound, routerSound, nodeSound, sound}
 use Rattle.words.specs.Numbers.{unless, _then_}
+use Rattle.words.proofs.TableLaws.{tab-zeros}
 use Rattle.session.specs.Calls.{stateNumber, isPending, ahead, orderNumber, loaded}
 use Rattle.isolation.specs.Examples.{sheetA, lastPeriod, Row, tableOn, TableHolds}
-use Rattle.sheet.specs.Sheet.{schedulePlace, circuitAt, entriesOf, entryAt}
+use Rattle.sheet.specs.Sheet.{schedulePlace, circuitAt, entriesOf, entryAt, rows, sheetWords}
 use Rattle.sheet.specs.Wires.{sameWire, same, during, occupied, member, meet}
 use Rattle.sheet.specs.Rules.{rule1, rule2, scheduleFits, rule3, firstBroken, verdict}
 use Rattle.sheet.specs.Rules.{regionFits, circuitFits, rule4, precedes, circuitPrecedes, rule5, apart, receiveApart, rule6}
@@ -23,7 +24,7 @@ use Rattle.sheet.specs.Rules.{entryRoute, entryLeads, rule9, entryEnds, rule10,
 
 -- the state of (m), word by word, so that it computes at once
 abbrev written : List ℕ
-written = 0 ∷ 4294967295 ∷ replicate 1678 0 ++ (17 ∷ sheetA 0 13 [] ++ replicate 8580 0)
+written = 0 ∷ 4294967295 ∷ replicate (movingWords - 2) 0 ++ (17 ∷ sheetA 0 13 [] ++ replicate (sheetWords - 17) 0)
 
 computed : map (λ (r : Row). r .given) (tableOn written) ≡ map (λ (r : Row). r .wanted) (tableOn written)
 unfolding orderNumber stateNumber unless _then_ ahead isPending sound sheetSound clockSound orderSound transferSound kindTravels liesIn routerSound cellSound nodeSound
@@ -33,24 +34,15 @@ unfolding orderNumber stateNumber unless _then_ ahead isPending sound sheetSound
     regionFits circuitFits rule4 precedes circuitPrecedes rule5 apart receiveApart rule6
     eachEntry entryFits rule7At rule7 entryPrecedes rule8At rule8
     entryRoute entryLeads rule9 entryEnds rule10 entryOccupied rule11At rule11
-    schedulePlace circuitAt entriesOf entryAt
+    rows schedulePlace circuitAt entriesOf entryAt
     sameWire same during occupied member meet
-    neighbourOf walks distanceOf outputOf follow routeFrom
+    neighbourOf walks distanceOf outputOf hopCycles follow routeFrom
     leastFrom all any between _and_ _or_ _≤?_ _<?_ _=?_ _≠?_
 computed = refl
 
 -- a list of zeros
 abbrev zeros : ℕ → List ℕ
 zeros n = replicate n 0
-
-zeros-snoc : (n : ℕ) → zeros n ++ (0 ∷ []) ≡ 0 ∷ zeros n
-zeros-snoc zero = refl
-zeros-snoc (suc n) = ap (λ (l : List ℕ). 0 ∷ l) (zeros-snoc n)
-
-tab-zeros : (n : ℕ) → tab n (λ k. 0) ≡ zeros n
-unfolding tab
-tab-zeros zero = refl
-tab-zeros (suc n) = ap (λ (l : List ℕ). l ++ (0 ∷ [])) (tab-zeros n) ∙ zeros-snoc n
 
 drop-zeros : (n m : ℕ) → drop n (zeros (n + m)) ≡ zeros m
 drop-zeros zero m = rw zero-add refl
@@ -60,7 +52,7 @@ drop-zeros (suc n) m = rw suc-add (drop-zeros n m)
 last-period : written ≡ lastPeriod
 unfolding loaded
 last-period =
-    sym (ap₂ (λ (a b : List ℕ). set (a ++ ((17 ∷ sheetA 0 13 []) ++ b)) 1 4294967295) (tab-zeros 1680) (drop-zeros 1698 8580))
+    sym (ap₂ (λ (a b : List ℕ). set (a ++ ((17 ∷ sheetA 0 13 []) ++ b)) 1 4294967295) (sym (tab-zeros movingWords)) (drop-zeros (movingWords + 18) (sheetWords - 17)))
 
 pub examples : TableHolds
 examples =

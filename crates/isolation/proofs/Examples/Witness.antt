@@ -8,7 +8,7 @@ use mathlib.Core.Path.{_≡_, refl, sym, _∙_, ap}
 use native.Mathlib.Omega.{arith}
 use native.Mathlib.Decide.{ℕ-discrete}
 use native.Mathlib.Nat.{not-suc-le-zero}
-use lib.ListN.{length, replicate, take, drop, getD}
+use lib.ListN.{length, replicate, take, drop, getD, length-replicate}
 use Rattle.words.specs.Tests.{_=?_}
 use Rattle.words.specs.Words.{pick}
 use Rattle.words.proofs.TestLaws.{yes≤, yes=}
@@ -17,14 +17,13 @@ use Rattle.sheet.specs.Rules.{verdict}
 use Rattle.network.specs.Registers.{stateWords}
 use Rattle.session.specs.Calls.{Lent, Call, load, start, store, order, cycle, number, after, loadNumber, ask}
 use Rattle.words.proofs.NumberLaws.{then-zero, zero-then, zero-unless}
-use Rattle.isolation.specs.Sessions.{LoadsRefused, Session, Event, cycleDone}
-use Rattle.isolation.specs.Calendar.{calendarAfter}
+use Rattle.isolation.specs.Sessions.{LoadsRefused, Session, Event, startDone, cycleDone, eventsBefore}
+use Rattle.isolation.specs.Calendar.{calendarAfter, cyclesDone, pointAfter}
 use Rattle.isolation.specs.Reckoning.{Item, lastReckoned, reckon}
-use Rattle.isolation.specs.Demand.{circuitLanding, cycleCount, pointAfter}
-use Rattle.isolation.proofs.Reckoning.Points.{upTo}
+use Rattle.isolation.specs.Demand.{circuitLanding}
+use Rattle.isolation.proofs.Reckoning.Points.{upTo, cyclesIn, all-events, all-counted, point-inside, reached, eventsOf}
 use Rattle.isolation.proofs.Reckoning.EventsDecided.{decided, events-decided}
 use Rattle.isolation.proofs.Reckoning.Reckons.{as-reckoned}
-use Rattle.isolation.proofs.Reckoning.Undisturbed.{eventsOf, all-events, split-at}
 
 -- every load among some calls has a sheet that does not pass
 abbrev pub badLoads : List Call → Bool
@@ -65,12 +64,13 @@ load-zero z s m v l e = zero-then v (zero-then (zero-unless 12 (yes≤ l)) (zero
 abbrev pub zeros : List ℕ
 zeros = replicate stateWords 0
 
-zeros-length : (n : ℕ) → length {A = ℕ} (replicate n 0) ≡ n
-zeros-length zero = refl
-zeros-length (suc n) = ap suc (zeros-length n)
-
 pub zeros-long : stateWords ≤ length zeros
-zeros-long = omega (arith, zeros-length stateWords)
+zeros-long = omega (arith, length-replicate {A = ℕ} stateWords 0)
+
+-- the event of a start, by its five words
+abbrev pub startEvent : ℕ → ℕ → ℕ → ℕ → ℕ → Event
+startEvent circuit readAddress writeAddress count kind =
+    startDone circuit (record { readAddress = readAddress; writeAddress = writeAddress; count = count; kind = kind })
 
 -- a session's events, as they are computed
 pub events-are : (l : Session) → eventsOf l ≡ decided (l .sheet) (l .lent .memory) (take (length (l .calls)) (l .calls)) []
@@ -80,14 +80,19 @@ events-are l = sym (all-events l) ∙ events-decided l (length (l .calls)) (omeg
 abbrev pub lastLanded : List ℕ → ℕ → List ℕ → List Event → Item
 lastLanded z circuit memory es = lastReckoned z circuit (reckon z circuit memory es) (calendarAfter z es .cycles)
 
+-- the cycles carried out, from the events
+pub cycles-by : (l : Session) (es : List Event) → eventsOf l ≡ es → cyclesDone l (length (l .calls)) ≡ cyclesIn es
+cycles-by l es e = all-counted l ∙ ap cyclesIn e
+
 -- what is answered as landed after each cycle, from the events
 pub landed-by : (l : Session) (circuit : ℕ) (es : List Event) → circuit < circuits (l .sheet) → eventsOf l ≡ es
-    → (t : ℕ) → t < cycleCount (l .calls)
+    → (t : ℕ) → t < cyclesIn es
     → circuitLanding l circuit (pointAfter l (suc t)) ≡ lastLanded (l .sheet) circuit (l .lent .memory) (upTo es t ++ (cycleDone ∷ []))
 landed-by l circuit es inside e t i =
-    let s = split-at l t i in
-    as-reckoned l circuit inside .landings (pointAfter l (suc t)) (omega (arith, s .inside))
-    ∙ ap (lastLanded (l .sheet) circuit (l .lent .memory)) (s .through ∙ ap (λ (r : List Event). upTo r t ++ (cycleDone ∷ [])) e)
+    let r = reached l t (omega (arith, i, cycles-by l es e)) in
+    as-reckoned l circuit inside .landings (pointAfter l (suc t)) (point-inside l (suc t))
+    ∙ ap (λ (k : ℕ). lastLanded (l .sheet) circuit (l .lent .memory) (eventsBefore l k)) (r .point)
+    ∙ ap (lastLanded (l .sheet) circuit (l .lent .memory)) (r .through ∙ ap (λ (r : List Event). upTo r t ++ (cycleDone ∷ [])) e)
 
 -- two functions with the same values below n, last first
 abbrev pub table : {A : Type 0} → ℕ → (ℕ → A) → List A

@@ -1,23 +1,26 @@
 -- Two reckonings of a circuit that agree in what matters stay so: through its acts, through what does not concern it, through cycles.
 -- Assumes nothing.
-use Prim.Native.Nat.{ℕ, zero, suc, _+_, _-_, min}
+use Prim.Native.Nat.{ℕ, zero, suc, _+_, _-_, _≤_, _<_, min}
 use mathlib.Core.Bool.{Bool, true, false, false≢true}
-use mathlib.Core.List.{List, [], _∷_, _++_}
+use mathlib.Core.List.{List, [], _∷_, _++_, flatMap}
 use mathlib.Core.Path.{_≡_, refl, sym, _∙_, ap, ap₂, subst}
+use native.Mathlib.Omega.{arith}
+use native.Mathlib.Nat.{le-refl}
 use Rattle.words.specs.Tests.{_and_, _≤?_, _=?_, any}
 use Rattle.words.specs.Words.{pick}
-use Rattle.words.proofs.TestLaws.{is=}
+use Rattle.words.proofs.TestLaws.{is=, yes=, no=}
 use Rattle.words.proofs.AllLaws.{any-same}
 use Rattle.sheet.specs.declared.circuits.Region.{Region}
 use Rattle.sheet.specs.declared.circuits.Circuit.{Circuit}
 use Rattle.sheet.specs.Sheet.{circuitAt, period}
 use Rattle.sheet.specs.Slots.{slotLength, sourceOf, destinationOf}
-use Rattle.isolation.specs.Sessions.{Event, startDone, storeDone, orderDone, cycleDone}
-use Rattle.isolation.specs.Calendar.{Calendar, nextCalendar, orderCalendar, calendarAll}
-use Rattle.isolation.specs.Reckoning.{Item, none, item, Reckoned, owed, flightCycles, reckonedLanding, lastReckoned, wordAfter, leavesIn, nextItem, cycleOn, startOn, storeOn, reckonEvent, reckonAll}
-use Rattle.isolation.specs.Demand.{inRegion, Act, began, readStored, receiveStored, actOf, actsAfter}
-use Rattle.isolation.proofs.Reckoning.Dates.{next-cycles}
-use Rattle.isolation.proofs.Reckoning.Points.{stretch}
+use Rattle.isolation.specs.Sessions.{Session, Transfer, Event, startDone, storeDone, orderDone, cycleDone}
+use Rattle.isolation.specs.Calendar.{Calendar, calendarAtLoad, nextCalendar, calendarEvent, calendarAll}
+use Rattle.isolation.specs.Reckoning.{Item, none, item, Reckoned, owed, flightCycles, reckonedLanding, lastReckoned, wordAfter, leavesIn}
+use Rattle.isolation.specs.Reckoning.{nextItem, cycleOn, startOn, storeOn, reckonEvent, reckonAll}
+use Rattle.isolation.specs.Demand.{inRegion, Act, began, readStored, receiveStored, actOf, eventsAfter, actsAfter}
+use Rattle.isolation.proofs.Reckoning.Dates.{next-cycles, next-cycle}
+use Rattle.isolation.proofs.Reckoning.Points.{stretch, eventsOf}
 
 -- two calendars agree in the cycles since the load and in the cycle within the period
 pub record SameTime (k k′ : Calendar) : Type 0 where
@@ -26,24 +29,18 @@ pub record SameTime (k k′ : Calendar) : Type 0 where
 
 -- two reckonings agree in what matters to a circuit with these regions
 pub record Same (m : Circuit) (r q : Reckoned) : Type 0 where
-  pub same-readAddress : r .readAddress ≡ q .readAddress
-  pub same-writeAddress : r .writeAddress ≡ q .writeAddress
-  pub same-count : r .count ≡ q .count
-  pub same-kind : r .kind ≡ q .kind
-  pub same-gone : r .gone ≡ q .gone
-  pub same-opened : (t : ℕ) → r .packetWords t ≡ q .packetWords t
-  pub same-leaving : (t : ℕ) → r .leaving t ≡ q .leaving t
-  pub same-readWords : (address : ℕ) → inRegion (m .read) address ≡ true → r .readWords address ≡ q .readWords address
-  pub same-receiveWords : (address : ℕ) → inRegion (m .receive) address ≡ true → r .receiveWords address ≡ q .receiveWords address
+  pub same-transfer : r .transfer ≡ q .transfer
+  pub same-gone : r .sent .gone ≡ q .sent .gone
+  pub same-packetWords : (t : ℕ) → r .sent .packetWords t ≡ q .sent .packetWords t
+  pub same-leaving : (t : ℕ) → r .sent .leaving t ≡ q .sent .leaving t
+  pub same-readWords : (address : ℕ) → inRegion (m .read) address ≡ true → r .words .read address ≡ q .words .read address
+  pub same-receiveWords : (address : ℕ) → inRegion (m .receive) address ≡ true → r .words .receive address ≡ q .words .receive address
 
 pub same-sym : {m : Circuit} {r q : Reckoned} → Same m r q → Same m q r
 same-sym h = record {
-  same-readAddress = sym (h .same-readAddress);
-  same-writeAddress = sym (h .same-writeAddress);
-  same-count = sym (h .same-count);
-  same-kind = sym (h .same-kind);
+  same-transfer = sym (h .same-transfer);
   same-gone = sym (h .same-gone);
-  same-opened = λ t. sym (h .same-opened t);
+  same-packetWords = λ t. sym (h .same-packetWords t);
   same-leaving = λ t. sym (h .same-leaving t);
   same-readWords = λ at i. sym (h .same-readWords at i);
   same-receiveWords = λ at i. sym (h .same-receiveWords at i);
@@ -51,12 +48,9 @@ same-sym h = record {
 
 pub same-trans : {m : Circuit} {r q p : Reckoned} → Same m r q → Same m q p → Same m r p
 same-trans h g = record {
-  same-readAddress = h .same-readAddress ∙ g .same-readAddress;
-  same-writeAddress = h .same-writeAddress ∙ g .same-writeAddress;
-  same-count = h .same-count ∙ g .same-count;
-  same-kind = h .same-kind ∙ g .same-kind;
+  same-transfer = h .same-transfer ∙ g .same-transfer;
   same-gone = h .same-gone ∙ g .same-gone;
-  same-opened = λ t. h .same-opened t ∙ g .same-opened t;
+  same-packetWords = λ t. h .same-packetWords t ∙ g .same-packetWords t;
   same-leaving = λ t. h .same-leaving t ∙ g .same-leaving t;
   same-readWords = λ at i. h .same-readWords at i ∙ g .same-readWords at i;
   same-receiveWords = λ at i. h .same-receiveWords at i ∙ g .same-receiveWords at i;
@@ -64,23 +58,76 @@ same-trans h g = record {
 
 -- the words changed: what a store into a region does
 abbrev withWords : Reckoned → (ℕ → ℕ) → (ℕ → ℕ) → Reckoned
-withWords r reads receives = record {
-  readAddress = r .readAddress;
-  writeAddress = r .writeAddress;
-  count = r .count;
-  kind = r .kind;
-  gone = r .gone;
-  packetWords = r .packetWords;
-  leaving = r .leaving;
-  readWords = reads;
-  receiveWords = receives;
-}
+withWords r reads receives = record { transfer = r .transfer; sent = r .sent; words = record { read = reads; receive = receives } }
+
+-- the circuit's acts in a stretch
+abbrev pub actsIn : List ℕ → ℕ → List Event → ℕ → List Act
+actsIn z circuit es t = flatMap (actOf z circuit) (stretch es t)
+
+-- an event counts no cycle less, and past t cycles no event is after t
+calendar-on : (z : List ℕ) (e : Event) (k : Calendar) → k .cycles ≤ calendarEvent z e k .cycles
+calendar-on z (startDone c transfer) k = le-refl (k .cycles)
+calendar-on z (storeDone node address new) k = le-refl (k .cycles)
+calendar-on z (orderDone schedule at) k = le-refl (k .cycles)
+calendar-on z cycleDone k = omega (arith, next-cycles z k)
+
+none-after : (z : List ℕ) (es : List Event) (k : Calendar) (t : ℕ) → t < k .cycles → eventsAfter z es k t ≡ []
+none-after z [] k t l = refl
+none-after z (e ∷ es) k t l =
+    ap (λ (b : Bool). pick b (e ∷ []) [] ++ eventsAfter z es (calendarEvent z e k) t) (no= (λ q. omega arith))
+    ∙ none-after z es (calendarEvent z e k) t (omega (arith, calendar-on z e k))
+
+-- the events after k .cycles + s cycles: the first of them, where s is 0, and the rest
+module _ (z : List ℕ) (circuit : ℕ) (e : Event) (es : List Event) (k : Calendar) where
+  abbrev rest : ℕ → List Act
+  rest t = flatMap (actOf z circuit) (eventsAfter z es (calendarEvent z e k) t)
+
+  acts-first : (t : ℕ) → k .cycles ≡ t → flatMap (actOf z circuit) (eventsAfter z (e ∷ es) k t) ≡ actOf z circuit e ++ rest t
+  unfolding flatMap
+  acts-first t q =
+      ap (λ (b : Bool). flatMap (actOf z circuit) (pick b (e ∷ []) [] ++ eventsAfter z es (calendarEvent z e k) t)) (yes= q)
+
+  acts-later : (t s : ℕ) → k .cycles + suc s ≡ t → flatMap (actOf z circuit) (eventsAfter z (e ∷ es) k t) ≡ rest t
+  unfolding flatMap
+  acts-later t s q =
+      ap (λ (b : Bool). flatMap (actOf z circuit) (pick b (e ∷ []) [] ++ eventsAfter z es (calendarEvent z e k) t)) (no= (λ r. omega arith))
+
+-- so the acts after t cycles are those of a stretch
+acts-in : (z : List ℕ) (circuit : ℕ) (es : List Event) (k : Calendar) (t s : ℕ) → k .cycles + s ≡ t
+    → flatMap (actOf z circuit) (eventsAfter z es k t) ≡ actsIn z circuit es s
+unfolding flatMap
+acts-in z circuit [] k t s q = refl
+acts-in z circuit (cycleDone ∷ es) k t zero q =
+    acts-first z circuit cycleDone es k t (omega arith)
+    ∙ ap (flatMap (actOf z circuit)) (none-after z es (nextCalendar z k) t (omega (arith, next-cycles z k)))
+acts-in z circuit (cycleDone ∷ es) k t (suc s) q =
+    acts-later z circuit cycleDone es k t s q ∙ acts-in z circuit es (nextCalendar z k) t s (omega (arith, next-cycles z k))
+acts-in z circuit (startDone c transfer ∷ es) k t zero q =
+    let e : Event = startDone c transfer in
+    acts-first z circuit e es k t (omega arith)
+    ∙ ap (λ (acts : List Act). actOf z circuit e ++ acts) (acts-in z circuit es k t zero q)
+acts-in z circuit (startDone c transfer ∷ es) k t (suc s) q =
+    acts-later z circuit (startDone c transfer) es k t s q ∙ acts-in z circuit es k t (suc s) q
+acts-in z circuit (storeDone node address new ∷ es) k t zero q =
+    acts-first z circuit (storeDone node address new) es k t (omega arith)
+    ∙ ap (λ (acts : List Act). actOf z circuit (storeDone node address new) ++ acts) (acts-in z circuit es k t zero q)
+acts-in z circuit (storeDone node address new ∷ es) k t (suc s) q =
+    acts-later z circuit (storeDone node address new) es k t s q ∙ acts-in z circuit es k t (suc s) q
+acts-in z circuit (orderDone schedule at ∷ es) k t zero q =
+    acts-first z circuit (orderDone schedule at) es k t (omega arith)
+    ∙ acts-in z circuit es (calendarEvent z (orderDone schedule at) k) t zero q
+acts-in z circuit (orderDone schedule at ∷ es) k t (suc s) q =
+    acts-later z circuit (orderDone schedule at) es k t s q
+    ∙ acts-in z circuit es (calendarEvent z (orderDone schedule at) k) t (suc s) q
+
+pub acts-are : (l : Session) (circuit t : ℕ) → actsAfter l circuit t ≡ actsIn (l .sheet) circuit (eventsOf l) t
+acts-are l circuit t = acts-in (l .sheet) circuit (eventsOf l) calendarAtLoad t t (omega arith)
 
 -- an act, and some acts, on a reckoning: no sheet needed
 abbrev pub actOn : Act → Reckoned → Reckoned
-actOn (began readAddress writeAddress count kind) r = startOn readAddress writeAddress count kind r
-actOn (readStored address new) r = withWords r (λ at. pick (at =? address) new (r .readWords at)) (r .receiveWords)
-actOn (receiveStored address new) r = withWords r (r .readWords) (λ at. pick (at =? address) new (r .receiveWords at))
+actOn (began transfer) r = startOn transfer r
+actOn (readStored address new) r = withWords r (λ at. pick (at =? address) new (r .words .read at)) (r .words .receive)
+actOn (receiveStored address new) r = withWords r (r .words .read) (λ at. pick (at =? address) new (r .words .receive at))
 
 abbrev pub actAll : List Act → Reckoned → Reckoned
 actAll [] r = r
@@ -91,15 +138,12 @@ act-append [] ys r = refl
 act-append (x ∷ xs) ys r = act-append xs ys (actOn x r)
 
 -- a start on both
-start-same : {m : Circuit} {r q : Reckoned} (readAddress writeAddress count kind : ℕ) → Same m r q
-    → Same m (startOn readAddress writeAddress count kind r) (startOn readAddress writeAddress count kind q)
-start-same readAddress writeAddress count kind h = record {
-  same-readAddress = refl;
-  same-writeAddress = refl;
-  same-count = refl;
-  same-kind = refl;
+start-same : {m : Circuit} {r q : Reckoned} (transfer : Transfer) → Same m r q
+    → Same m (startOn transfer r) (startOn transfer q)
+start-same transfer h = record {
+  same-transfer = refl;
   same-gone = refl;
-  same-opened = h .same-opened;
+  same-packetWords = h .same-packetWords;
   same-leaving = h .same-leaving;
   same-readWords = h .same-readWords;
   same-receiveWords = h .same-receiveWords;
@@ -111,12 +155,9 @@ words-same : {m : Circuit} {r q : Reckoned} (reads receives reads′ receives′
     → ((address : ℕ) → inRegion (m .receive) address ≡ true → receives address ≡ receives′ address)
     → Same m (withWords r reads receives) (withWords q reads′ receives′)
 words-same reads receives reads′ receives′ h f g = record {
-  same-readAddress = h .same-readAddress;
-  same-writeAddress = h .same-writeAddress;
-  same-count = h .same-count;
-  same-kind = h .same-kind;
+  same-transfer = h .same-transfer;
   same-gone = h .same-gone;
-  same-opened = h .same-opened;
+  same-packetWords = h .same-packetWords;
   same-leaving = h .same-leaving;
   same-readWords = f;
   same-receiveWords = g;
@@ -140,24 +181,24 @@ store-word true region address new at x y i e = go (at =? address) refl
 
 -- a store, by whether it is an act on the read region and on the receive region
 store-acts : {m : Circuit} {r q : Reckoned} (reads receives : Bool) (address new : ℕ) (f g : ℕ → ℕ) → Same m r q
-    → ((at : ℕ) → inRegion (m .read) at ≡ true → f at ≡ pick reads (pick (at =? address) new (q .readWords at)) (q .readWords at))
+    → ((at : ℕ) → inRegion (m .read) at ≡ true → f at ≡ pick reads (pick (at =? address) new (q .words .read at)) (q .words .read at))
     → ((at : ℕ) → inRegion (m .receive) at ≡ true
-    → g at ≡ pick receives (pick (at =? address) new (q .receiveWords at)) (q .receiveWords at))
+    → g at ≡ pick receives (pick (at =? address) new (q .words .receive at)) (q .words .receive at))
     → Same m (withWords r f g) (actAll (pick reads (readStored address new ∷ []) [] ++ pick receives (receiveStored address new ∷ []) []) q)
 store-acts {q} true true address new f g h e i = words-same f g _ _ h e i
 store-acts {q} true false address new f g h e i = words-same f g _ _ h e i
 store-acts {q} false true address new f g h e i = words-same f g _ _ h e i
-store-acts {q} false false address new f g h e i = words-same f g (q .readWords) (q .receiveWords) h e i
+store-acts {q} false false address new f g h e i = words-same f g (q .words .read) (q .words .receive) h e i
 
 module _ (z : List ℕ) (circuit : ℕ) where
-  start-acts : {r q : Reckoned} (k : Calendar) (c readAddress writeAddress count kind : ℕ) → Same (circuitAt z circuit) r q
-      → Same (circuitAt z circuit) (reckonEvent z circuit (startDone c readAddress writeAddress count kind) k r)
-      (actAll (actOf z circuit (startDone c readAddress writeAddress count kind)) q)
-  start-acts {r} {q} k c readAddress writeAddress count kind h = go (c =? circuit)
+  start-acts : {r q : Reckoned} (k : Calendar) (c : ℕ) (transfer : Transfer) → Same (circuitAt z circuit) r q
+      → Same (circuitAt z circuit) (reckonEvent z circuit (startDone c transfer) k r)
+      (actAll (actOf z circuit (startDone c transfer)) q)
+  start-acts {r} {q} k c transfer h = go (c =? circuit)
     where
-      go : (b : Bool) → Same (circuitAt z circuit) (pick b (startOn readAddress writeAddress count kind r) r)
-          (actAll (pick b (began readAddress writeAddress count kind ∷ []) []) q)
-      go true = start-same readAddress writeAddress count kind h
+      go : (b : Bool) → Same (circuitAt z circuit) (pick b (startOn transfer r) r)
+          (actAll (pick b (began transfer ∷ []) []) q)
+      go true = start-same transfer h
       go false = h
 
   wrote-acts : {r q : Reckoned} (node address new : ℕ) → Same (circuitAt z circuit) r q
@@ -175,57 +216,46 @@ module _ (z : List ℕ) (circuit : ℕ) where
 
   -- a stretch without cycles does what its acts do
   pub stretch-acts : (es : List Event) (t : ℕ) (k : Calendar) (r q : Reckoned) → Same (circuitAt z circuit) r q
-      → Same (circuitAt z circuit) (reckonAll z circuit (stretch es t) k r) (actAll (actsAfter z circuit es t) q)
+      → Same (circuitAt z circuit) (reckonAll z circuit (stretch es t) k r) (actAll (actsIn z circuit es t) q)
+  unfolding flatMap
   stretch-acts [] t k r q h = h
   stretch-acts (cycleDone ∷ es) zero k r q h = h
   stretch-acts (cycleDone ∷ es) (suc t) k r q h = stretch-acts es t k r q h
-  stretch-acts (startDone c readAddress writeAddress count kind ∷ es) zero k r q h =
-      acts-on (actOf z circuit (startDone c readAddress writeAddress count kind)) (actsAfter z circuit es zero) q
-      (stretch-acts es zero k _ _ (start-acts k c readAddress writeAddress count kind h))
-  stretch-acts (startDone c readAddress writeAddress count kind ∷ es) (suc t) k r q h = stretch-acts es (suc t) k r q h
+  stretch-acts (startDone c transfer ∷ es) zero k r q h =
+      acts-on (actOf z circuit (startDone c transfer)) (actsIn z circuit es zero) q
+      (stretch-acts es zero k _ _ (start-acts k c transfer h))
+  stretch-acts (startDone c transfer ∷ es) (suc t) k r q h = stretch-acts es (suc t) k r q h
   stretch-acts (storeDone node address new ∷ es) zero k r q h =
-      acts-on (actOf z circuit (storeDone node address new)) (actsAfter z circuit es zero) q
+      acts-on (actOf z circuit (storeDone node address new)) (actsIn z circuit es zero) q
       (stretch-acts es zero k _ _ (wrote-acts node address new h))
   stretch-acts (storeDone node address new ∷ es) (suc t) k r q h = stretch-acts es (suc t) k r q h
-  stretch-acts (orderDone schedule at ∷ es) zero k r q h = stretch-acts es zero (orderCalendar schedule at k) r q h
+  stretch-acts (orderDone schedule at ∷ es) zero k r q h = stretch-acts es zero (calendarEvent z (orderDone schedule at) k) r q h
   stretch-acts (orderDone schedule at ∷ es) (suc t) k r q h = stretch-acts es (suc t) k r q h
 
--- a stretch without cycles keeps the time
-pub stretch-time : (z : List ℕ) (es : List Event) (t : ℕ) (k : Calendar) → SameTime (calendarAll z (stretch es t) k) k
-stretch-time z [] t k = record { same-cycles = refl; same-cycle = refl }
-stretch-time z (cycleDone ∷ es) zero k = record { same-cycles = refl; same-cycle = refl }
-stretch-time z (cycleDone ∷ es) (suc t) k = stretch-time z es t k
-stretch-time z (startDone c readAddress writeAddress count kind ∷ es) zero k = stretch-time z es zero k
-stretch-time z (startDone c readAddress writeAddress count kind ∷ es) (suc t) k = stretch-time z es (suc t) k
-stretch-time z (storeDone node address new ∷ es) zero k = stretch-time z es zero k
-stretch-time z (storeDone node address new ∷ es) (suc t) k = stretch-time z es (suc t) k
-stretch-time z (orderDone schedule at ∷ es) zero k =
-    let h = stretch-time z es zero (orderCalendar schedule at k) in record { same-cycles = h .same-cycles; same-cycle = h .same-cycle }
-stretch-time z (orderDone schedule at ∷ es) (suc t) k = stretch-time z es (suc t) k
+-- a stretch without cycles changes the calendar's order alone
+pub record SameDay (k k′ : Calendar) : Type 0 where
+  pub cycles-kept : k .cycles ≡ k′ .cycles
+  pub cycle-kept : k .cycle ≡ k′ .cycle
+  pub schedule-kept : k .schedule ≡ k′ .schedule
 
-pub time-trans : {a b c : Calendar} → SameTime a b → SameTime b c → SameTime a c
-time-trans h g = record { same-cycles = h .same-cycles ∙ g .same-cycles; same-cycle = h .same-cycle ∙ g .same-cycle }
-
-pub time-sym : {a b : Calendar} → SameTime a b → SameTime b a
-time-sym h = record { same-cycles = sym (h .same-cycles); same-cycle = sym (h .same-cycle) }
-
--- the cycle within the period after a cycle
-cycle-next : (z : List ℕ) (k : Calendar) → nextCalendar z k .cycle ≡ pick (k .cycle + 1 =? period z (k .schedule)) 0 (k .cycle + 1)
-cycle-next z k = go (k .cycle + 1 =? period z (k .schedule)) refl
-  where
-    go : (b : Bool) → (k .cycle + 1 =? period z (k .schedule)) ≡ b
-        → nextCalendar z k .cycle ≡ pick (k .cycle + 1 =? period z (k .schedule)) 0 (k .cycle + 1)
-    go true e = rw e refl
-    go false e = rw e refl
+pub stretch-kept : (z : List ℕ) (es : List Event) (t : ℕ) (k : Calendar) → SameDay (calendarAll z (stretch es t) k) k
+stretch-kept z [] t k = record { cycles-kept = refl; cycle-kept = refl; schedule-kept = refl }
+stretch-kept z (cycleDone ∷ es) zero k = record { cycles-kept = refl; cycle-kept = refl; schedule-kept = refl }
+stretch-kept z (cycleDone ∷ es) (suc t) k = stretch-kept z es t k
+stretch-kept z (startDone c transfer ∷ es) zero k = stretch-kept z es zero k
+stretch-kept z (startDone c transfer ∷ es) (suc t) k = stretch-kept z es (suc t) k
+stretch-kept z (storeDone node address new ∷ es) zero k = stretch-kept z es zero k
+stretch-kept z (storeDone node address new ∷ es) (suc t) k = stretch-kept z es (suc t) k
+stretch-kept z (orderDone schedule at ∷ es) zero k =
+    let h = stretch-kept z es zero (calendarEvent z (orderDone schedule at) k) in
+    record { cycles-kept = h .cycles-kept; cycle-kept = h .cycle-kept; schedule-kept = h .schedule-kept }
+stretch-kept z (orderDone schedule at ∷ es) (suc t) k = stretch-kept z es (suc t) k
 
 pub same-refl : {m : Circuit} (r : Reckoned) → Same m r r
 same-refl r = record {
-  same-readAddress = refl;
-  same-writeAddress = refl;
-  same-count = refl;
-  same-kind = refl;
+  same-transfer = refl;
   same-gone = refl;
-  same-opened = λ t. refl;
+  same-packetWords = λ t. refl;
   same-leaving = λ t. refl;
   same-readWords = λ at i. refl;
   same-receiveWords = λ at i. refl;
@@ -234,8 +264,8 @@ same-refl r = record {
 leaves-same : {m : Circuit} {r q : Reckoned} {n n′ : ℕ} → n ≡ n′ → Same m r q → leavesIn r n ≡ leavesIn q n′
 unfolding leavesIn
 leaves-same {r} {q} {n} e h =
-    any-same n _ (λ s. n ≤? s + q .packetWords s) (λ s l. ap (λ (k : ℕ). n ≤? s + k) (h .same-opened s))
-    ∙ ap (λ (t : ℕ). any t (λ s. t ≤? s + q .packetWords s)) e
+    any-same n _ (λ s. n ≤? s + q .sent .packetWords s) (λ s l. ap (λ (k : ℕ). n ≤? s + k) (h .same-packetWords s))
+    ∙ ap (λ (t : ℕ). any t (λ s. t ≤? s + q .sent .packetWords s)) e
 
 -- a function set at one place
 at-same : {A : Type 0} (t : ℕ) {u u′ : ℕ} {x x′ y y′ : A} → u ≡ u′ → x ≡ x′ → y ≡ y′ → pick (t =? u) x y ≡ pick (t =? u′) x′ y′
@@ -254,7 +284,7 @@ landing-same : (z z′ : List ℕ) (c d : ℕ) {m : Circuit} (r q : Reckoned) (n
     → Same m r q → reckonedLanding z c r n ≡ reckonedLanding z′ d q n′
 unfolding reckonedLanding
 landing-same z z′ c d r q n n′ f e h =
-    ap₂ (λ (f t : ℕ). pick (f ≤? t) (r .leaving (t - f)) none) f e
+    ap₂ (λ (f t : ℕ). pick (f ≤? t) (r .sent .leaving (t - f)) none) f e
     ∙ ap (λ (i : Item). pick (flightCycles z′ d ≤? n′) i none) (h .same-leaving (n′ - flightCycles z′ d))
 
 pub landed-same : (z z′ : List ℕ) (c d : ℕ) {m : Circuit} (r q : Reckoned) (n n′ : ℕ) → flightCycles z c ≡ flightCycles z′ d → n ≡ n′
@@ -268,7 +298,7 @@ pub time-next : (z z′ : List ℕ) (c d : ℕ) (k k′ : Calendar) → Sheets z
 time-next z z′ c d k k′ s time = record {
   same-cycles = next-cycles z k ∙ ap (λ (t : ℕ). t + 1) (time .same-cycles) ∙ sym (next-cycles z′ k′);
   same-cycle =
-      cycle-next z k ∙ ap₂ (λ (t p : ℕ). pick (t + 1 =? p) 0 (t + 1)) (time .same-cycle) (s .same-length) ∙ sym (cycle-next z′ k′);
+      next-cycle z k ∙ ap₂ (λ (t p : ℕ). pick (t + 1 =? p) 0 (t + 1)) (time .same-cycle) (s .same-length) ∙ sym (next-cycle z′ k′);
 }
 
 module _ (z z′ : List ℕ) (c d : ℕ) {m : Circuit} (k k′ : Calendar) (r q : Reckoned) (s : Sheets z z′ c d k k′) (time : SameTime k k′)
@@ -276,20 +306,20 @@ module _ (z z′ : List ℕ) (c d : ℕ) {m : Circuit} (k k′ : Calendar) (r q 
   opens-same : min (slotLength z (k .schedule) (k .cycle) c - 1) (owed r) ≡ min (slotLength z′ (k′ .schedule) (k′ .cycle) d - 1) (owed q)
   opens-same =
       let slots = s .same-slot (k .cycle) ∙ ap (λ (t : ℕ). slotLength z′ (k′ .schedule) t d) (time .same-cycle) in
-      ap₂ (λ (t o : ℕ). min (t - 1) o) slots (ap₂ (λ (n g : ℕ). n - g) (h .same-count) (h .same-gone))
+      ap₂ (λ (t o : ℕ). min (t - 1) o) slots (ap₂ (λ (x : Transfer) (g : ℕ). x .count - g) (h .same-transfer) (h .same-gone))
 
   -- the next word, where its address lies in the read region
-  item-same : inRegion (m .read) (r .readAddress + r .gone) ≡ true → nextItem r ≡ nextItem q
+  item-same : inRegion (m .read) (r .transfer .readAddress + r .sent .gone) ≡ true → nextItem r ≡ nextItem q
   item-same i =
-      ap (λ (w : ℕ). item (r .kind) (r .writeAddress + r .gone) w) (h .same-readWords (r .readAddress + r .gone) i)
-      ∙ ap (λ (a : ℕ). item (r .kind) (r .writeAddress + r .gone) (q .readWords (a + r .gone))) (h .same-readAddress)
-      ∙ ap (λ (a : ℕ). item (r .kind) (a + r .gone) (q .readWords (q .readAddress + r .gone))) (h .same-writeAddress)
-      ∙ ap₂ (λ (a g : ℕ). item a (q .writeAddress + g) (q .readWords (q .readAddress + g))) (h .same-kind) (h .same-gone)
+      ap (item (r .transfer .kind) (r .transfer .writeAddress + r .sent .gone))
+      (h .same-readWords (r .transfer .readAddress + r .sent .gone) i)
+      ∙ ap₂ (λ (x : Transfer) (g : ℕ). item (x .kind) (x .writeAddress + g) (q .words .read (x .readAddress + g))) (h .same-transfer)
+      (h .same-gone)
 
   leaves : leavesIn r (k .cycles) ≡ leavesIn q (k′ .cycles)
   leaves = leaves-same (time .same-cycles) h
 
-  leaving-same : (leavesIn r (k .cycles) ≡ true → inRegion (m .read) (r .readAddress + r .gone) ≡ true)
+  leaving-same : (leavesIn r (k .cycles) ≡ true → inRegion (m .read) (r .transfer .readAddress + r .sent .gone) ≡ true)
       → pick (leavesIn r (k .cycles)) (nextItem r) none ≡ pick (leavesIn q (k′ .cycles)) (nextItem q) none
   leaving-same i = go (leavesIn r (k .cycles)) (leavesIn q (k′ .cycles)) refl leaves
     where
@@ -300,15 +330,12 @@ module _ (z z′ : List ℕ) (c d : ℕ) {m : Circuit} (k k′ : Calendar) (r q 
       go false false e f = refl
 
   -- a cycle on both reckonings
-  pub cycle-same : (leavesIn r (k .cycles) ≡ true → inRegion (m .read) (r .readAddress + r .gone) ≡ true)
+  pub cycle-same : (leavesIn r (k .cycles) ≡ true → inRegion (m .read) (r .transfer .readAddress + r .sent .gone) ≡ true)
       → Same m (cycleOn z c k r) (cycleOn z′ d k′ q)
   cycle-same i = record {
-    same-readAddress = h .same-readAddress;
-    same-writeAddress = h .same-writeAddress;
-    same-count = h .same-count;
-    same-kind = h .same-kind;
+    same-transfer = h .same-transfer;
     same-gone = ap₂ (λ (b : Bool) (g : ℕ). g + pick b 1 0) leaves (h .same-gone);
-    same-opened = λ t. at-same t (time .same-cycles) opens-same (h .same-opened t);
+    same-packetWords = λ t. at-same t (time .same-cycles) opens-same (h .same-packetWords t);
     same-leaving = λ t. at-same t (time .same-cycles) (leaving-same i) (h .same-leaving t);
     same-readWords = h .same-readWords;
     same-receiveWords = λ at j.

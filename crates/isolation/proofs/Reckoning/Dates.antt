@@ -8,34 +8,31 @@ use native.Mathlib.Omega.{arith}
 use native.Mathlib.Decide.{ℕ-discrete}
 use native.Mathlib.Nat.{add-zero, not-suc-le-zero}
 use lib.ListN.{length, take, drop, getD}
-use Rattle.words.specs.Tests.{_and_, _=?_}
+use Rattle.words.specs.Tests.{_=?_}
 use Rattle.words.specs.Words.{pick}
 use Rattle.words.proofs.TestLaws.{yes=, no=}
 use Rattle.sheet.specs.Sheet.{circuits, period}
 use Rattle.sheet.specs.Rules.{verdict}
 use Rattle.network.specs.View.{Order, noOrder, pending, View}
 use Rattle.network.specs.Cycle.{nextNumber, scheduleAfter, orderAfter, periodEnds, tick, faulty}
-use Rattle.network.specs.Registers.{reg, clockRow, cyclePlace, numberPlace, inForcePlace, orderMarkPlace, orderSchedulePlace, orderPeriodPlace}
+use Rattle.network.specs.Registers.{reg, clockRow, cyclePlace, numberPlace, inForcePlace, orderMarkPlace, orderSchedulePlace, orderPeriodPlace, rowWords}
 use Rattle.session.specs.Calls.{Lent, Call, load, start, store, order, cycle, isLoad, number, does, after, ordered, stored, ask}
 use Rattle.session.proofs.NumberLaws.{start-passed}
 use Rattle.session.proofs.RegisterLaws.{loaded-register, started-other, ordered-other, ordered-mark, ordered-schedule, ordered-period}
-use Rattle.isolation.specs.Sessions.{isCycle, LoadsRefused, run, Session, afterLoad, standing, Event, cycleDone, eventOf, events}
-use Rattle.isolation.specs.Calendar.{Calendar, calendarAtLoad, turnCalendar, nextCalendar, orderCalendar, calendarEvent, calendarAll}
-use Rattle.isolation.specs.Demand.{calendarAt, CycleAt}
+use Rattle.isolation.specs.Sessions.{LoadsRefused, run, Session, afterLoad, standing, Event, orderDone, cycleDone, eventOf, events}
+use Rattle.isolation.specs.Calendar.{Calendar, calendarAtLoad, spendOrder, nextCalendar, calendarEvent, calendarAll, calendarAt}
 use Rattle.isolation.proofs.Flights.Trajectory.{Trajectory}
 use Rattle.isolation.proofs.Flights.NeverFaulty.{never-faulty}
-use Rattle.isolation.proofs.Reckoning.Stream.{seen, Fine, fine-bounds, fine-opened, fine-after, fine-cycle, after-done, after-refused, is-cycle, idle, cycleThen, stream, cycle-seen, cycle-goes, machineAt, session-passes, session-trajectory}
-
--- the order that a calendar holds
-abbrev pub calendarOrder : Calendar → Order
-calendarOrder k = pick (k .isOrdered) (pending (k .orderedSchedule) (k .orderedPeriod)) noOrder
+use Rattle.isolation.proofs.Reckoning.Stream.{isCycle, seen, Fine, fine-bounds, fine-opened, fine-after, fine-cycle, after-done, after-refused}
+use Rattle.isolation.proofs.Reckoning.Stream.{is-cycle, idle, cycleThen, stream, cycle-seen, cycle-goes, machineAt, session-passes}
+use Rattle.isolation.proofs.Reckoning.Stream.{session-trajectory}
 
 -- a calendar shows what the machine's clock shows
 pub record Dated (k : Calendar) (v : View) : Type 0 where
   pub cycle-is : k .cycle ≡ v .cycle
   pub number-is : k .number ≡ v .periodNumber
   pub schedule-is : k .schedule ≡ v .schedule
-  pub order-is : calendarOrder k ≡ v .order
+  pub order-is : k .order ≡ v .order
 
 -- two machines' clocks show the same
 record SameClock (v w : View) : Type 0 where
@@ -44,58 +41,69 @@ record SameClock (v w : View) : Type 0 where
   schedule : w .schedule ≡ v .schedule
   order : w .order ≡ v .order
 
--- what an order puts in force as a period ends, and what is left of it
-schedule-turned : (o : Bool) (ordered at number schedule : ℕ)
-    → pick (o and at =? number) ordered schedule ≡ scheduleAfter (pick o (pending ordered at) noOrder) number schedule
-unfolding _and_
-schedule-turned true ordered at number schedule = refl
-schedule-turned false ordered at number schedule = refl
+-- what an order puts in force as a period begins, and what is left of it
+record Begun (k begun : Calendar) : Type 0 where
+  same-cycles : begun .cycles ≡ k .cycles
+  same-cycle : begun .cycle ≡ k .cycle
+  same-number : begun .number ≡ k .number
+  schedule : begun .schedule ≡ scheduleAfter (k .order) (k .number) (k .schedule)
+  order : begun .order ≡ orderAfter (k .order) (k .number)
 
-order-turned : (o : Bool) (ordered at number : ℕ)
-    → pick (pick (o and at =? number) false o) (pending ordered at) noOrder
-    ≡ orderAfter (pick o (pending ordered at) noOrder) number
-unfolding _and_
-order-turned true ordered at number = go (at =? number)
+begun-by : (cycles number schedule : ℕ) (o : Order)
+    → let k : Calendar = record { cycles = cycles; cycle = 0; number = number; schedule = schedule; order = o } in Begun k (spendOrder o k)
+begun-by cycles number schedule noOrder =
+    record { same-cycles = refl; same-cycle = refl; same-number = refl; schedule = refl; order = refl }
+begun-by cycles number schedule (pending ordered at) = go (at =? number) refl
   where
-    go : (b : Bool) → pick (pick b false true) (pending ordered at) noOrder ≡ pick b noOrder (pending ordered at)
-    go true = refl
-    go false = refl
-order-turned false ordered at number = refl
+    go : (b : Bool) → (at =? number) ≡ b
+        → let k : Calendar = record { cycles = cycles; cycle = 0; number = number; schedule = schedule; order = pending ordered at } in
+        Begun k (pick b (record { cycles = cycles; cycle = 0; number = number; schedule = ordered; order = noOrder }) k)
+    go true e = record {
+      same-cycles = refl;
+      same-cycle = refl;
+      same-number = refl;
+      schedule = sym (ap (λ b. pick b ordered schedule) e);
+      order = sym (ap (λ b. pick b noOrder (pending ordered at)) e);
+    }
+    go false e = record {
+      same-cycles = refl;
+      same-cycle = refl;
+      same-number = refl;
+      schedule = sym (ap (λ b. pick b ordered schedule) e);
+      order = sym (ap (λ b. pick b noOrder (pending ordered at)) e);
+    }
 
--- where the clock does not turn, the calendar's next cycle
-abbrev onward : Calendar → Calendar
-onward k = record {
-  cycles = k .cycles + 1;
-  cycle = k .cycle + 1;
-  number = k .number;
-  schedule = k .schedule;
-  isOrdered = k .isOrdered;
-  orderedSchedule = k .orderedSchedule;
-  orderedPeriod = k .orderedPeriod;
-}
+-- the calendar after a period's last cycle, and after any other
+abbrev turned : Calendar → Calendar
+turned k =
+    spendOrder (k .order)
+    (record { cycles = k .cycles + 1; cycle = 0; number = nextNumber (k .number); schedule = k .schedule; order = k .order })
 
--- after a period's last cycle
-dated-turn : (z : List ℕ) (k : Calendar) (v : View) → Dated k v → periodEnds z v ≡ true → Dated (turnCalendar k) (tick z v)
+abbrev calendarOnward : Calendar → Calendar
+calendarOnward k =
+    record { cycles = k .cycles + 1; cycle = k .cycle + 1; number = k .number; schedule = k .schedule; order = k .order }
+
+dated-turn : (z : List ℕ) (k : Calendar) (v : View) → Dated k v → periodEnds z v ≡ true → Dated (turned k) (tick z v)
 dated-turn z k v d e =
+    let begun = begun-by (k .cycles + 1) (nextNumber (k .number)) (k .schedule) (k .order) in
     let number : nextNumber (k .number) ≡ nextNumber (v .periodNumber) = ap nextNumber (d .number-is) in
     record {
-      cycle-is = sym (ap (λ b. pick b 0 (v .cycle + 1)) e);
-      number-is = number ∙ sym (ap (λ b. pick b (nextNumber (v .periodNumber)) (v .periodNumber)) e);
+      cycle-is = begun .same-cycle ∙ sym (ap (λ b. pick b 0 (v .cycle + 1)) e);
+      number-is = begun .same-number ∙ number ∙ sym (ap (λ b. pick b (nextNumber (v .periodNumber)) (v .periodNumber)) e);
       schedule-is =
-          schedule-turned (k .isOrdered) (k .orderedSchedule) (k .orderedPeriod) (nextNumber (k .number)) (k .schedule)
+          begun .schedule
           ∙ ap (λ o. scheduleAfter o (nextNumber (k .number)) (k .schedule)) (d .order-is)
           ∙ ap (λ n. scheduleAfter (v .order) n (k .schedule)) number
           ∙ ap (scheduleAfter (v .order) (nextNumber (v .periodNumber))) (d .schedule-is)
           ∙ sym (ap (λ b. pick b (scheduleAfter (v .order) (nextNumber (v .periodNumber)) (v .schedule)) (v .schedule)) e);
       order-is =
-          order-turned (k .isOrdered) (k .orderedSchedule) (k .orderedPeriod) (nextNumber (k .number))
+          begun .order
           ∙ ap (λ o. orderAfter o (nextNumber (k .number))) (d .order-is)
           ∙ ap (orderAfter (v .order)) number
           ∙ sym (ap (λ b. pick b (orderAfter (v .order) (nextNumber (v .periodNumber))) (v .order)) e);
     }
 
--- after any other cycle
-dated-onward : (z : List ℕ) (k : Calendar) (v : View) → Dated k v → periodEnds z v ≡ false → Dated (onward k) (tick z v)
+dated-onward : (z : List ℕ) (k : Calendar) (v : View) → Dated k v → periodEnds z v ≡ false → Dated (calendarOnward k) (tick z v)
 dated-onward z k v d e = record {
   cycle-is = ap (λ n. n + 1) (d .cycle-is) ∙ sym (ap (λ b. pick b 0 (v .cycle + 1)) e);
   number-is = d .number-is ∙ sym (ap (λ b. pick b (nextNumber (v .periodNumber)) (v .periodNumber)) e);
@@ -115,15 +123,15 @@ dated-cycle z k v d = go (periodEnds z v) refl
 
     go : (b : Bool) → periodEnds z v ≡ b → Dated (nextCalendar z k) (tick z v)
     go true e =
-        subst (λ b. Dated (pick b (turnCalendar k) (onward k)) (tick z v)) (sym (same ∙ e)) (dated-turn z k v d e)
+        subst (λ b. Dated (pick b (turned k) (calendarOnward k)) (tick z v)) (sym (same ∙ e)) (dated-turn z k v d e)
     go false e =
-        subst (λ b. Dated (pick b (turnCalendar k) (onward k)) (tick z v)) (sym (same ∙ e)) (dated-onward z k v d e)
+        subst (λ b. Dated (pick b (turned k) (calendarOnward k)) (tick z v)) (sym (same ∙ e)) (dated-onward z k v d e)
 
 -- an order: the calendar holds it as the clock does
-dated-order : (schedule at : ℕ) (k : Calendar) (v w : View) → Dated k v → w .cycle ≡ v .cycle
+dated-order : (z : List ℕ) (schedule at : ℕ) (k : Calendar) (v w : View) → Dated k v → w .cycle ≡ v .cycle
     → w .periodNumber ≡ v .periodNumber → w .schedule ≡ v .schedule → w .order ≡ pending schedule at
-    → Dated (orderCalendar schedule at k) w
-dated-order schedule at k v w d c n s o = record {
+    → Dated (calendarEvent z (orderDone schedule at) k) w
+dated-order z schedule at k v w d c n s o = record {
   cycle-is = d .cycle-is ∙ sym c;
   number-is = d .number-is ∙ sym n;
   schedule-is = d .schedule-is ∙ sym s;
@@ -147,8 +155,16 @@ dated-load v c n s o = record { cycle-is = sym c; number-is = sym n; schedule-is
 pub next-cycles : (z : List ℕ) (k : Calendar) → nextCalendar z k .cycles ≡ k .cycles + 1
 next-cycles z k = go (k .cycle + 1 =? period z (k .schedule))
   where
-    go : (b : Bool) → pick b (turnCalendar k) (onward k) .cycles ≡ k .cycles + 1
-    go true = refl
+    go : (b : Bool) → pick b (turned k) (calendarOnward k) .cycles ≡ k .cycles + 1
+    go true = begun-by (k .cycles + 1) (nextNumber (k .number)) (k .schedule) (k .order) .same-cycles
+    go false = refl
+
+-- the cycle within the period after a cycle
+pub next-cycle : (z : List ℕ) (k : Calendar) → nextCalendar z k .cycle ≡ pick (k .cycle + 1 =? period z (k .schedule)) 0 (k .cycle + 1)
+next-cycle z k = go (k .cycle + 1 =? period z (k .schedule))
+  where
+    go : (b : Bool) → pick b (turned k) (calendarOnward k) .cycle ≡ pick b 0 (k .cycle + 1)
+    go true = begun-by (k .cycles + 1) (nextNumber (k .number)) (k .schedule) (k .order) .same-cycle
     go false = refl
 
 -- a call that is no cycle counts none
@@ -185,19 +201,19 @@ module _ (z : List ℕ) (w : Lent) (f : Fine z w) (k : Calendar) (d : Dated k (s
       → Dated k (seen (does (start circuit readAddress writeAddress count kind) w))
   start-dated circuit readAddress writeAddress count kind e =
       let p = start-passed s circuit readAddress writeAddress count kind e in
-      let few : circuit < 80 = omega (arith, p .circuit-inside, fine-bounds z w f .few-circuits, ap circuits (f .sheet-is)) in
+      let few : circuit < rowWords = omega (arith, p .circuit-inside, fine-bounds z w f .few-circuits, ap circuits (f .sheet-is)) in
       dated-same k (seen w) _ d
       (same-clock s _ (w .memory) (w .memory)
       (λ place l. started-other s circuit readAddress writeAddress count kind few clockRow place (omega arith)
       (λ low. absurd (omega arith))))
 
   order-dated : (schedule period : ℕ) → number (order schedule period) w ≡ 0
-      → Dated (orderCalendar schedule period k) (seen (does (order schedule period) w))
+      → Dated (calendarEvent z (orderDone schedule period) k) (seen (does (order schedule period) w))
   order-dated schedule period e =
       let long = f .long in
       let time : (place : ℕ) → place < 3 → reg (ordered s schedule period) clockRow place ≡ reg s clockRow place =
       λ place l. ordered-other s schedule period clockRow place (omega arith) (λ q low. absurd (omega arith)) in
-      dated-order schedule period k (seen w) (seen (does (order schedule period) w)) d
+      dated-order z schedule period k (seen w) (seen (does (order schedule period) w)) d
       (time cyclePlace (omega arith)) (time numberPlace (omega arith)) (time inForcePlace (omega arith))
       (rw (
         ordered-mark s schedule period (omega arith),
@@ -336,7 +352,7 @@ run-at (x ∷ calls) zero w l = refl
 run-at (x ∷ calls) (suc k) w l = run-at calls k (after x w) (omega arith)
 
 module _ (l : Session) where
-  zero-at : (place : ℕ) → place < 80 → reg (afterLoad l .state) clockRow place ≡ 0
+  zero-at : (place : ℕ) → place < rowWords → reg (afterLoad l .state) clockRow place ≡ 0
   zero-at place p = loaded-register (l .sheet) (l .lent .state) clockRow place (omega arith) p
 
   -- directly after the load
@@ -354,18 +370,9 @@ module _ (l : Session) where
   pub point-at : (k : ℕ) → Point (l .sheet) (machineAt l) (drop k (l .calls)) (standing l k) (calendarAt l k)
   point-at k = points (l .sheet) (session-passes l) (machineAt l) (session-trajectory l) k (l .calls) (afterLoad l) _ point-opened
 
-  -- the calls from a cycle on
-  pub calls-at : (k : ℕ) → CycleAt l k → drop k (l .calls) ≡ cycle ∷ drop (suc k) (l .calls)
-  calls-at k c = drop-at (l .calls) k (c .0) ∙ ap (λ (x : Call). x ∷ drop (suc k) (l .calls)) (is-cycle _ (c .1))
-
   -- no cycle is refused
-  pub never-refused : (k : ℕ) → CycleAt l k → number cycle (standing l k) ≡ 0
-  never-refused k c =
+  pub never-refused : (k : ℕ) → k < length (l .calls) → getD (l .calls) k cycle ≡ cycle → number cycle (standing l k) ≡ 0
+  never-refused k i c =
       cycle-done (l .sheet) (session-passes l) (machineAt l) (session-trajectory l) _ _ _
-      (subst (λ (calls : List Call). Point (l .sheet) (machineAt l) calls (standing l k) (calendarAt l k)) (calls-at k c) (point-at k))
-
-  -- so the words after it are the cycle's, and one more is counted
-  pub standing-next : (k : ℕ) → CycleAt l k → standing l (suc k) ≡ does cycle (standing l k)
-  standing-next k c =
-      run-at (l .calls) k (afterLoad l) (c .0) ∙ ap (λ (x : Call). after x (standing l k)) (is-cycle _ (c .1))
-      ∙ after-done cycle (standing l k) (never-refused k c)
+      (subst (λ (calls : List Call). Point (l .sheet) (machineAt l) calls (standing l k) (calendarAt l k))
+      (drop-at (l .calls) k i ∙ ap (λ (x : Call). x ∷ drop (suc k) (l .calls)) c) (point-at k))

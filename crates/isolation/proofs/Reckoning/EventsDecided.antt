@@ -17,14 +17,14 @@ use Rattle.network.specs.View.{Order, noOrder, pending}
 use Rattle.network.specs.Registers.{reg, clockRow, orderMarkPlace, orderSchedulePlace, orderPeriodPlace, leftRow}
 use Rattle.network.specs.Seen.{seenOrder}
 use Rattle.soundness.specs.Sound.{kindTravels, liesIn}
-use Rattle.words.specs.Numbers.{unless, _then_}
-use Rattle.session.specs.Calls.{Lent, Call, load, start, store, fetch, left, periodNumber, landed, order, cycle, isLoad, number, memoryNumber, placeNumber, leftNumber, landedNumber, startNamed, startFits, isBusy, startNumber, isPending, ahead, orderNumber, Question, ask, questionNumber}
-use Rattle.words.proofs.NumberLaws.{zero-then, zero-unless}
-use Rattle.isolation.specs.Sessions.{Session, isCycle, afterLoad, standing, Event, eventOf, eventsBefore}
-use Rattle.isolation.specs.Calendar.{Calendar, calendarAfter}
+use Rattle.session.specs.Calls.{Lent, Call, load, start, store, fetch, left, periodNumber, landed, order, cycle, isLoad, number, memoryNumber}
+use Rattle.session.specs.Calls.{placeNumber, leftNumber, landedNumber, startNamed, startFits, isBusy, startNumber, isPending, ahead, orderNumber}
+use Rattle.session.specs.Calls.{Question, ask, questionNumber}
+use Rattle.words.proofs.NumberLaws.{zero-then, zero-unless, unless-test, after-zero, test-then}
+use Rattle.isolation.specs.Sessions.{Session, afterLoad, standing, Event, eventOf, eventsBefore}
+use Rattle.isolation.specs.Calendar.{Calendar, calendarAfter, calendarAt}
 use Rattle.isolation.specs.Reckoning.{owed, reckon}
-use Rattle.isolation.specs.Demand.{calendarAt}
-use Rattle.isolation.proofs.Reckoning.Stream.{Fine, is-cycle}
+use Rattle.isolation.proofs.Reckoning.Stream.{isCycle, Fine, is-cycle}
 use Rattle.isolation.proofs.Reckoning.Dates.{point-at, never-refused}
 use Rattle.isolation.proofs.Reckoning.Points.{events-more}
 use Rattle.isolation.proofs.Reckoning.Reckons.{state-zero, refused-at, at-point}
@@ -37,10 +37,15 @@ startGoes z m es circuit readAddress writeAddress count kind =
     and liesIn (circuitAt z circuit .receive) writeAddress count)
     and owed (reckon z circuit m es) =? 0)
 
+-- an order is pending
+abbrev isHeld : Order → Bool
+isHeld noOrder = false
+isHeld (pending schedule period) = true
+
 abbrev orderGoes : List ℕ → Calendar → ℕ → ℕ → Bool
 orderGoes z k schedule period =
     schedule <? schedules z
-    and (not (k .isOrdered)
+    and (not (isHeld (k .order))
     and (3 ≤? (period + 4294967296 - k .number) % 4294967296 and (period + 4294967296 - k .number) % 4294967296 <? 2147483648))
 
 abbrev askGoes : List ℕ → Question → Bool
@@ -57,29 +62,6 @@ goes z m es (order schedule period) = orderGoes z (calendarAfter z es) schedule 
 goes z m es cycle = true
 goes z m es (ask question) = askGoes z question
 
--- tests one after another
-then-test : (a b : ℕ) → ((a then b) =? 0) ≡ (a =? 0 and b =? 0)
-unfolding _then_ _and_
-then-test a b = go (a =? 0) refl
-  where
-    go : (t : Bool) → (a =? 0) ≡ t → (pick t b a =? 0) ≡ (t and b =? 0)
-    go true e = refl
-    go false e = e
-
-unless-test : (n : ℕ) (t : Bool) → (unless (suc n) t =? 0) ≡ t
-unfolding unless
-unless-test n true = yes= refl
-unless-test n false = no= (λ e. absurd (let z : ⊥ = omega arith in z))
-
--- behind a number that is 0, the rest decides
-after-zero : {a : ℕ} (b : ℕ) → a ≡ 0 → ((a then b) =? 0) ≡ (b =? 0)
-unfolding _and_
-after-zero {a} b e = then-test a b ∙ ap (λ (t : Bool). t and b =? 0) (yes= e)
-
--- a test, then a number
-test-then : (n : ℕ) (t : Bool) (b : ℕ) → ((unless (suc n) t then b) =? 0) ≡ (t and b =? 0)
-test-then n t b = then-test (unless (suc n) t) b ∙ ap (λ (u : Bool). u and b =? 0) (unless-test n t)
-
 none-left : (n : ℕ) → not (1 ≤? n) ≡ (n =? 0)
 none-left zero = ap not (no≤ (omega arith)) ∙ sym (yes= refl)
 none-left (suc n) = ap not (yes≤ (omega arith)) ∙ sym (no= (λ e. absurd (let z : ⊥ = omega arith in z)))
@@ -89,15 +71,7 @@ and-neither : (t a b c : Bool) → t ≡ false → ((t and a) and b) ≡ ((t and
 unfolding _and_
 and-neither t a b c e = ap (λ (u : Bool). (u and a) and b) e ∙ sym (ap (λ (u : Bool). (u and a) and c) e)
 
--- an order is pending
-abbrev isHeld : Order → Bool
-isHeld noOrder = false
-isHeld (pending schedule period) = true
-
-held-calendar : (b : Bool) (schedule period : ℕ) → isHeld (pick b (pending schedule period) noOrder) ≡ b
-held-calendar true schedule period = refl
-held-calendar false schedule period = refl
-
+-- a register shows whether an order is pending
 held-register : (mark schedule period : ℕ) → isHeld (seenOrder mark schedule period) ≡ (1 ≤? mark)
 held-register zero schedule period = sym (no≤ (omega arith))
 held-register (suc mark) schedule period = sym (yes≤ (omega arith))
@@ -151,11 +125,10 @@ module _ (l : Session) (k : ℕ) where
   unfolding orderNumber isPending ahead
   order-test schedule period =
       let d = point-at l k .dated in
-      let held : (1 ≤? reg (w .state) clockRow orderMarkPlace) ≡ calendarAt l k .isOrdered =
+      let held : (1 ≤? reg (w .state) clockRow orderMarkPlace) ≡ isHeld (calendarAt l k .order) =
       sym (held-register (reg (w .state) clockRow orderMarkPlace) (reg (w .state) clockRow orderSchedulePlace)
       (reg (w .state) clockRow orderPeriodPlace))
-      ∙ ap isHeld (sym (d .order-is))
-      ∙ held-calendar (calendarAt l k .isOrdered) (calendarAt l k .orderedSchedule) (calendarAt l k .orderedPeriod) in
+      ∙ ap isHeld (sym (d .order-is)) in
       after-zero _ (state-zero z w f)
       ∙ test-then 14 _ _
       ∙ ap₂ (λ (y : List ℕ) (t : Bool). schedule <? schedules y and t) (f .sheet-is)
@@ -219,7 +192,8 @@ module _ (l : Session) where
       ≡ goes (l .sheet) (l .lent .memory) (eventsBefore l k) (getD (l .calls) k cycle)
   go-test k p =
       call-test l k (getD (l .calls) k cycle)
-      (λ c. ap (λ (y : Call). number y (standing l k)) (is-cycle (getD (l .calls) k cycle) c) ∙ never-refused l k (p, c))
+      (λ c. let same = is-cycle (getD (l .calls) k cycle) c in
+      ap (λ (y : Call). number y (standing l k)) same ∙ never-refused l k p same)
       (refused-at (l .calls) (afterLoad l) (l .loads-refused) k p)
 
   pub events-decided : (k : ℕ) → k ≤ length (l .calls)

@@ -8,14 +8,14 @@ use native.Mathlib.Omega.{arith}
 use native.Mathlib.Decide.{ℕ-discrete}
 use Rattle.sheet.specs.Sheet.{circuits, nodes}
 use Rattle.network.specs.View.{nothing}
-use Rattle.network.specs.Registers.{reg, landingMark, landingKind, landingAddress, landingWord}
+use Rattle.network.specs.Registers.{reg, landingMark, landingKind, landingAddress, landingWord, rowWords}
 use Rattle.network.specs.Seen.{seenLanding}
 use Rattle.session.specs.Calls.{Lent, Call, load, start, store, order, cycle, isLoad, number, does, after, ask}
 use Rattle.session.proofs.NumberLaws.{start-passed}
 use Rattle.soundness.proofs.SheetLaws.{sheet-bounds}
 use Rattle.session.proofs.RegisterLaws.{loaded-register, started-other, ordered-other}
-use Rattle.isolation.specs.Sessions.{isCycle, Session, afterLoad}
-use Rattle.isolation.proofs.Reckoning.Stream.{seen, Fine, fine-bounds, after-done, after-refused, session-passes}
+use Rattle.isolation.specs.Sessions.{Session, afterLoad}
+use Rattle.isolation.proofs.Reckoning.Stream.{isCycle, seen, Fine, fine-bounds, after-done, after-refused, session-passes}
 
 -- words with the same landing registers
 landing-same : (w w′ : Lent) (node : ℕ) → ((row : ℕ) → 12 ≤ row → row ≤ 15 → reg (w′ .state) row node ≡ reg (w .state) row node)
@@ -29,7 +29,7 @@ landing-same w w′ node h =
     ) refl
 
 module _ (z : List ℕ) (w : Lent) (f : Fine z w) (node : ℕ) (inside : node < nodes z) where
-  few : node < 80
+  few : node < rowWords
   few = omega (arith, fine-bounds z w f .few-nodes)
 
   -- any call but a cycle, carried out
@@ -37,7 +37,7 @@ module _ (z : List ℕ) (w : Lent) (f : Fine z w) (node : ℕ) (inside : node < 
   does-kept (load y) n c e = absurd (false≢true (sym n))
   does-kept (start circuit readAddress writeAddress count kind) n c e =
       let p = start-passed (w .state) circuit readAddress writeAddress count kind e in
-      let small : circuit < 80 = omega (arith, p .circuit-inside, fine-bounds z w f .few-circuits, ap circuits (f .sheet-is)) in
+      let small : circuit < rowWords = omega (arith, p .circuit-inside, fine-bounds z w f .few-circuits, ap circuits (f .sheet-is)) in
       landing-same w (does (start circuit readAddress writeAddress count kind) w) node
       (λ row low high. started-other (w .state) circuit readAddress writeAddress count kind small row node few (λ a b q. omega arith))
   does-kept (store at address new) n c e = refl

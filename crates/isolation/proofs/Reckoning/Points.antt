@@ -1,28 +1,34 @@
--- The points of a session's list of calls: the events before each cycle, and the reckoning from one cycle to the next.
+-- The points of a session's list of calls: a call counts one cycle at most, so the point after each number of cycles is found; with it the
+-- events before each cycle, and the reckoning from one cycle to the next.
 -- Assumes nothing.
-use Prim.Native.Nat.{ℕ, zero, suc, _<_}
+use Prim.Native.Nat.{ℕ, zero, suc, _+_, _≤_, _<_}
 use mathlib.Core.Bool.{Bool, true, false, false≢true}
 use mathlib.Core.List.{List, [], _∷_, _++_, append-assoc, append-nil}
-use mathlib.Core.Path.{_≡_, refl, sym, _∙_, ap, subst}
+use mathlib.Core.Path.{_≡_, refl, sym, _∙_, ap, ap₂}
 use native.Mathlib.Omega.{arith}
-use lib.ListN.{length, take, getD}
+use native.Mathlib.Decide.{decLt}
+use lib.ListN.{length, take, drop, getD}
 use Rattle.words.specs.Tests.{_=?_}
-use Rattle.words.specs.Words.{pick}
-use Rattle.words.proofs.TestLaws.{yes=}
+use Rattle.words.specs.Words.{pick, leastFrom}
+use Rattle.words.proofs.TestLaws.{is=, yes=}
+use Rattle.words.proofs.WordLaws.{leastFrom-most, leastFrom-least}
 use Rattle.session.specs.Calls.{Lent, Call, load, start, store, order, cycle, number, after, ask}
-use Rattle.isolation.specs.Sessions.{Session, isCycle, run, afterLoad, Event, startDone, storeDone, orderDone, cycleDone, eventOf, events}
-use Rattle.isolation.specs.Calendar.{Calendar, nextCalendar, orderCalendar, calendarEvent, calendarAll}
+use Rattle.isolation.specs.Sessions.{Session, run, afterLoad, standing, Event, startDone, storeDone, orderDone, cycleDone, eventOf, events, eventsBefore}
+use Rattle.isolation.specs.Calendar.{Calendar, calendarAtLoad, nextCalendar, calendarEvent, calendarAll, cyclesDone, pointAfter}
 use Rattle.isolation.specs.Reckoning.{Reckoned, cycleOn, reckonEvent, reckonAll}
-use Rattle.isolation.specs.Demand.{cycleCall, cycleCount}
-use Rattle.isolation.proofs.Reckoning.Stream.{is-cycle}
-use Rattle.isolation.proofs.Reckoning.Dates.{never-refused}
+use Rattle.isolation.specs.Demand.{CycleAt}
+use Rattle.isolation.proofs.Reckoning.Dates.{next-cycles}
+
+-- the events of a session
+abbrev pub eventsOf : Session → List Event
+eventsOf l = events (l .calls) (afterLoad l)
 
 -- the events before cycle t of a list
 abbrev pub upTo : List Event → ℕ → List Event
 upTo [] t = []
 upTo (cycleDone ∷ es) zero = []
 upTo (cycleDone ∷ es) (suc t) = cycleDone ∷ upTo es t
-upTo (startDone circuit readAddress writeAddress count kind ∷ es) t = startDone circuit readAddress writeAddress count kind ∷ upTo es t
+upTo (startDone circuit transfer ∷ es) t = startDone circuit transfer ∷ upTo es t
 upTo (storeDone node address new ∷ es) t = storeDone node address new ∷ upTo es t
 upTo (orderDone schedule period ∷ es) t = orderDone schedule period ∷ upTo es t
 
@@ -31,9 +37,8 @@ abbrev pub stretch : List Event → ℕ → List Event
 stretch [] t = []
 stretch (cycleDone ∷ es) zero = []
 stretch (cycleDone ∷ es) (suc t) = stretch es t
-stretch (startDone circuit readAddress writeAddress count kind ∷ es) zero =
-    startDone circuit readAddress writeAddress count kind ∷ stretch es zero
-stretch (startDone circuit readAddress writeAddress count kind ∷ es) (suc t) = stretch es (suc t)
+stretch (startDone circuit transfer ∷ es) zero = startDone circuit transfer ∷ stretch es zero
+stretch (startDone circuit transfer ∷ es) (suc t) = stretch es (suc t)
 stretch (storeDone node address new ∷ es) zero = storeDone node address new ∷ stretch es zero
 stretch (storeDone node address new ∷ es) (suc t) = stretch es (suc t)
 stretch (orderDone schedule period ∷ es) zero = orderDone schedule period ∷ stretch es zero
@@ -43,151 +48,117 @@ stretch (orderDone schedule period ∷ es) (suc t) = stretch es (suc t)
 abbrev pub cyclesIn : List Event → ℕ
 cyclesIn [] = 0
 cyclesIn (cycleDone ∷ es) = suc (cyclesIn es)
-cyclesIn (startDone circuit readAddress writeAddress count kind ∷ es) = cyclesIn es
+cyclesIn (startDone circuit transfer ∷ es) = cyclesIn es
 cyclesIn (storeDone node address new ∷ es) = cyclesIn es
 cyclesIn (orderDone schedule period ∷ es) = cyclesIn es
 
--- a claim about every call: about a cycle, and about every other
-by-call : (P : Call → Type 0) → P cycle → ((x : Call) → isCycle x ≡ false → P x) → (x : Call) → P x
-by-call P p q (load z) = q (load z) refl
-by-call P p q (start circuit readAddress writeAddress count kind) = q (start circuit readAddress writeAddress count kind) refl
-by-call P p q (store node address new) = q (store node address new) refl
-by-call P p q (ask question) = q (ask question) refl
-by-call P p q (order schedule period) = q (order schedule period) refl
-by-call P p q cycle = p
+-- the calendar counts them
+pub calendar-cycles : (z : List ℕ) (es : List Event) (k : Calendar) → calendarAll z es k .cycles ≡ k .cycles + cyclesIn es
+calendar-cycles z [] k = omega arith
+calendar-cycles z (cycleDone ∷ es) k = omega (arith, calendar-cycles z es (nextCalendar z k), next-cycles z k)
+calendar-cycles z (startDone circuit transfer ∷ es) k = calendar-cycles z es k
+calendar-cycles z (storeDone node address new ∷ es) k = calendar-cycles z es k
+calendar-cycles z (orderDone schedule at ∷ es) k = calendar-cycles z es (calendarEvent z (orderDone schedule at) k)
 
--- every cycle among the calls is carried out where it stands
-abbrev pub Carried : List Call → Lent → Type 0
-Carried [] w = Unit {0}
-Carried (x ∷ calls) w = (isCycle x ≡ true → number x w ≡ 0) × Carried calls (after x w)
+cycles-append : (es fs : List Event) → cyclesIn (es ++ fs) ≡ cyclesIn es + cyclesIn fs
+cycles-append [] fs = omega arith
+cycles-append (cycleDone ∷ es) fs = omega (arith, cycles-append es fs)
+cycles-append (startDone circuit transfer ∷ es) fs = cycles-append es fs
+cycles-append (storeDone node address new ∷ es) fs = cycles-append es fs
+cycles-append (orderDone schedule at ∷ es) fs = cycles-append es fs
 
--- as demand 3 says it
-pub carried : (calls : List Call) (w : Lent)
-    → ((k : ℕ) → k < length calls → isCycle (getD calls k cycle) ≡ true → number cycle (run (take k calls) w) ≡ 0)
-    → Carried calls w
-carried [] w h = tt
-carried (x ∷ calls) w h = (
-  by-call (λ y. (isCycle y ≡ true → number cycle w ≡ 0) → isCycle y ≡ true → number y w ≡ 0) (λ f e. f e)
-      (λ y no f e. absurd (false≢true (sym no ∙ e))) x (h 0 (omega arith)),
-  carried calls (after x w) (λ k l e. h (suc k) (omega arith) e),
-)
+-- the events before a cycle
+up-to-cycle : (es fs : List Event) → upTo (es ++ (cycleDone ∷ fs)) (cyclesIn es) ≡ es
+up-to-cycle [] fs = refl
+up-to-cycle (cycleDone ∷ es) fs = ap (λ (r : List Event). cycleDone ∷ r) (up-to-cycle es fs)
+up-to-cycle (startDone circuit transfer ∷ es) fs = ap (λ (r : List Event). startDone circuit transfer ∷ r) (up-to-cycle es fs)
+up-to-cycle (storeDone node address new ∷ es) fs = ap (λ (r : List Event). storeDone node address new ∷ r) (up-to-cycle es fs)
+up-to-cycle (orderDone schedule at ∷ es) fs = ap (λ (r : List Event). orderDone schedule at ∷ r) (up-to-cycle es fs)
 
--- a call that is no cycle does not move the points
-skip-call : (x : Call) (calls : List Call) (t : ℕ) → isCycle x ≡ false → cycleCall (x ∷ calls) t ≡ suc (cycleCall calls t)
-skip-call x calls zero e = ap (λ (b : Bool). pick b 0 (suc (cycleCall calls zero))) e
-skip-call x calls (suc t) e = ap (λ (b : Bool). suc (cycleCall calls (pick b t (suc t)))) e
+-- the events of one call: at most one cycle, and one where it is a cycle that is carried out
+own-most : (x : Call) (b : Bool) → cyclesIn (pick b (eventOf x) []) ≤ 1
+own-most x false = omega arith
+own-most (load z) true = omega arith
+own-most (start circuit readAddress writeAddress count kind) true = omega arith
+own-most (store node address new) true = omega arith
+own-most (ask question) true = omega arith
+own-most (order schedule period) true = omega arith
+own-most cycle true = omega arith
 
-skip-count : (x : Call) (calls : List Call) → isCycle x ≡ false → cycleCount (x ∷ calls) ≡ cycleCount calls
-skip-count x calls e = ap (λ (b : Bool). pick b (suc (cycleCount calls)) (cycleCount calls)) e
+own-cycle : (x : Call) (b : Bool) → cyclesIn (pick b (eventOf x) []) ≡ 1 → (x ≡ cycle) × (b ≡ true)
+own-cycle x false e = absurd (let z : ⊥ = omega arith in z)
+own-cycle (load z) true e = absurd (let z : ⊥ = omega arith in z)
+own-cycle (start circuit readAddress writeAddress count kind) true e = absurd (let z : ⊥ = omega arith in z)
+own-cycle (store node address new) true e = absurd (let z : ⊥ = omega arith in z)
+own-cycle (ask question) true e = absurd (let z : ⊥ = omega arith in z)
+own-cycle (order schedule period) true e = absurd (let z : ⊥ = omega arith in z)
+own-cycle cycle true e = (refl, refl)
 
-skip-upTo : (x : Call) (b : Bool) (es : List Event) (t : ℕ) → isCycle x ≡ false
-    → upTo (pick b (eventOf x) [] ++ es) t ≡ pick b (eventOf x) [] ++ upTo es t
-skip-upTo x false es t e = refl
-skip-upTo (load z) true es t e = refl
-skip-upTo (start circuit readAddress writeAddress count kind) true es t e = refl
-skip-upTo (store node address new) true es t e = refl
-skip-upTo (ask question) true es t e = refl
-skip-upTo (order schedule period) true es t e = refl
-skip-upTo cycle true es t e = absurd (false≢true (sym e))
-
-skip-cyclesIn : (x : Call) (b : Bool) (es : List Event) → isCycle x ≡ false → cyclesIn (pick b (eventOf x) [] ++ es) ≡ cyclesIn es
-skip-cyclesIn x false es e = refl
-skip-cyclesIn (load z) true es e = refl
-skip-cyclesIn (start circuit readAddress writeAddress count kind) true es e = refl
-skip-cyclesIn (store node address new) true es e = refl
-skip-cyclesIn (ask question) true es e = refl
-skip-cyclesIn (order schedule period) true es e = refl
-skip-cyclesIn cycle true es e = absurd (false≢true (sym e))
-
--- the events before the call that is cycle t, and through it; the events have that cycle
-pub record Split (calls : List Call) (w : Lent) (t : ℕ) : Type 0 where
-  pub before : events (take (cycleCall calls t) calls) w ≡ upTo (events calls w) t
-  pub through : events (take (suc (cycleCall calls t)) calls) w ≡ upTo (events calls w) t ++ (cycleDone ∷ [])
-  pub many : t < cyclesIn (events calls w)
-  pub inside : cycleCall calls t < length calls
-  pub is-cycle : isCycle (getD calls (cycleCall calls t) cycle) ≡ true
-
-split-skip : (x : Call) (calls : List Call) (w : Lent) (t : ℕ) → isCycle x ≡ false → Split calls (after x w) t → Split (x ∷ calls) w t
-split-skip x calls w t e s =
+-- the events through one call more, and through a cycle that is carried out
+pub events-more : (calls : List Call) (w : Lent) (k : ℕ) → k < length calls
+    → events (take (suc k) calls) w
+    ≡ events (take k calls) w ++ pick (number (getD calls k cycle) (run (take k calls) w) =? 0) (eventOf (getD calls k cycle)) []
+events-more [] w k l = absurd (let z : ⊥ = omega arith in z)
+events-more (x ∷ calls) w zero l = append-nil (pick (number x w =? 0) (eventOf x) [])
+events-more (x ∷ calls) w (suc k) l =
     let own : List Event = pick (number x w =? 0) (eventOf x) [] in
-    let rest : List Event = events calls (after x w) in
-    let k = skip-call x calls t e in
-    record {
-      before = ap (λ (k : ℕ). events (take k (x ∷ calls)) w) k ∙ ap (λ (r : List Event). own ++ r) (s .before)
-          ∙ sym (skip-upTo x (number x w =? 0) rest t e);
-      through = ap (λ (k : ℕ). events (take (suc k) (x ∷ calls)) w) k ∙ ap (λ (r : List Event). own ++ r) (s .through)
-          ∙ sym (append-assoc own (upTo rest t) (cycleDone ∷ []))
-          ∙ ap (λ (r : List Event). r ++ (cycleDone ∷ [])) (sym (skip-upTo x (number x w =? 0) rest t e));
-      many = omega (arith, s .many, skip-cyclesIn x (number x w =? 0) rest e);
-      inside = omega (arith, s .inside, k);
-      is-cycle = ap (λ (k : ℕ). isCycle (getD (x ∷ calls) k cycle)) k ∙ s .is-cycle;
-    }
+    ap (λ (r : List Event). own ++ r) (events-more calls (after x w) k (omega arith))
+    ∙ sym (append-assoc own (events (take k calls) (after x w)) _)
 
--- at the cycle itself
-own-cycle : (w : Lent) → number cycle w ≡ 0 → pick (number cycle w =? 0) (cycleDone ∷ []) [] ≡ cycleDone ∷ []
-own-cycle w e = ap (λ (b : Bool). pick b (cycleDone ∷ []) []) (yes= e)
+pub events-cycle : (calls : List Call) (w : Lent) (k : ℕ) → k < length calls → getD calls k cycle ≡ cycle
+    → number cycle (run (take k calls) w) ≡ 0 → events (take (suc k) calls) w ≡ events (take k calls) w ++ (cycleDone ∷ [])
+events-cycle calls w k l c e =
+    events-more calls w k l
+    ∙ ap (λ (x : Call). events (take k calls) w ++ pick (number x (run (take k calls) w) =? 0) (eventOf x) []) c
+    ∙ ap (λ (b : Bool). events (take k calls) w ++ pick b (cycleDone ∷ []) []) (yes= e)
 
-split-here : (calls : List Call) (w : Lent) → number cycle w ≡ 0 → Split (cycle ∷ calls) w 0
-split-here calls w e =
-    let rest : List Event = events calls (after cycle w) in
-    let own = own-cycle w e in
-    record {
-      before = sym (ap (λ (r : List Event). upTo (r ++ rest) 0) own);
-      through = ap (λ (r : List Event). r ++ []) own ∙ sym (ap (λ (r : List Event). upTo (r ++ rest) 0 ++ (cycleDone ∷ [])) own);
-      many = subst (λ (r : List Event). 0 < cyclesIn (r ++ rest)) (sym own) (omega arith);
-      inside = omega arith;
-      is-cycle = refl;
-    }
+-- the events of the first calls, and of the others
+events-split : (calls : List Call) (w : Lent) (k : ℕ)
+    → events calls w ≡ events (take k calls) w ++ events (drop k calls) (run (take k calls) w)
+events-split calls w zero = refl
+events-split [] w (suc k) = refl
+events-split (x ∷ calls) w (suc k) =
+    let own : List Event = pick (number x w =? 0) (eventOf x) [] in
+    ap (λ (r : List Event). own ++ r) (events-split calls (after x w) k)
+    ∙ sym (append-assoc own (events (take k calls) (after x w)) _)
 
-split-later : (calls : List Call) (w : Lent) (t : ℕ) → number cycle w ≡ 0 → Split calls (after cycle w) t → Split (cycle ∷ calls) w (suc t)
-split-later calls w t e s =
-    let rest : List Event = events calls (after cycle w) in
-    let own = own-cycle w e in
-    record {
-      before = ap (λ (r : List Event). r ++ events (take (cycleCall calls t) calls) (after cycle w)) own
-          ∙ ap (λ (r : List Event). cycleDone ∷ r) (s .before) ∙ sym (ap (λ (r : List Event). upTo (r ++ rest) (suc t)) own);
-      through = ap (λ (r : List Event). r ++ events (take (suc (cycleCall calls t)) calls) (after cycle w)) own
-          ∙ ap (λ (r : List Event). cycleDone ∷ r) (s .through)
-          ∙ sym (ap (λ (r : List Event). upTo (r ++ rest) (suc t) ++ (cycleDone ∷ [])) own);
-      many = subst (λ (r : List Event). suc t < cyclesIn (r ++ rest)) (sym own) (omega (arith, s .many));
-      inside = omega (arith, s .inside);
-      is-cycle = s .is-cycle;
-    }
+-- where a count rises by at most one a step, every number up to its last is reached
+least-reached : (f : ℕ → ℕ) (n last : ℕ) → ((j : ℕ) → j < last → f (suc j) ≤ f j + 1) → (m k : ℕ) → k + m ≡ last → f k ≤ n → n ≤ f last
+    → f (leastFrom m k (λ j. f j =? n)) ≡ n
+unfolding leastFrom
+least-reached f n last h zero k e low high = let same : k ≡ last = omega arith in omega (arith, ap f same)
+least-reached f n last h (suc m) k e low high = go (f k =? n) refl (least-reached f n last h m (k + 1))
+  where
+    go : (b : Bool) → (f k =? n) ≡ b
+        → (k + 1 + m ≡ last → f (k + 1) ≤ n → n ≤ f last → f (leastFrom m (k + 1) (λ j. f j =? n)) ≡ n)
+        → f (leastFrom (suc m) k (λ j. f j =? n)) ≡ n
+    go true q r = rw (q, leastFrom) (is= _ _ q)
+    go false q r =
+        let other : f k ≡ n → ⊥ = λ p. false≢true (sym q ∙ yes= p) in
+        let next : k + 1 ≡ suc k = omega arith in
+        rw (q, leastFrom) (r (omega arith) (omega (arith, other, h k (omega arith), ap f next)) high)
 
-split-cycle : (calls : List Call) (w : Lent) (t : ℕ) → number cycle w ≡ 0 → t < suc (cycleCount calls)
-    → ((t : ℕ) → t < cycleCount calls → Split calls (after cycle w) t) → Split (cycle ∷ calls) w t
-split-cycle calls w zero e l s = split-here calls w e
-split-cycle calls w (suc t) e l s = split-later calls w t e (s t (omega arith))
-
-split-more : (x : Call) (calls : List Call) (w : Lent) (t : ℕ) → (isCycle x ≡ true → number x w ≡ 0) → t < cycleCount (x ∷ calls)
-    → ((t : ℕ) → t < cycleCount calls → Split calls (after x w) t) → Split (x ∷ calls) w t
-split-more x calls w t e l s =
-    by-call (λ y. (isCycle y ≡ true → number y w ≡ 0) → t < cycleCount (y ∷ calls)
-    → ((t : ℕ) → t < cycleCount calls → Split calls (after y w) t) → Split (y ∷ calls) w t)
-    (λ e l s. split-cycle calls w t (e refl) l s)
-    (λ y no e l s. split-skip y calls w t no (s t (omega (arith, l, skip-count y calls no)))) x e l s
-
-pub split : (calls : List Call) (w : Lent) (t : ℕ) → Carried calls w → t < cycleCount calls → Split calls w t
-split [] w t c l = absurd (let z : ⊥ = omega arith in z)
-split (x ∷ calls) w t c l = split-more x calls w t (c .0) l (λ t l. split calls (after x w) t (c .1) l)
+take-all : {A : Type 0} (xs : List A) → take (length xs) xs ≡ xs
+take-all [] = refl
+take-all {A} (x ∷ xs) = ap {B = List A} (λ r. x ∷ r) (take-all xs)
 
 module _ (z : List ℕ) where
   -- the calendar before cycle 0, and from a cycle to the next: the cycle, then a stretch
   pub calendar-first : (es : List Event) (k : Calendar) → calendarAll z (upTo es 0) k ≡ calendarAll z (stretch es 0) k
   calendar-first [] k = refl
   calendar-first (cycleDone ∷ es) k = refl
-  calendar-first (startDone c readAddress writeAddress count kind ∷ es) k = calendar-first es k
+  calendar-first (startDone c transfer ∷ es) k = calendar-first es k
   calendar-first (storeDone node address new ∷ es) k = calendar-first es k
-  calendar-first (orderDone schedule at ∷ es) k = calendar-first es (orderCalendar schedule at k)
+  calendar-first (orderDone schedule at ∷ es) k = calendar-first es (calendarEvent z (orderDone schedule at) k)
 
   pub calendar-next : (es : List Event) (t : ℕ) (k : Calendar) → t < cyclesIn es
       → calendarAll z (upTo es (suc t)) k ≡ calendarAll z (stretch es (suc t)) (nextCalendar z (calendarAll z (upTo es t) k))
   calendar-next [] t k l = absurd (let z : ⊥ = omega arith in z)
   calendar-next (cycleDone ∷ es) zero k l = calendar-first es (nextCalendar z k)
   calendar-next (cycleDone ∷ es) (suc t) k l = calendar-next es t (nextCalendar z k) (omega arith)
-  calendar-next (startDone c readAddress writeAddress count kind ∷ es) t k l = calendar-next es t k l
+  calendar-next (startDone c transfer ∷ es) t k l = calendar-next es t k l
   calendar-next (storeDone node address new ∷ es) t k l = calendar-next es t k l
-  calendar-next (orderDone schedule at ∷ es) t k l = calendar-next es t (orderCalendar schedule at k) l
+  calendar-next (orderDone schedule at ∷ es) t k l = calendar-next es t (calendarEvent z (orderDone schedule at) k) l
 
 module _ (z : List ℕ) (circuit : ℕ) where
   -- the reckoning over a list and one more
@@ -201,10 +172,9 @@ module _ (z : List ℕ) (circuit : ℕ) where
       → reckonAll z circuit (upTo es 0) k r ≡ reckonAll z circuit (stretch es 0) k r
   reckon-first [] k r = refl
   reckon-first (cycleDone ∷ es) k r = refl
-  reckon-first (startDone c readAddress writeAddress count kind ∷ es) k r =
-      reckon-first es k (reckonEvent z circuit (startDone c readAddress writeAddress count kind) k r)
+  reckon-first (startDone c transfer ∷ es) k r = reckon-first es k (reckonEvent z circuit (startDone c transfer) k r)
   reckon-first (storeDone node address new ∷ es) k r = reckon-first es k (reckonEvent z circuit (storeDone node address new) k r)
-  reckon-first (orderDone schedule at ∷ es) k r = reckon-first es (orderCalendar schedule at k) r
+  reckon-first (orderDone schedule at ∷ es) k r = reckon-first es (calendarEvent z (orderDone schedule at) k) r
 
   -- from a cycle to the next: the cycle, then a stretch
   pub reckon-next : (es : List Event) (t : ℕ) (k : Calendar) (r : Reckoned) → t < cyclesIn es
@@ -214,29 +184,92 @@ module _ (z : List ℕ) (circuit : ℕ) where
   reckon-next [] t k r l = absurd (let z : ⊥ = omega arith in z)
   reckon-next (cycleDone ∷ es) zero k r l = reckon-first es (nextCalendar z k) (cycleOn z circuit k r)
   reckon-next (cycleDone ∷ es) (suc t) k r l = reckon-next es t (nextCalendar z k) (cycleOn z circuit k r) (omega arith)
-  reckon-next (startDone c readAddress writeAddress count kind ∷ es) t k r l =
-      reckon-next es t k (reckonEvent z circuit (startDone c readAddress writeAddress count kind) k r) l
+  reckon-next (startDone c transfer ∷ es) t k r l =
+      reckon-next es t k (reckonEvent z circuit (startDone c transfer) k r) l
   reckon-next (storeDone node address new ∷ es) t k r l = reckon-next es t k (reckonEvent z circuit (storeDone node address new) k r) l
-  reckon-next (orderDone schedule at ∷ es) t k r l = reckon-next es t (orderCalendar schedule at k) r l
+  reckon-next (orderDone schedule at ∷ es) t k r l = reckon-next es t (calendarEvent z (orderDone schedule at) k) r l
 
--- the events through one call more, and through a cycle that is carried out
-pub events-more : (calls : List Call) (w : Lent) (k : ℕ) → k < length calls
-    → events (take (suc k) calls) w
-    ≡ events (take k calls) w ++ pick (number (getD calls k cycle) (run (take k calls) w) =? 0) (eventOf (getD calls k cycle)) []
-events-more [] w k l = absurd (let z : ⊥ = omega arith in z)
-events-more (x ∷ calls) w zero l = append-nil (pick (number x w =? 0) (eventOf x) [])
-events-more (x ∷ calls) w (suc k) l =
-    let own : List Event = pick (number x w =? 0) (eventOf x) [] in
-    ap (λ (r : List Event). own ++ r) (events-more calls (after x w) k (omega arith))
-    ∙ sym (append-assoc own (events (take k calls) (after x w)) _)
+-- cycle t of a session: the call that it is, the point directly after it, and the events before it and through it
+pub record Reached (l : Session) (t : ℕ) : Type 0 where
+  pub call : ℕ
+  pub point : pointAfter l (suc t) ≡ suc call
+  pub is-cycle : CycleAt l call
+  pub before : eventsBefore l call ≡ upTo (eventsOf l) t
+  pub through : eventsBefore l (suc call) ≡ upTo (eventsOf l) t ++ (cycleDone ∷ [])
 
-pub events-cycle : (calls : List Call) (w : Lent) (k : ℕ) → k < length calls → isCycle (getD calls k cycle) ≡ true
-    → number cycle (run (take k calls) w) ≡ 0 → events (take (suc k) calls) w ≡ events (take k calls) w ++ (cycleDone ∷ [])
-events-cycle calls w k l c e =
-    events-more calls w k l
-    ∙ ap (λ (x : Call). events (take k calls) w ++ pick (number x (run (take k calls) w) =? 0) (eventOf x) []) (is-cycle (getD calls k cycle) c)
-    ∙ ap (λ (r : List Event). events (take k calls) w ++ r) (own-cycle (run (take k calls) w) e)
+module _ (l : Session) where
+  pub all-events : eventsBefore l (length (l .calls)) ≡ eventsOf l
+  all-events = ap (λ (calls : List Call). events calls (afterLoad l)) (take-all (l .calls))
 
--- a session's cycles are carried out
-pub carried-session : (l : Session) → Carried (l .calls) (afterLoad l)
-carried-session l = carried (l .calls) (afterLoad l) (λ k i e. never-refused l k (i, e))
+  pub cycles-counted : (k : ℕ) → cyclesDone l k ≡ cyclesIn (eventsBefore l k)
+  cycles-counted k = omega (arith, calendar-cycles (l .sheet) (eventsBefore l k) calendarAtLoad)
+
+  pub all-counted : cyclesDone l (length (l .calls)) ≡ cyclesIn (eventsOf l)
+  all-counted = cycles-counted (length (l .calls)) ∙ ap cyclesIn all-events
+
+  -- what call k tells
+  abbrev own : ℕ → List Event
+  own k = pick (number (getD (l .calls) k cycle) (standing l k) =? 0) (eventOf (getD (l .calls) k cycle)) []
+
+  counted-more : (k : ℕ) → k < length (l .calls) → cyclesDone l (suc k) ≡ cyclesDone l k + cyclesIn (own k)
+  counted-more k i =
+      cycles-counted (suc k) ∙ ap cyclesIn (events-more (l .calls) (afterLoad l) k i) ∙ cycles-append (eventsBefore l k) (own k)
+      ∙ ap (λ (n : ℕ). n + cyclesIn (own k)) (sym (cycles-counted k))
+
+  own-at-most : (k : ℕ) → cyclesIn (own k) ≤ 1
+  own-at-most k = own-most (getD (l .calls) k cycle) (number (getD (l .calls) k cycle) (standing l k) =? 0)
+
+  -- directly after n cycles, n are counted
+  pub point-counted : (n : ℕ) → n ≤ cyclesDone l (length (l .calls)) → cyclesDone l (pointAfter l n) ≡ n
+  point-counted n i =
+      least-reached (cyclesDone l) n (length (l .calls)) (λ j b. omega (arith, counted-more j b, own-at-most j)) (length (l .calls)) 0
+      (omega arith) (omega arith) i
+
+  pub point-inside : (n : ℕ) → pointAfter l n ≤ length (l .calls)
+  point-inside n = omega (arith, leastFrom-most (λ k. cyclesDone l k =? n) (length (l .calls)) 0)
+
+  -- after no cycle that is the load
+  pub point-first : pointAfter l 0 ≡ 0
+  point-first = go (decLt 0 (length (l .calls)))
+    where
+      go : Dec (0 < length (l .calls)) → pointAfter l 0 ≡ 0
+      go (yes i) =
+          omega (arith, leastFrom-least (λ k. cyclesDone l k =? 0) (length (l .calls)) 0 0 (omega arith) (omega (arith, i)) (yes= refl))
+      go (no i) = omega (arith, i, point-inside 0)
+
+  -- a call that is carried out as cycle t, with the point after it
+  reached-at : (t k : ℕ) → t < cyclesDone l (length (l .calls)) → pointAfter l (suc t) ≡ suc k → Reached l t
+  reached-at t k i p =
+      let inside : k < length (l .calls) = omega (arith, p, point-inside (suc t)) in
+      let more = counted-more k inside in
+      let total : cyclesDone l (suc k) ≡ suc t = ap (cyclesDone l) (sym p) ∙ point-counted (suc t) (omega arith) in
+      let earlier : cyclesDone l k ≡ suc t → ⊥ = λ e.
+      let least = leastFrom-least (λ k. cyclesDone l k =? suc t) (length (l .calls)) 0 k (omega arith) (omega (arith, inside)) (yes= e) in
+      omega (arith, p, least) in
+      let one : cyclesIn (own k) ≡ 1 = omega (arith, more, total, earlier, own-at-most k) in
+      let counted : cyclesIn (eventsBefore l k) ≡ t = omega (arith, more, total, one, cycles-counted k) in
+      let told = own-cycle (getD (l .calls) k cycle) (number (getD (l .calls) k cycle) (standing l k) =? 0) one in
+      let done : number cycle (standing l k) ≡ 0 = is= _ _ (ap (λ (x : Call). number x (standing l k) =? 0) (sym (told .0)) ∙ told .1) in
+      let next = events-cycle (l .calls) (afterLoad l) k inside (told .0) done in
+      let rest : List Event = events (drop (suc k) (l .calls)) (standing l (suc k)) in
+      let whole : eventsOf l ≡ eventsBefore l k ++ (cycleDone ∷ rest) =
+      events-split (l .calls) (afterLoad l) (suc k) ∙ ap (λ (r : List Event). r ++ rest) next
+      ∙ append-assoc (eventsBefore l k) (cycleDone ∷ []) rest in
+      let before : eventsBefore l k ≡ upTo (eventsOf l) t =
+      sym (ap₂ upTo whole (sym counted) ∙ up-to-cycle (eventsBefore l k) rest) in
+      record {
+        call = k;
+        point = p;
+        is-cycle = (inside, told .0, done);
+        before = before;
+        through = next ∙ ap (λ (r : List Event). r ++ (cycleDone ∷ [])) before;
+      }
+
+  pub reached : (t : ℕ) → t < cyclesDone l (length (l .calls)) → Reached l t
+  reached t i = go (pointAfter l (suc t)) refl
+    where
+      go : (p : ℕ) → pointAfter l (suc t) ≡ p → Reached l t
+      go zero e =
+          let none : cyclesDone l 0 ≡ suc t = ap (cyclesDone l) (sym e) ∙ point-counted (suc t) (omega arith) in
+          absurd (omega (arith, none))
+      go (suc k) e = reached-at t k i e

@@ -12,12 +12,13 @@ use lib.Seq.{getD-set-same, getD-set-other}
 use Rattle.words.specs.Tests.{_and_, _≤?_, _=?_}
 use Rattle.words.specs.Words.{pick, word}
 use Rattle.words.proofs.TestLaws.{yes=, no=, yes≤, no≤, and-both, and-no, and-no-right}
+use Rattle.words.proofs.WordLaws.{row-and-place}
 use Rattle.sheet.specs.Sheet.{memoryWords, circuits, nodes, circuitAt}
 use Rattle.sheet.specs.Slots.{sourceOf, destinationOf}
 use Rattle.sheet.specs.Rules.{verdict}
 use Rattle.network.specs.View.{View, Sender}
 use Rattle.network.specs.Cycle.{tick, reopens, storedBy}
-use Rattle.network.specs.Registers.{reg, room, leftRow, readRow, writeRow, kindRow, toGoRow}
+use Rattle.network.specs.Registers.{reg, room, leftRow, readRow, writeRow, kindRow, toGoRow, rowWords}
 use Rattle.network.specs.Seen.{seenSender}
 use Rattle.network.proofs.RowLaws.{sender-same}
 use Rattle.session.specs.Calls.{Lent, Call, load, start, store, order, cycle, isLoad, number, does, after, started, ordered, stored, ask}
@@ -25,7 +26,7 @@ use Rattle.session.proofs.NumberLaws.{StartPassed, start-passed, place-passed}
 use Rattle.sheet.specs.Inner.Passed.{CircuitSmall}
 use Rattle.soundness.proofs.SheetLaws.{SheetBounds, sheet-bounds, circuit-bounds}
 use Rattle.session.proofs.RegisterLaws.{started-other, started-sender, ordered-other}
-use Rattle.isolation.specs.Sessions.{isCycle, Event, startDone, cycleDone, eventOf, events, run}
+use Rattle.isolation.specs.Sessions.{Transfer, Event, startDone, cycleDone, eventOf, events, run}
 use Rattle.isolation.specs.Calendar.{Calendar, nextCalendar, calendarEvent, calendarAll}
 use Rattle.isolation.specs.Reckoning.{Item, none, Reckoned, reckonedLanding, lastReckoned, cycleOn, startOn, storeOn, reckonEvent, reckonAll, wordAfter, flightCycles}
 use Rattle.isolation.specs.Demand.{inRegion}
@@ -35,37 +36,31 @@ use Rattle.isolation.proofs.Flights.Send.{none-reopens}
 use Rattle.isolation.proofs.Flights.Deliver.{leavingNow}
 use Rattle.isolation.proofs.Reckoning.Dates.{next-cycles, cycles-kept, calendar-append, Point, machine-here, cycle-done, cycle-point, point-next}
 use Rattle.isolation.proofs.Reckoning.Landed.{landing-kept}
-use Rattle.isolation.proofs.Reckoning.SenderFollowed.{Sends, Followed, sends-cycle, sends-start, sends-same, sends-store, itemOf, leaving-is, leaving-before}
+use Rattle.isolation.proofs.Reckoning.SenderFollowed.{Sends, Follows, sends-cycle, sends-start, sends-same, sends-store, itemOf, leaving-is, leaving-before}
 use Rattle.isolation.proofs.Reckoning.Regions.{in-high, in-region, itemIn, stored-inside, sentBefore, lands-inside, read-kept}
-use Rattle.isolation.proofs.Reckoning.Stream.{seen, Fine, fine-parts, fine-bounds, after-done, after-refused, is-cycle, cycle-seen, fine-cycle}
+use Rattle.isolation.proofs.Reckoning.Stream.{isCycle, seen, Fine, fine-parts, fine-bounds, after-done, after-refused, is-cycle, cycle-seen, fine-cycle}
 
 -- the memory word at a node's address
 abbrev pub wordAt : List ℕ → List ℕ → ℕ → ℕ → ℕ
 wordAt z memory node address = word memory (node * memoryWords z + address)
 
+-- the transfer that a start gives
+abbrev transferOf : ℕ → ℕ → ℕ → ℕ → Transfer
+transferOf readAddress writeAddress count kind =
+    record { readAddress = readAddress; writeAddress = writeAddress; count = count; kind = kind }
+
 -- after n cycles a circuit's reckoning shows the lent words: its sender, the words of its regions
 pub record Now (z : List ℕ) (circuit : ℕ) (w : Lent) (n : ℕ) (r : Reckoned) : Type 0 where
   pub sending : Sends n r (seen w .sender circuit)
   pub reads : (address : ℕ) → inRegion (circuitAt z circuit .read) address ≡ true
-      → r .readWords address ≡ wordAt z (w .memory) (sourceOf z circuit) address
+      → r .words .read address ≡ wordAt z (w .memory) (sourceOf z circuit) address
   pub receives : (address : ℕ) → inRegion (circuitAt z circuit .receive) address ≡ true
-      → r .receiveWords address ≡ wordAt z (w .memory) (destinationOf z circuit) address
+      → r .words .receive address ≡ wordAt z (w .memory) (destinationOf z circuit) address
 
 -- the memory in the words, read as the machine's
 pub seen-memory : (z : List ℕ) (w : Lent) → Fine z w → (node address : ℕ)
     → seen w .memory node address ≡ wordAt z (w .memory) node address
 seen-memory z w f node address = ap (λ (y : List ℕ). word (w .memory) (node * memoryWords y + address)) (f .sheet-is)
-
--- two places of the memories
-place-node : (room a b x y : ℕ) → x < room → y < room → a * room + x ≡ b * room + y → (a ≡ b) × (x ≡ y)
-place-node room a b x y p q e = go (decLt a b) (decLt b a)
-  where
-    go : Dec (a < b) → Dec (b < a) → (a ≡ b) × (x ≡ y)
-    go (yes l) d = let m : suc a * room ≤ b * room = mul-le-mul l (le-refl room) in absurd (omega arith)
-    go (no n) (yes l) = let m : suc b * room ≤ a * room = mul-le-mul l (le-refl room) in absurd (omega arith)
-    go (no n) (no k) =
-        let same : a ≡ b = omega (arith, n, k) in
-        (same, omega (arith, ap (λ (t : ℕ). t * room) same))
 
 -- the words of a region's node after a store there or elsewhere
 store-word : (m : List ℕ) (room node address new at x : ℕ) → address < room → x < room → node * room + address < length m
@@ -75,7 +70,7 @@ store-word m room node address new at x p q l = go (ℕ-discrete (node * room + 
     go : Dec (node * room + address ≡ at * room + x)
         → pick (node =? at and x =? address) new (word m (at * room + x)) ≡ word (set m (node * room + address) new) (at * room + x)
     go (yes e) =
-        let both = place-node room node at address x p q e in
+        let both = row-and-place room node at address x p q e in
         rw (and-both (yes= (both .0)) (yes= (sym (both .1))))
         (sym (ap (λ (k : ℕ). word (set m (node * room + address) new) k) (sym e) ∙ getD-set-same m (node * room + address) new 0 l))
     go (no ne) =
@@ -97,17 +92,17 @@ module _ (z : List ℕ) (circuit : ℕ) (inside : circuit < circuits z) where
     -- a start, on this circuit or another
     start-now : (c readAddress writeAddress count kind : ℕ) → number (start c readAddress writeAddress count kind) w ≡ 0
         → Now z circuit (does (start c readAddress writeAddress count kind) w) n
-        (reckonEvent z circuit (startDone c readAddress writeAddress count kind) k r)
+        (reckonEvent z circuit (startDone c (transferOf readAddress writeAddress count kind)) k r)
     start-now c readAddress writeAddress count kind e = go (ℕ-discrete c circuit)
       where
         p : StartPassed s c readAddress writeAddress count kind
         p = start-passed s c readAddress writeAddress count kind e
 
-        few : c < 80
+        few : c < rowWords
         few = omega (arith, p .circuit-inside, bounds .few-circuits, ap circuits (f .sheet-is))
 
         go : Dec (c ≡ circuit) → Now z circuit (does (start c readAddress writeAddress count kind) w) n
-            (pick (c =? circuit) (startOn readAddress writeAddress count kind r) r)
+            (pick (c =? circuit) (startOn (transferOf readAddress writeAddress count kind) r) r)
         go (yes q) =
             let sender : seenSender (started s c readAddress writeAddress count kind) circuit
             ≡ record { left = count; readAddress = readAddress; writeAddress = writeAddress; kind = kind; toGo = reg s toGoRow circuit } =
@@ -116,10 +111,10 @@ module _ (z : List ℕ) (circuit : ℕ) (inside : circuit < circuits z) where
             ≡ record { left = count; readAddress = readAddress; writeAddress = writeAddress; kind = kind; toGo = reg s toGoRow d }) q
             (started-sender s c readAddress writeAddress count kind few (omega (arith, f .long))) in
             subst (λ (b : Bool). Now z circuit (does (start c readAddress writeAddress count kind) w) n
-            (pick b (startOn readAddress writeAddress count kind r) r)) (sym (yes= q))
+            (pick b (startOn (transferOf readAddress writeAddress count kind) r) r)) (sym (yes= q))
             (record {
               sending =
-                  sends-start n readAddress writeAddress count kind r (seen w .sender circuit) _ (now .sending)
+                  sends-start n (transferOf readAddress writeAddress count kind) r (seen w .sender circuit) _ (now .sending)
                   (ap (λ (x : Sender). x .toGo) sender) (ap (λ (x : Sender). x .left) sender)
                   (ap (λ (x : Sender). x .readAddress) sender) (ap (λ (x : Sender). x .writeAddress) sender)
                   (ap (λ (x : Sender). x .kind) sender);
@@ -131,7 +126,7 @@ module _ (z : List ℕ) (circuit : ℕ) (inside : circuit < circuits z) where
             λ row. started-other s c readAddress writeAddress count kind few row circuit (omega (arith, bounds .few-circuits))
             (λ low high q. ne (sym q)) in
             subst (λ (b : Bool). Now z circuit (does (start c readAddress writeAddress count kind) w) n
-            (pick b (startOn readAddress writeAddress count kind r) r)) (sym (no= ne))
+            (pick b (startOn (transferOf readAddress writeAddress count kind) r) r)) (sym (no= ne))
             (record {
               sending =
                   sends-same n r (seen w .sender circuit) _ (now .sending)
@@ -195,11 +190,11 @@ module _ (z : List ℕ) (circuit : ℕ) (inside : circuit < circuits z) where
 
 -- a call that is no cycle leaves what left
 leaving-same : (z : List ℕ) (circuit : ℕ) (x : Call) (k : Calendar) (r : Reckoned) → isCycle x ≡ false → (t : ℕ)
-    → reckonAll z circuit (eventOf x) k r .leaving t ≡ r .leaving t
+    → reckonAll z circuit (eventOf x) k r .sent .leaving t ≡ r .sent .leaving t
 leaving-same z circuit (load y) k r c t = refl
 leaving-same z circuit (start d readAddress writeAddress count kind) k r c t = go (d =? circuit)
   where
-    go : (b : Bool) → (pick b (startOn readAddress writeAddress count kind r) r) .leaving t ≡ r .leaving t
+    go : (b : Bool) → (pick b (startOn (transferOf readAddress writeAddress count kind) r) r) .sent .leaving t ≡ r .sent .leaving t
     go true = refl
     go false = refl
 leaving-same z circuit (store node address new) k r c t = refl
@@ -214,7 +209,7 @@ reckon-append z circuit [] fs k r = refl
 reckon-append z circuit (e ∷ es) fs k r = reckon-append z circuit es fs (calendarEvent z e k) (reckonEvent z circuit e k r)
 
 -- what is reckoned to have landed last stays where what left stays
-landed-same : (z : List ℕ) (circuit : ℕ) (r q : Reckoned) (n : ℕ) → ((t : ℕ) → t < n → q .leaving t ≡ r .leaving t)
+landed-same : (z : List ℕ) (circuit : ℕ) (r q : Reckoned) (n : ℕ) → ((t : ℕ) → t < n → q .sent .leaving t ≡ r .sent .leaving t)
     → lastReckoned z circuit q n ≡ lastReckoned z circuit r n
 unfolding reckonedLanding
 landed-same z circuit r q n h = go (decLt 0 n) (decLt (n - 1) (flightCycles z circuit))
@@ -229,7 +224,7 @@ landed-same z circuit r q n h = go (decLt 0 n) (decLt (n - 1) (flightCycles z ci
 -- each cycle
 pub record At (z : List ℕ) (circuit : ℕ) (S : ℕ → View) (calls : List Call) (w : Lent) (k : Calendar) (r : Reckoned) : Type 0 where
   pub point : Point z S calls w k
-  pub left-then : (t : ℕ) → t < k .cycles → r .leaving t ≡ itemOf (leavingNow z (S t) circuit)
+  pub left-then : (t : ℕ) → t < k .cycles → r .sent .leaving t ≡ itemOf (leavingNow z (S t) circuit)
   pub now : Now z circuit w (k .cycles) r
   pub last : itemIn (circuitAt z circuit .receive) (seen w .landing (destinationOf z circuit)) ≡ lastReckoned z circuit r (k .cycles)
 
@@ -244,7 +239,7 @@ module _ (z : List ℕ) (passes : verdict z ≡ 0) (circuit : ℕ) (inside : cir
     here : S (k .cycles) ≡ seen w
     here = machine-here z passes S J calls w k (a .point)
 
-    followed : Followed z circuit k r (seen w)
+    followed : Follows z circuit k r (seen w)
     followed = record {
       dated = a .point .dated;
       sending = a .now .sending;
@@ -260,7 +255,7 @@ module _ (z : List ℕ) (passes : verdict z ≡ 0) (circuit : ℕ) (inside : cir
     landing-reckoned = go (decLt (k .cycles) (flightCycles z circuit))
       where
         go : Dec (k .cycles < flightCycles z circuit)
-            → pick (flightCycles z circuit ≤? k .cycles) (r .leaving (k .cycles - flightCycles z circuit)) none
+            → pick (flightCycles z circuit ≤? k .cycles) (r .sent .leaving (k .cycles - flightCycles z circuit)) none
             ≡ sentBefore z passes S J circuit inside (k .cycles)
         go (yes l) = rw (no≤ l) refl
         go (no l) =
@@ -279,7 +274,8 @@ module _ (z : List ℕ) (passes : verdict z ≡ 0) (circuit : ℕ) (inside : cir
 
     -- the word that leaves next is the machine's
     word-here : 0 < seen w .sender circuit .toGo
-        → r .readWords (r .readAddress + r .gone) ≡ seen w .memory (sourceOf z circuit) (seen w .sender circuit .readAddress)
+        → r .words .read (r .transfer .readAddress + r .sent .gone)
+        ≡ seen w .memory (sourceOf z circuit) (seen w .sender circuit .readAddress)
     word-here going =
         let t = fine-parts z w f .transfers circuit inside in
         let some : 0 < seen w .sender circuit .left = omega (arith, t .to-go) in
@@ -287,7 +283,7 @@ module _ (z : List ℕ) (passes : verdict z ≡ 0) (circuit : ℕ) (inside : cir
         let lies = t .reads some in
         let i : inRegion (circuitAt z circuit .read) (seen w .sender circuit .readAddress) ≡ true =
         in-region (circuitAt z circuit .read) (seen w .sender circuit .readAddress) (lies .low) (omega (arith, lies .high)) in
-        ap (r .readWords) same ∙ a .now .reads _ i ∙ sym (seen-memory z w f (sourceOf z circuit) _)
+        ap (r .words .read) same ∙ a .now .reads _ i ∙ sym (seen-memory z w f (sourceOf z circuit) _)
 
     cycle-now : Now z circuit (does cycle w) (nextCalendar z k .cycles) (cycleOn z circuit k r)
     cycle-now =
@@ -317,12 +313,12 @@ module _ (z : List ℕ) (passes : verdict z ≡ 0) (circuit : ℕ) (inside : cir
               ∙ seen-memory z (does cycle w) fine (destinationOf z circuit) address;
         }
 
-    cycle-left : (t : ℕ) → t < nextCalendar z k .cycles → cycleOn z circuit k r .leaving t ≡ itemOf (leavingNow z (S t) circuit)
+    cycle-left : (t : ℕ) → t < nextCalendar z k .cycles → cycleOn z circuit k r .sent .leaving t ≡ itemOf (leavingNow z (S t) circuit)
     cycle-left t l = go (ℕ-discrete t (k .cycles))
       where
-        go : Dec (t ≡ k .cycles) → cycleOn z circuit k r .leaving t ≡ itemOf (leavingNow z (S t) circuit)
+        go : Dec (t ≡ k .cycles) → cycleOn z circuit k r .sent .leaving t ≡ itemOf (leavingNow z (S t) circuit)
         go (yes e) =
-            ap (cycleOn z circuit k r .leaving) e ∙ leaving-is z circuit k r (seen w) followed word-here
+            ap (cycleOn z circuit k r .sent .leaving) e ∙ leaving-is z circuit k r (seen w) followed word-here
             ∙ ap (λ (v : View). itemOf (leavingNow z v circuit)) (sym here)
             ∙ ap (λ (n : ℕ). itemOf (leavingNow z (S n) circuit)) (sym e)
         go (no ne) =
@@ -335,8 +331,8 @@ module _ (z : List ℕ) (passes : verdict z ≡ 0) (circuit : ℕ) (inside : cir
     landing-after = go (decLt (k .cycles) (flightCycles z circuit))
       where
         go : Dec (k .cycles < flightCycles z circuit)
-            → pick (flightCycles z circuit ≤? k .cycles) (cycleOn z circuit k r .leaving (k .cycles - flightCycles z circuit)) none
-            ≡ pick (flightCycles z circuit ≤? k .cycles) (r .leaving (k .cycles - flightCycles z circuit)) none
+            → pick (flightCycles z circuit ≤? k .cycles) (cycleOn z circuit k r .sent .leaving (k .cycles - flightCycles z circuit)) none
+            ≡ pick (flightCycles z circuit ≤? k .cycles) (r .sent .leaving (k .cycles - flightCycles z circuit)) none
         go (yes l) = rw (no≤ l) refl
         go (no l) =
             ap (λ (x : Item). pick (flightCycles z circuit ≤? k .cycles) x none)

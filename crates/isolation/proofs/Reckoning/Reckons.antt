@@ -13,31 +13,31 @@ use Rattle.words.specs.Words.{pick}
 use Rattle.words.proofs.TestLaws.{and-both, yes≤, yes<, yes=}
 use Rattle.torus.proofs.WalkLaws.{distance-least}
 use Rattle.sheet.specs.declared.circuits.Region.{Region}
-use Rattle.sheet.specs.Sheet.{columns, rows, memoryWords, circuits, schedules, nodes, circuitAt, entriesOf, entryCount}
+use Rattle.sheet.specs.Sheet.{columns, rows, memoryWords, circuits, schedules, nodes, circuitAt, entriesOf, entryCount, entryAt}
 use Rattle.sheet.specs.Slots.{sourceOf, destinationOf}
 use Rattle.sheet.specs.Rules.{entryRoute, routeHops}
 use Rattle.sheet.specs.Inner.Passed.{CircuitSmall}
 use Rattle.sheet.proofs.VerdictLaws.{passed}
 use Rattle.network.specs.View.{View, Landing, nothing, landed as landing}
-use Rattle.network.specs.Registers.{reg, leftRow, toGoRow}
+use Rattle.network.specs.Registers.{reg, leftRow, toGoRow, rowCount}
 use Rattle.session.specs.declared.Found.the-variants.{Word as FoundWord}
 use Rattle.session.specs.declared.Landed.{Landed}
 use Rattle.session.specs.declared.Landed.the-variants.{Nothing, Word as LandedWord, Refused}
-use Rattle.session.specs.Answers.{foundOf, landedOf}
+use Rattle.session.specs.Answers.{foundOf, landedOf, leftAnswer, fetchAnswer, periodAnswer, landedAnswer}
 use Rattle.session.specs.Calls.{Lent, Call, cycle, isLoad, number, after, stateNumber, memoryNumber, placeNumber, leftNumber, landedNumber, fetched, wordsLeft, periodNumberIn, lastLanding}
 use Rattle.words.proofs.NumberLaws.{zero-then, zero-unless}
 use Rattle.soundness.proofs.SheetLaws.{SheetBounds, sheet-bounds, circuit-bounds}
 use Rattle.session.proofs.RegisterLaws.{loaded-register}
-use Rattle.isolation.specs.Sessions.{isCycle, LoadsRefused, run, Session, afterLoad, standing, cycleDone, eventsBefore}
-use Rattle.isolation.specs.Calendar.{Calendar, calendarAtLoad, nextCalendar, calendarAfter}
+use Rattle.isolation.specs.Sessions.{LoadsRefused, run, Session, afterLoad, standing, cycleDone, eventsBefore}
+use Rattle.isolation.specs.Calendar.{Calendar, calendarAtLoad, nextCalendar, calendarAfter, calendarAt, cyclesDone}
 use Rattle.isolation.specs.Reckoning.{Item, none, item, Reckoned, hopsOf, flightCycles, reckonedLanding, lastReckoned, leavesIn, cycleOn, atLoad, reckon}
-use Rattle.isolation.specs.Demand.{leftAnswer, fetchAnswer, periodAnswer, landedAnswer, inRegion, itemWithin, calendarAt, reckonedAt, CycleAt, answerAtDestination, circuitLanding, entryIn, AsReckoned}
+use Rattle.isolation.specs.Demand.{inRegion, itemWithin, reckonedAt, CycleAt, answerAtDestination, circuitLanding, AsReckoned}
 use Rattle.isolation.proofs.Routes.Apart.{entry-way, entryHops}
 use Rattle.isolation.proofs.Reckoning.Dates.{Dated, next-cycles, calendar-append, run-at, point-opened, point-at, never-refused}
 use Rattle.isolation.proofs.Reckoning.Landed.{landing-kept, landing-opened}
 use Rattle.isolation.proofs.Reckoning.SenderFollowed.{sends-load, leaves-no, leaving-before}
 use Rattle.isolation.proofs.Reckoning.Regions.{in-high, in-region, itemIn}
-use Rattle.isolation.proofs.Reckoning.Stream.{seen, Fine, fine-parts, fine-opened, machineAt, session-passes, session-trajectory}
+use Rattle.isolation.proofs.Reckoning.Stream.{isCycle, is-cycle, seen, Fine, fine-parts, fine-opened, machineAt, session-passes, session-trajectory}
 use Rattle.isolation.proofs.Reckoning.Points.{events-cycle, reckon-last}
 use Rattle.isolation.proofs.Reckoning.ReckonedWords.{wordAt, seen-memory, At, points}
 
@@ -132,16 +132,22 @@ module _ (l : Session) where
   landed-at-load node inside =
       landed-is (l .sheet) (afterLoad l) (fine-opened l) node inside ∙ ap answered (landing-opened l node inside)
 
-  pub landed-kept : (k node : ℕ) → k < length (l .calls) → node < nodes (l .sheet) → isCycle (getD (l .calls) k cycle) ≡ false
+  pub landed-kept : (k node : ℕ) → k < length (l .calls) → node < nodes (l .sheet) → (CycleAt l k → ⊥)
       → landedAnswer (standing l (suc k)) node ≡ landedAnswer (standing l k) node
-  landed-kept k node p inside c =
-      let f = point-at l k .fine in
-      landed-is (l .sheet) (standing l (suc k)) (point-at l (suc k) .fine) node inside
-      ∙ ap answered
-      (ap (λ (w : Lent). seen w .landing node) (run-at (l .calls) k (afterLoad l) p)
-      ∙ landing-kept (l .sheet) (standing l k) f node inside (getD (l .calls) k cycle)
-      (refused-at (l .calls) (afterLoad l) (l .loads-refused) k p) c)
-      ∙ sym (landed-is (l .sheet) (standing l k) f node inside)
+  landed-kept k node p inside c = go (isCycle (getD (l .calls) k cycle)) refl
+    where
+      f : Fine (l .sheet) (standing l k)
+      f = point-at l k .fine
+
+      go : (b : Bool) → isCycle (getD (l .calls) k cycle) ≡ b → landedAnswer (standing l (suc k)) node ≡ landedAnswer (standing l k) node
+      go true e = let same = is-cycle _ e in absurd (c (p, same, never-refused l k p same))
+      go false e =
+          landed-is (l .sheet) (standing l (suc k)) (point-at l (suc k) .fine) node inside
+          ∙ ap answered
+          (ap (λ (w : Lent). seen w .landing node) (run-at (l .calls) k (afterLoad l) p)
+          ∙ landing-kept (l .sheet) (standing l k) f node inside (getD (l .calls) k cycle)
+          (refused-at (l .calls) (afterLoad l) (l .loads-refused) k p) e)
+          ∙ sym (landed-is (l .sheet) (standing l k) f node inside)
 
   -- the reckoned calendar is the session's own: cycle within the period, period number, schedule in force, pending order
   pub calendar-is : (k : ℕ) → Dated (calendarAt l k) (seen (standing l k))
@@ -160,7 +166,7 @@ module _ (l : Session) (circuit : ℕ) (inside : circuit < circuits (l .sheet)) 
   small : CircuitSmall (nodes z) (memoryWords z) (circuitAt z circuit)
   small = circuit-bounds z bounds circuit inside
 
-  zero-at : (row : ℕ) → row < 21 → reg (afterLoad l .state) row circuit ≡ 0
+  zero-at : (row : ℕ) → row < rowCount → reg (afterLoad l .state) row circuit ≡ 0
   zero-at row r = loaded-register z (l .lent .state) row circuit r (omega (arith, bounds .few-circuits))
 
   opened-at : At z circuit S (l .calls) (afterLoad l) calendarAtLoad (atLoad z circuit (l .lent .memory))
@@ -189,16 +195,16 @@ module _ (l : Session) (circuit : ℕ) (inside : circuit < circuits (l .sheet)) 
   left-answer w f = ap (λ (k : ℕ). foundOf k (wordsLeft (w .state) circuit)) (left-zero z w f circuit inside)
 
   -- a route of the circuit has as many side outputs as hops are reckoned: by number 9 no more, and no way has fewer
-  side-outputs : (j i : ℕ) → j < schedules z → i < entryCount (entriesOf z j) → entryIn z j i .circuit ≡ circuit
-      → routeHops (entryRoute z (entryIn z j i)) ≡ hopsOf z circuit
+  side-outputs : (j i : ℕ) → j < schedules z → i < entryCount (entriesOf z j) → entryAt (entriesOf z j) i .circuit ≡ circuit
+      → routeHops (entryRoute z (entryAt (entriesOf z j) i)) ≡ hopsOf z circuit
   unfolding entryHops
   side-outputs j i jl il own =
       let w = entry-way z (passed z (session-passes l) .rule9-kept) j jl i il in
-      let same : hopsOf z (entryIn z j i .circuit) ≡ hopsOf z circuit = ap (hopsOf z) own in
+      let same : hopsOf z (entryAt (entriesOf z j) i .circuit) ≡ hopsOf z circuit = ap (hopsOf z) own in
       omega (arith, w .short, distance-least (columns z) (rows z) _ _ _ _ _ (w .leading), same)
 
   -- what landed last in the receive region
-  landings : (k : ℕ) → circuitLanding l circuit k ≡ lastReckoned z circuit (reckonedAt l circuit k) (calendarAt l k .cycles)
+  landings : (k : ℕ) → circuitLanding l circuit k ≡ lastReckoned z circuit (reckonedAt l circuit k) (cyclesDone l k)
   landings k =
       ap (itemWithin (circuitAt z circuit .receive)) (landed-is z (standing l k) (fine-at k) (destinationOf z circuit) (small .destination-inside))
       ∙ answered-in (circuitAt z circuit .receive) (seen (standing l k) .landing (destinationOf z circuit))
@@ -206,7 +212,7 @@ module _ (l : Session) (circuit : ℕ) (inside : circuit < circuits (l .sheet)) 
 
   -- calendar and reckoning directly after a cycle
   events-next : (k : ℕ) → CycleAt l k → eventsBefore l (suc k) ≡ eventsBefore l k ++ (cycleDone ∷ [])
-  events-next k c = events-cycle (l .calls) (afterLoad l) k (c .0) (c .1) (never-refused l k c)
+  events-next k c = events-cycle (l .calls) (afterLoad l) k (c .0) (c .1) (c .2)
 
   calendar-after : (k : ℕ) → CycleAt l k → calendarAt l (suc k) ≡ nextCalendar z (calendarAt l k)
   calendar-after k c = ap (calendarAfter z) (events-next k c) ∙ calendar-append z (eventsBefore l k) (cycleDone ∷ []) calendarAtLoad
@@ -218,7 +224,7 @@ module _ (l : Session) (circuit : ℕ) (inside : circuit < circuits (l .sheet)) 
 
   -- what left in cycle t is reckoned to have landed after a cycle so much later
   lands-reckoned : (k : Calendar) (r : Reckoned) (t : ℕ) → k .cycles ≡ t + flightCycles z circuit
-      → lastReckoned z circuit (cycleOn z circuit k r) (k .cycles + 1) ≡ r .leaving t
+      → lastReckoned z circuit (cycleOn z circuit k r) (k .cycles + 1) ≡ r .sent .leaving t
   unfolding reckonedLanding
   lands-reckoned k r t e =
       let n : ℕ = k .cycles in
@@ -226,15 +232,15 @@ module _ (l : Session) (circuit : ℕ) (inside : circuit < circuits (l .sheet)) 
       let back : n - flightCycles z circuit ≡ t = omega (arith, e) in
       let earlier : t < n = omega (arith, e) in
       rw (yes≤ {a = 1} {b = n + 1} (omega arith))
-      (ap (λ (m : ℕ). pick (flightCycles z circuit ≤? m) (cycleOn z circuit k r .leaving (m - flightCycles z circuit)) none) last
-      ∙ ap (λ (b : Bool). pick b (cycleOn z circuit k r .leaving (n - flightCycles z circuit)) none)
+      (ap (λ (m : ℕ). pick (flightCycles z circuit ≤? m) (cycleOn z circuit k r .sent .leaving (m - flightCycles z circuit)) none) last
+      ∙ ap (λ (b : Bool). pick b (cycleOn z circuit k r .sent .leaving (n - flightCycles z circuit)) none)
       (yes≤ {a = flightCycles z circuit} {b = n} (omega (arith, e)))
-      ∙ ap (cycleOn z circuit k r .leaving) back ∙ leaving-before z circuit k r t earlier)
+      ∙ ap (cycleOn z circuit k r .sent .leaving) back ∙ leaving-before z circuit k r t earlier)
 
-  lands : (k t kind address w : ℕ) → CycleAt l k → calendarAt l k .cycles ≡ t + flightCycles z circuit
-      → reckonedAt l circuit k .leaving t ≡ item kind address w → answerAtDestination l circuit (suc k) ≡ LandedWord kind address w
+  lands : (k t kind address w : ℕ) → CycleAt l k → cyclesDone l k ≡ t + flightCycles z circuit
+      → reckonedAt l circuit k .sent .leaving t ≡ item kind address w → answerAtDestination l circuit (suc k) ≡ LandedWord kind address w
   lands k t kind address w c e left =
-      let counted : calendarAt l (suc k) .cycles ≡ calendarAt l k .cycles + 1 =
+      let counted : cyclesDone l (suc k) ≡ cyclesDone l k + 1 =
       ap (λ (d : Calendar). d .cycles) (calendar-after k c) ∙ next-cycles z (calendarAt l k) in
       landed-back (circuitAt z circuit .receive) (answerAtDestination l circuit (suc k)) kind address w
       (landings (suc k)
@@ -261,19 +267,19 @@ module _ (l : Session) (circuit : ℕ) (inside : circuit < circuits (l .sheet)) 
   }
 
   -- a word that is reckoned to leave is read in the read region
-  pub reading : (k : ℕ) → leavesIn (reckonedAt l circuit k) (calendarAt l k .cycles) ≡ true
-      → inRegion (circuitAt z circuit .read) (reckonedAt l circuit k .readAddress + reckonedAt l circuit k .gone) ≡ true
+  pub reading : (k : ℕ) → leavesIn (reckonedAt l circuit k) (cyclesDone l k) ≡ true
+      → inRegion (circuitAt z circuit .read) (reckonedAt l circuit k .transfer .readAddress + reckonedAt l circuit k .sent .gone) ≡ true
   reading k e = go (ℕ-discrete (seen (standing l k) .sender circuit .toGo) 0)
     where
       a : At z circuit S (drop k (l .calls)) (standing l k) (calendarAt l k) (reckonedAt l circuit k)
       a = at-point k
 
       go : Dec (seen (standing l k) .sender circuit .toGo ≡ 0)
-          → inRegion (circuitAt z circuit .read) (reckonedAt l circuit k .readAddress + reckonedAt l circuit k .gone) ≡ true
+          → inRegion (circuitAt z circuit .read) (reckonedAt l circuit k .transfer .readAddress + reckonedAt l circuit k .sent .gone) ≡ true
       go (yes over) =
           absurd
           (false≢true
-          (sym (leaves-no (calendarAt l k .cycles) (reckonedAt l circuit k) (seen (standing l k) .sender circuit) (a .now .sending) over) ∙ e))
+          (sym (leaves-no (cyclesDone l k) (reckonedAt l circuit k) (seen (standing l k) .sender circuit) (a .now .sending) over) ∙ e))
       go (no ne) =
           let t = fine-parts z (standing l k) (fine-at k) .transfers circuit inside in
           let some : 0 < seen (standing l k) .sender circuit .left = omega (arith, ne, t .to-go) in

@@ -13,15 +13,16 @@ use Rattle.words.proofs.AllLaws.{all-at}
 use Rattle.sheet.specs.declared.circuits.Region.{Region}
 use Rattle.sheet.specs.Sheet.{circuits, nodes, circuitAt}
 use Rattle.sheet.specs.Slots.{sourceOf, destinationOf}
+use Rattle.sheet.specs.Flight.{flightCycles}
 use Rattle.sheet.specs.Rules.{apart, receiveApart, rule6, verdict}
 use Rattle.sheet.proofs.VerdictLaws.{passed}
 use Rattle.network.specs.View.{View, Landing, nothing, landed}
 use Rattle.network.specs.Cycle.{tick, storedBy}
 use Rattle.soundness.proofs.SoundLaws.{Lies}
 use Rattle.soundness.proofs.SheetLaws.{sheet-bounds, circuit-bounds}
-use Rattle.isolation.specs.Reckoning.{Item, none, item, wordAfter}
+use Rattle.isolation.specs.Reckoning.{Item, none, item, flightCycles, wordAfter}
 use Rattle.isolation.specs.Demand.{inRegion}
-use Rattle.isolation.proofs.Routes.SheetWays.{travelOf, ways-of, travel-is}
+use Rattle.isolation.proofs.Routes.SheetWays.{ways-of, travel-is}
 use Rattle.isolation.proofs.Flights.Trajectory.{Trajectory}
 use Rattle.isolation.proofs.Flights.Deliver.{isLanded, leavingNow, Came, leaving-inside}
 use Rattle.isolation.proofs.Flights.NeverFaulty.{sent-lands, landed-sent}
@@ -109,7 +110,7 @@ module _ (z : List ℕ) (passes : verdict z ≡ 0) (S : ℕ → View) (J : Traje
 
   module _ (circuit : ℕ) (inside : circuit < circuits z) where
     abbrev travel : ℕ
-    travel = travelOf z circuit
+    travel = flightCycles z circuit
 
     -- what the circuit sent its travel before cycle T
     abbrev pub sentBefore : ℕ → Item
@@ -144,7 +145,7 @@ module _ (z : List ℕ) (passes : verdict z ≡ 0) (S : ℕ → View) (J : Traje
             receive-once z passes (x .circuit) circuit (x .circuit-inside) inside (x .at-node) address
             (came-inside T (destinationOf z circuit) kind address word x) q in
             let time : T ≡ x .left-in + travel =
-            x .time ∙ ap (λ (t : ℕ). x .left-in + t) (travel-is z passes (x .circuit) ∙ ap (travelOf z) own) in
+            x .time ∙ ap (λ (t : ℕ). x .left-in + t) (travel-is z passes (x .circuit) ∙ ap (flightCycles z) own) in
             let then : x .left-in ≡ T - travel = omega arith in
             absurd
             (h (omega arith)

@@ -14,7 +14,9 @@ use Rattle.sheet.specs.Sheet.{memoryWords, circuits, schedules, nodes, circuitA
 use Rattle.sheet.specs.Rules.{verdict}
 use Rattle.network.specs.View.{View, empty, Order, noOrder, pending}
 use Rattle.network.specs.Cycle.{tick, faulty}
-use Rattle.network.specs.Registers.{reg, sheetIn, stateWords, clockRow, cyclePlace, numberPlace, inForcePlace, orderMarkPlace, orderSchedulePlace, orderPeriodPlace, linkMark, linkWord, headMark, headWord, choiceRow, latchRow, outMark, outWord, receiveMark, receiveKind, receiveAddress, leftRow, readRow, writeRow, kindRow, toGoRow, at}
+use Rattle.network.specs.Registers.{reg, sheetIn, stateWords, clockRow, cyclePlace, numberPlace, inForcePlace, orderMarkPlace, orderSchedulePlace, rowCount, rowWords}
+use Rattle.network.specs.Registers.{orderPeriodPlace, linkMark, linkWord, headMark, headWord, choiceRow, latchRow, outMark, outWord, receiveMark}
+use Rattle.network.specs.Registers.{receiveKind, receiveAddress, leftRow, readRow, writeRow, kindRow, toGoRow, at}
 use Rattle.network.specs.Seen.{seenSender, seenCell, seenChoice, view, Agree}
 use Rattle.network.proofs.RowLaws.{sheet-kept, sender-same}
 use Rattle.network.proofs.StepLaws.{state-length, memory-length}
@@ -29,7 +31,7 @@ use Rattle.session.proofs.RegisterLaws.{loaded-sheet, loaded-register, started-
 use Rattle.session.proofs.KeptLaws.{sound-next, sound-kept, state-length-kept, memory-length-kept, sheet-same}
 use Rattle.isolation.proofs.Flights.Flight.{ports}
 use Rattle.isolation.proofs.Flights.Trajectory.{OrderInside, Between, between-agree, between-then, Trajectory}
-use Rattle.isolation.specs.Sessions.{isCycle, LoadsRefused, Session, afterLoad}
+use Rattle.isolation.specs.Sessions.{LoadsRefused, Session, afterLoad}
 
 -- the machine in lent words
 abbrev pub seen : Lent → View
@@ -86,19 +88,28 @@ fine-opened l =
       whole = p .whole;
     }
 
+-- whether a call is a cycle
+abbrev pub isCycle : Call → Bool
+isCycle (load z) = false
+isCycle (start circuit readAddress writeAddress count kind) = false
+isCycle (store node address new) = false
+isCycle (order schedule period) = false
+isCycle cycle = true
+isCycle (ask question) = false
+
 -- a call that changes no register of routers, nodes and the clock's time
 module _ (z s m s′ m′ : List ℕ) (few-nodes : nodes z ≤ 16)
-    (same : (row k : ℕ) → row < 16 → k < 80 → (row ≡ 0 → k < 3) → reg s′ row k ≡ reg s row k)
+    (same : (row k : ℕ) → row < leftRow → k < rowWords → (row ≡ 0 → k < 3) → reg s′ row k ≡ reg s row k)
     (order-kept : OrderInside z (view s m .order) → OrderInside z (view s′ m′ .order))
     (busy-kept : (circuit : ℕ) → circuit < circuits z → 0 < reg s leftRow circuit → seenSender s′ circuit ≡ seenSender s circuit)
     (to-go-kept : (circuit : ℕ) → circuit < circuits z → reg s′ toGoRow circuit ≡ reg s toGoRow circuit)
     (transfer-kept : (circuit : ℕ) → circuit < circuits z → TransferParts (circuitAt z circuit) (seenSender s circuit)
     → TransferParts (circuitAt z circuit) (seenSender s′ circuit)) where
-  router-same : (row node input : ℕ) → 1 ≤ row → row < 16 → node < nodes z → input < ports
+  router-same : (row node input : ℕ) → 1 ≤ row → row < leftRow → node < nodes z → input < ports
       → reg s′ row (at node input) ≡ reg s row (at node input)
   router-same row node input low high n i = same row (at node input) high (omega arith) (λ e. absurd (omega arith))
 
-  node-same : (row node : ℕ) → 1 ≤ row → row < 16 → node < nodes z → reg s′ row node ≡ reg s row node
+  node-same : (row node : ℕ) → 1 ≤ row → row < leftRow → node < nodes z → reg s′ row node ≡ reg s row node
   node-same row node low high n = same row node high (omega arith) (λ e. absurd (omega arith))
 
   between-registers : Between z (view s m) (view s′ m′)
@@ -161,7 +172,7 @@ module _ (z : List ℕ) (w : Lent) (f : Fine z w) where
   start-between circuit readAddress writeAddress count kind e =
       let p = start-passed s circuit readAddress writeAddress count kind e in
       let b = fine-bounds z w f in
-      let few : circuit < 80 = omega (arith, p .circuit-inside, b .few-circuits, ap circuits (f .sheet-is)) in
+      let few : circuit < rowWords = omega (arith, p .circuit-inside, b .few-circuits, ap circuits (f .sheet-is)) in
       let other = started-other s circuit readAddress writeAddress count kind few in
       let parts = fine-parts z (does (start circuit readAddress writeAddress count kind) w)
       (fine-does z (start circuit readAddress writeAddress count kind) w refl e f) in
@@ -339,7 +350,7 @@ module _ (l : Session) where
   streaming : Streaming sheet (afterLoad l) (stream (l .calls) (afterLoad l))
   streaming = streams sheet (l .calls) (afterLoad l) (fine-opened l) (l .loads-refused)
 
-  zero-at : (row k : ℕ) → row < 21 → k < 80 → reg (afterLoad l .state) row k ≡ 0
+  zero-at : (row k : ℕ) → row < rowCount → k < rowWords → reg (afterLoad l .state) row k ≡ 0
   zero-at = loaded-register sheet (l .lent .state)
 
   pub session-passes : verdict sheet ≡ 0
@@ -348,7 +359,7 @@ module _ (l : Session) where
   bounds : SheetBounds sheet
   bounds = sheet-bounds sheet session-passes
 
-  empty-at : (mark w node input : ℕ) → mark < 21 → node < nodes sheet → input < ports
+  empty-at : (mark w node input : ℕ) → mark < rowCount → node < nodes sheet → input < ports
       → seenCell (reg (afterLoad l .state) mark (at node input)) w ≡ empty
   empty-at mark w node input ml n i = rw (zero-at mark (at node input) ml (omega (arith, bounds .few-nodes))) refl
 

@@ -1,6 +1,6 @@
 -- What rules 9, 10 and 11 say of a schedule's entries: each has its way, ends in time, and shares no wire in a cycle with another.
 -- Assumes nothing.
-use Prim.Native.Nat.{ℕ, suc, _+_, _*_, _<_, _≤_}
+use Prim.Native.Nat.{ℕ, suc, _+_, _<_, _≤_}
 use mathlib.Core.Bool.{Bool, true, not, false≢true}
 use mathlib.Core.List.{List}
 use mathlib.Core.Path.{_≡_, refl, sym, _∙_, ap, ap₂, subst}
@@ -10,15 +10,15 @@ use lib.ListN.{length}
 use Rattle.words.specs.Tests.{all, _≤?_, _=?_}
 use Rattle.words.proofs.TestLaws.{and-left, and-right, is=, is≤}
 use Rattle.words.proofs.AllLaws.{all-at}
-use Rattle.torus.specs.Torus.{distanceOf}
 use Rattle.torus.specs.Route.{Wire, source, Use, Route, leads, nowhere, routeFrom, routerCycles}
+use Rattle.torus.specs.Inner.Delays.{delayAt, lastDelay}
 use Rattle.sheet.specs.declared.entries.Entry.{Entry}
-use Rattle.sheet.specs.Sheet.{columns, rows, schedules, circuitAt, period, entriesOf, entryCount, entryAt}
+use Rattle.sheet.specs.Sheet.{columns, rows, schedules, circuitAt, entriesOf, entryCount, entryAt}
+use Rattle.sheet.specs.Flight.{hopsOf}
 use Rattle.sheet.specs.Wires.{member, meet}
-use Rattle.sheet.specs.Rules.{eachEntry, entryRoute, reaches, entryLeads, rule9, routeHops, entryEnds, rule10, usesOf, entryOccupied, rule11At, rule11}
+use Rattle.sheet.specs.Rules.{eachEntry, entryRoute, reaches, entryLeads, rule9, routeHops, usesOf, entryOccupied, rule11At, rule11}
 use Rattle.sheet.specs.Inner.Passed.{Routed}
-use Rattle.sheet.proofs.PassedLaws.{entry-small}
-use Rattle.isolation.proofs.Routes.Way.{wireAt, delayAt, outputWire, wayNode, wayInput, wayOutput, Way, way, delay-is}
+use Rattle.isolation.proofs.Routes.Way.{wireAt, outputWire, wayNode, wayInput, wayOutput, wayDelay, Way, way}
 use Rattle.isolation.proofs.Routes.Simple.{use-once}
 use Rattle.isolation.proofs.Routes.Meet.{wireIn, occupied-at, meet-yes}
 
@@ -35,7 +35,7 @@ entryUses s e = usesOf (entryRoute s e)
 unfoldable pub entryHops : List ℕ → Entry → ℕ
 entryHops s e = routeHops (entryRoute s e)
 
--- its way: node, input and output of router k
+-- its way: node, input, output and delay of router k
 abbrev pub entryNode : List ℕ → Entry → ℕ → ℕ
 entryNode s e k = wayNode (columns s) (rows s) (entrySource s e) (e .route) k
 
@@ -45,11 +45,14 @@ entryInput s e k = wayInput (columns s) (rows s) (entrySource s e) (e .route) k
 abbrev pub entryOutput : List ℕ → Entry → ℕ → ℕ
 entryOutput s e k = wayOutput (columns s) (rows s) (entrySource s e) (e .route) k
 
+abbrev pub entryDelay : List ℕ → Entry → ℕ → ℕ
+entryDelay s e k = wayDelay (columns s) (rows s) (entrySource s e) (e .route) k
+
 -- number 9 at an entry: its route leads along its way to its circuit's destination, in no more hops than the distance
 pub record EntryWay (s : List ℕ) (e : Entry) : Type 0 where
   pub leading : routeFrom (columns s) (rows s) (entrySource s e) (e .route) ≡ leads (entryUses s e) (entryEnd s e) (entryHops s e)
   pub along : Way (columns s) (rows s) (entrySource s e) (e .route) (entryUses s e) (entryEnd s e) (entryHops s e)
-  pub short : entryHops s e ≤ distanceOf (columns s) (rows s) (entrySource s e) (entryEnd s e)
+  pub short : entryHops s e ≤ hopsOf s (e .circuit)
 
 reached : (r : Route) (to most : ℕ) → reaches r to most ≡ true → (r ≡ leads (usesOf r) to (routeHops r)) × (routeHops r ≤ most)
 reached (leads uses node hops) to most e =
@@ -59,7 +62,7 @@ reached nowhere to most e = absurd (false≢true e)
 led-way : (s : List ℕ) (e : Entry) → entryLeads s e ≡ true → EntryWay s e
 unfolding entryLeads entryRoute entryUses entryHops
 led-way s e h =
-    let r = reached (entryRoute s e) (entryEnd s e) (distanceOf (columns s) (rows s) (entrySource s e) (entryEnd s e)) h in
+    let r = reached (entryRoute s e) (entryEnd s e) (hopsOf s (e .circuit)) h in
     record {
       leading = r .0;
       along = way (columns s) (rows s) (entrySource s e) (e .route) (entryUses s e) (entryEnd s e) (entryHops s e) (r .0);
@@ -79,25 +82,10 @@ pub entry-way : (s : List ℕ) → rule9 s ≡ true → (j : ℕ) → j < schedu
 unfolding rule9
 entry-way s h j jl i il = led-way s (entryAt (entriesOf s j) i) (each-entry s (λ j. entryLeads s) h j jl i il)
 
--- number 10 at an entry
-ends-in-time : (s : List ℕ) (P : ℕ) (e : Entry) → 2 ≤ e .size → entryEnds s P e ≡ true
-    → e .offset + e .size + routerCycles * (entryHops s e + 1) ≤ P + 6
-unfolding entryEnds entryHops
-ends-in-time s P e l h = omega (arith, is≤ _ _ h)
-
--- its last word is on its last wire at most 5 cycles behind the period
-pub entry-ends : (s : List ℕ) → Routed s → (j : ℕ) → j < schedules s → (i : ℕ) → i < entryCount (entriesOf s j)
-    → entryAt (entriesOf s j) i .offset + entryAt (entriesOf s j) i .size
-    + delayAt (entryUses s (entryAt (entriesOf s j) i)) (suc (entryHops s (entryAt (entriesOf s j) i))) ≤ period s j + 6
-unfolding rule10
-entry-ends s g j jl i il =
-    let e = entryAt (entriesOf s j) i in
-    omega (
-      arith,
-      ends-in-time s (period s j) e (entry-small s (g .ranged) j jl i il .size-low)
-          (each-entry s (λ j. entryEnds s (period s j)) (g .packets-end) j jl i il),
-      delay-is (entry-way s (g .routes-lead) j jl i il .along) (suc (entryHops s e)) (omega arith),
-    )
+-- the delay of its last wire is that of its last router's output
+pub entry-last-delay : (s : List ℕ) (e : Entry) → EntryWay s e → lastDelay (entryRoute s e) ≡ entryDelay s e (entryHops s e) + routerCycles
+unfolding entryRoute
+entry-last-delay s e w = ap lastDelay (w .leading) ∙ w .along .output-delay (entryHops s e) (omega arith)
 
 -- two entries with one wire in one cycle meet
 entries-meet : (s : List ℕ) (e f : Entry) (x y a b : ℕ) → x < length (entryUses s e) → y < length (entryUses s f)

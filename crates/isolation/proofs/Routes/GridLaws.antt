@@ -3,26 +3,18 @@
 use Prim.Native.Nat.{ℕ, _<_}
 use mathlib.Core.List.{List}
 use mathlib.Core.Path.{_≡_}
-use Rattle.torus.specs.Torus.{InGrid, neighbourOf, oppositeOf}
+use Rattle.torus.specs.Torus.{neighbourOf, oppositeOf}
 use Rattle.torus.proofs.NeighbourLaws.{neighbour-inside, neighbour-back as back}
 use Rattle.sheet.specs.Sheet.{columns, rows, nodes}
 use Rattle.sheet.specs.Inner.Passed.{Headed}
+use Rattle.sheet.proofs.PassedLaws.{in-grid}
 
 module _ (z : List ℕ) (H : Headed z) (node : ℕ) (inside : node < nodes z) where
-  in-grid : InGrid (columns z) (rows z) node
-  in-grid = record {
-    cols-low = H .columns-low;
-    cols-high = H .columns-high;
-    rows-low = H .rows-low;
-    rows-high = H .rows-high;
-    inside = inside;
-  }
-
   -- a neighbour is a node of the grid
   pub neighbour-in : (side : ℕ) → neighbourOf (columns z) (rows z) node side < nodes z
-  neighbour-in side = neighbour-inside in-grid side
+  neighbour-in side = neighbour-inside (in-grid z H node inside) side
 
   -- a step by a side and a step by its opposite lead back
   pub neighbour-back : (side : ℕ) → side < 4
       → neighbourOf (columns z) (rows z) (neighbourOf (columns z) (rows z) node side) (oppositeOf side) ≡ node
-  neighbour-back side l = back in-grid side l
+  neighbour-back side l = back (in-grid z H node inside) side l

@@ -9,8 +9,9 @@ use lib.ListN.{length}
 use Rattle.words.specs.Tests.{_=?_}
 use Rattle.words.proofs.TestLaws.{and-left, and-right, and-both, or-yes, or-skip, or-cases, yes=, is=}
 use Rattle.torus.specs.Route.{Wire, source, side, memory, Use}
+use Rattle.torus.specs.Inner.Delays.{delayAt}
 use Rattle.sheet.specs.Wires.{WireCycle, sameWire, same, during, occupied, member, meet}
-use Rattle.isolation.proofs.Routes.Way.{wireAt, delayAt}
+use Rattle.isolation.proofs.Routes.Way.{wireAt}
 
 -- one wire of two is the same as the other
 same-is : (a b : Wire) → sameWire a b ≡ true → a ≡ b

@@ -1,29 +1,29 @@
--- A sheet that passes gives its slots their ways: by shortest routes, so that all slots of a circuit have as many routers.
+-- A sheet that passes gives its slots their ways: by shortest routes, so that all slots of a circuit have as many routers and travel as
+-- long.
 -- Assumes nothing.
-use Prim.Native.Nat.{ℕ, suc, _+_, _*_, _<_}
+use Prim.Native.Nat.{ℕ, suc, _+_, _<_}
 use mathlib.Core.Bool.{true}
 use mathlib.Core.List.{List}
 use mathlib.Core.Path.{_≡_, refl, _∙_, ap}
 use native.Mathlib.Omega.{arith}
 use Rattle.torus.proofs.WalkLaws.{distance-least}
-use Rattle.torus.specs.Torus.{distanceOf}
+use Rattle.torus.proofs.TravelLaws.{last-delay-is}
 use Rattle.torus.specs.Route.{routerCycles}
 use Rattle.sheet.specs.Sheet.{columns, rows}
-use Rattle.sheet.specs.Slots.{slotLength, slotRoute, sourceOf, destinationOf}
+use Rattle.sheet.specs.Slots.{slotLength, slotRoute, sourceOf}
+use Rattle.sheet.specs.Flight.{hopsOf, flightCycles}
 use Rattle.sheet.specs.Rules.{rule11, verdict}
 use Rattle.sheet.specs.Inner.Passed.{Routed}
 use Rattle.sheet.proofs.VerdictLaws.{passed, routed}
-use Rattle.isolation.proofs.Routes.Way.{wayNode, wayInput, wayOutput, node-first, input-first, node-next, input-next, way-inside, header-output, delay-is}
-use Rattle.isolation.proofs.Routes.Apart.{entryHops, shared-output, shared-source}
+use Rattle.isolation.specs.Reckoning.{hopsOf, flightCycles}
+use Rattle.isolation.proofs.Routes.Way.{wayNode, wayInput, wayOutput, wayDelay, node-first, input-first, delay-first, node-next, input-next, delay-next, way-inside, header-output}
+use Rattle.isolation.proofs.Routes.Apart.{entryHops, entry-last-delay, shared-output, shared-source}
 use Rattle.isolation.proofs.Routes.Slotted.{slotEntry, slot-small, slot-way, slot-ends, slot-far, slots-apart}
 use Rattle.isolation.proofs.Routes.Ways.{Slot, Course, Leads, Ways}
 
--- the routers of a circuit, one more than its hops, and the cycles from its source's wire to the wire of its destination's memory
+-- the routers of a circuit, one more than its hops
 abbrev pub routersOf : List ℕ → ℕ → ℕ
-routersOf z circuit = distanceOf (columns z) (rows z) (sourceOf z circuit) (destinationOf z circuit) + 1
-
-abbrev pub travelOf : List ℕ → ℕ → ℕ
-travelOf z circuit = routerCycles * routersOf z circuit
+routersOf z circuit = hopsOf z circuit + 1
 
 -- the way of a slot's packet
 abbrev pub courseAt : List ℕ → ℕ → ℕ → ℕ → Course
@@ -31,7 +31,7 @@ courseAt z schedule cycle circuit = record {
   node = wayNode (columns z) (rows z) (sourceOf z circuit) (slotRoute z schedule cycle circuit);
   input = wayInput (columns z) (rows z) (sourceOf z circuit) (slotRoute z schedule cycle circuit);
   output = wayOutput (columns z) (rows z) (sourceOf z circuit) (slotRoute z schedule cycle circuit);
-  delay = λ k. routerCycles * k;
+  delay = wayDelay (columns z) (rows z) (sourceOf z circuit) (slotRoute z schedule cycle circuit);
 }
 
 module _ (z : List ℕ) (g : Routed z) where
@@ -43,12 +43,30 @@ module _ (z : List ℕ) (g : Routed z) where
       let w = slot-way z g schedule (s .schedule-inside) cycle circuit (s .begins) in
       omega (arith, w .short, distance-least (columns z) (rows z) _ _ _ _ _ (w .leading))
 
+  -- and the output of its last router is its circuit's flight away from its source
+  slot-travel : (schedule cycle circuit : ℕ) → Slot z schedule cycle circuit → (k : ℕ) → suc k ≡ routersOf z circuit
+      → courseAt z schedule cycle circuit .delay k + routerCycles ≡ flightCycles z circuit
+  unfolding slotEntry
+  slot-travel schedule cycle circuit s k e =
+      let w = slot-way z g schedule (s .schedule-inside) cycle circuit (s .begins) in
+      let hops : ℕ = entryHops z (slotEntry z schedule cycle circuit) in
+      let same : hops + 1 ≡ routersOf z circuit = slot-hops schedule cycle circuit s in
+      let last : k ≡ hops = omega (arith, same) in
+      omega (
+        arith,
+        same,
+        ap (courseAt z schedule cycle circuit .delay) last,
+        w .along .output-delay hops (omega arith),
+        last-delay-is (columns z) (rows z) _ _ _ _ _ (w .leading),
+      )
+
   slot-leads : (schedule cycle circuit : ℕ) → Slot z schedule cycle circuit
-      → Leads z schedule cycle circuit (routersOf z circuit) (travelOf z circuit) (courseAt z schedule cycle circuit)
+      → Leads z schedule cycle circuit (routersOf z circuit) (flightCycles z circuit) (courseAt z schedule cycle circuit)
   unfolding slotEntry
   slot-leads schedule cycle circuit s =
       let small = slot-small z g schedule (s .schedule-inside) cycle circuit (s .begins) in
-      let w = slot-way z g schedule (s .schedule-inside) cycle circuit (s .begins) .along in
+      let led = slot-way z g schedule (s .schedule-inside) cycle circuit (s .begins) in
+      let w = led .along in
       let hops : ℕ = entryHops z (slotEntry z schedule cycle circuit) in
       let same : hops + 1 ≡ routersOf z circuit = slot-hops schedule cycle circuit s in
       let from : ℕ = sourceOf z circuit in
@@ -70,12 +88,17 @@ module _ (z : List ℕ) (g : Routed z) where
             let last : k ≡ hops = omega (arith, same) in
             ap (wayNode (columns z) (rows z) from route) last ∙ w .arrives;
         asked-output = λ word k e l. header-output (columns z) (rows z) from route word e k;
-        first-delay = omega arith;
-        next-delay = λ k. omega arith;
-        last-delay = λ k e. omega arith;
+        first-delay = delay-first (columns z) (rows z) from route;
+        next-delay = delay-next (columns z) (rows z) from route;
+        last-delay = slot-travel schedule cycle circuit s;
         rule10 = λ k e.
-            let ends = slot-ends z g schedule (s .schedule-inside) cycle circuit (s .begins) in
-            omega (arith, same, ends, delay-is w (suc hops) (omega arith));
+            let last : k ≡ hops = omega (arith, same) in
+            omega (
+              arith,
+              slot-ends z g schedule (s .schedule-inside) cycle circuit (s .begins),
+              entry-last-delay z (slotEntry z schedule cycle circuit) led,
+              ap (courseAt z schedule cycle circuit .delay) last,
+            );
       }
 
   module _ (r : rule11 z ≡ true) where
@@ -96,7 +119,7 @@ module _ (z : List ℕ) (g : Routed z) where
         slots-apart z g schedule (s .schedule-inside) r cycle circuit cycle′ circuit′ (s .begins) (s′ .begins) (suc k) (suc k′) j j′
         (shared-output z (slotEntry z schedule cycle circuit) (slotEntry z schedule cycle′ circuit′) k k′ j j′ w w′ (omega arith)
         (omega arith) jl jl′ n o
-        (omega (arith, t, delay-is (w .along) (suc k) (omega arith), delay-is (w′ .along) (suc k′) (omega arith)))) in
+        (omega (arith, t, w .along .output-delay k (omega arith), w′ .along .output-delay k′ (omega arith)))) in
         (a .0, a .1, omega (arith, a .2))
 
     source-apart : (schedule cycle cycle′ circuit circuit′ j j′ : ℕ)
@@ -116,13 +139,13 @@ module _ (z : List ℕ) (g : Routed z) where
 pub ways-of : (z : List ℕ) → verdict z ≡ 0 → Ways z
 ways-of z e = record {
   routers = routersOf z;
-  travel = travelOf z;
+  travel = flightCycles z;
   course = courseAt z;
   leads = slot-leads z (routed z e);
   rule11 = output-apart z (routed z e) (passed z e .rule11-kept);
   rule11-source = source-apart z (routed z e) (passed z e .rule11-kept);
 }
 
-pub travel-is : (z : List ℕ) (e : verdict z ≡ 0) (circuit : ℕ) → ways-of z e .travel circuit ≡ travelOf z circuit
+pub travel-is : (z : List ℕ) (e : verdict z ≡ 0) (circuit : ℕ) → ways-of z e .travel circuit ≡ flightCycles z circuit
 unfolding ways-of
 travel-is z e circuit = refl

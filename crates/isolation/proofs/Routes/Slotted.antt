@@ -1,35 +1,25 @@
 -- A slot that begins in a cycle is an entry of its schedule: what rules 4, 7, 9, 10 and 11 say, by schedule, cycle and circuit.
 -- Assumes nothing.
-use Prim.Native.Nat.{ℕ, zero, suc, _+_, _-_, _<_, _≤_}
+use Prim.Native.Nat.{ℕ, suc, _+_, _-_, _<_, _≤_}
 use mathlib.Core.Bool.{Bool, true, false, false≢true}
 use mathlib.Core.List.{List}
 use mathlib.Core.Path.{_≡_, refl, sym, _∙_, ap, subst}
 use native.Mathlib.Omega.{arith}
-use Rattle.words.specs.Tests.{_=?_, _≠?_, _<?_}
-use Rattle.words.specs.Words.{pick, lastOf}
-use Rattle.words.proofs.TestLaws.{and-left, and-right, yes=, no≠, is=}
+use Rattle.words.specs.Tests.{_=?_, _<?_}
+use Rattle.words.proofs.TestLaws.{and-left, and-right, yes=, is=, is≠}
 use Rattle.words.proofs.AllLaws.{all-at}
-use Rattle.words.proofs.WordLaws.{lastOf-le}
+use Rattle.words.proofs.WordLaws.{lastOf-le, lastOf-passes}
+use Rattle.torus.specs.Inner.Delays.{lastDelay}
 use Rattle.sheet.specs.declared.circuits.Circuit.{Circuit}
 use Rattle.sheet.specs.declared.entries.Entry.{Entry}
 use Rattle.sheet.specs.Sheet.{memoryWords, circuits, nodes, schedules, circuitAt, period, entriesOf, entryCount, entryAt}
 use Rattle.sheet.specs.Slots.{beginsAt, entryBeginning, slotLength, slotRoute, sourceOf, destinationOf}
-use Rattle.sheet.specs.Rules.{circuitFits, rule4, rule11}
+use Rattle.sheet.specs.Rules.{circuitFits, rule4, entryRoute, rule11}
 use Rattle.sheet.specs.Inner.Passed.{Routed, EntrySmall}
 use Rattle.sheet.proofs.PassedLaws.{entry-small}
-use Rattle.isolation.proofs.Routes.Way.{delayAt, hops-some}
-use Rattle.isolation.proofs.Routes.Apart.{entryUses, entryHops, EntryWay, entry-way, entry-ends, Shared, shared-same}
-
--- where some number passes, the last one does
-last-passes : (test : ℕ → Bool) (n : ℕ) → (lastOf n test ≡ 0 → ⊥) → test (lastOf n test - 1) ≡ true
-unfolding lastOf
-last-passes test zero h = absurd (h refl)
-last-passes test (suc n) h = go (test n) refl h (last-passes test n)
-  where
-    go : (b : Bool) → test n ≡ b → (pick b (suc n) (lastOf n test) ≡ 0 → ⊥) → ((lastOf n test ≡ 0 → ⊥) → test (lastOf n test - 1) ≡ true)
-        → test (pick b (suc n) (lastOf n test) - 1) ≡ true
-    go true e ne r = ap test (let z : suc n - 1 ≡ n = omega arith in z) ∙ e
-    go false e ne r = r ne
+use Rattle.sheet.proofs.TimeLaws.{entry-in-time}
+use Rattle.isolation.proofs.Routes.Way.{hops-some}
+use Rattle.isolation.proofs.Routes.Apart.{entryHops, EntryWay, entry-way, Shared, shared-same}
 
 -- the entry of a slot: in a schedule, the cycle in which it begins, its circuit
 unfoldable pub slotEntry : List ℕ → ℕ → ℕ → ℕ → Entry
@@ -37,7 +27,7 @@ slotEntry z j cycle circuit =
     record { offset = cycle; size = slotLength z j cycle circuit; circuit = circuit; route = slotRoute z j cycle circuit }
 
 -- its number in the schedule
-pub record Slot (z : List ℕ) (j cycle circuit : ℕ) : Type 0 where
+pub record SlotFound (z : List ℕ) (j cycle circuit : ℕ) : Type 0 where
   pub place : ℕ
   pub listed : place < entryCount (entriesOf z j)
   pub entry-is : entryAt (entriesOf z j) place ≡ slotEntry z j cycle circuit
@@ -47,16 +37,16 @@ made-of : (e : Entry) (offset size circuit route : ℕ) → e .offset ≡ offset
 made-of e offset size circuit route a b c d = rw (sym a, sym b, sym c, sym d) refl
 
 -- a slot with a length is an entry
-pub slot : (z : List ℕ) (j cycle circuit : ℕ) → 0 < slotLength z j cycle circuit → Slot z j cycle circuit
+pub slot : (z : List ℕ) (j cycle circuit : ℕ) → 0 < slotLength z j cycle circuit → SlotFound z j cycle circuit
 unfolding slotLength slotRoute slotEntry entryBeginning beginsAt
 slot z j cycle circuit h = go (entryBeginning z j cycle circuit =? 0) refl
   where
-    go : (b : Bool) → (entryBeginning z j cycle circuit =? 0) ≡ b → Slot z j cycle circuit
+    go : (b : Bool) → (entryBeginning z j cycle circuit =? 0) ≡ b → SlotFound z j cycle circuit
     go true q = absurd (let y = rw q at h in omega arith)
     go false q =
         let k = entryBeginning z j cycle circuit in
         let some : k ≡ 0 → ⊥ = λ e. false≢true (sym q ∙ yes= e) in
-        let p = last-passes (beginsAt z j cycle circuit) (entryCount (entriesOf z j)) some in
+        let p = lastOf-passes (beginsAt z j cycle circuit) (entryCount (entriesOf z j)) some in
         record {
           place = k - 1;
           listed = omega (arith, lastOf-le (beginsAt z j cycle circuit) (entryCount (entriesOf z j)), some);
@@ -67,9 +57,6 @@ slot z j cycle circuit h = go (entryBeginning z j cycle circuit =? 0) refl
         }
 
 -- number 4: a circuit's source and destination differ
-is≠ : (a b : ℕ) → (a ≠? b) ≡ true → a ≡ b → ⊥
-is≠ a b h e = false≢true (sym (no≠ e) ∙ h)
-
 fits-differ : (count memory : ℕ) (c : Circuit) → circuitFits count memory c ≡ true → c .read .node ≡ c .receive .node → ⊥
 unfolding circuitFits
 fits-differ count memory c h =
@@ -84,7 +71,7 @@ ends-differ z h circuit l =
 
 module _ (z : List ℕ) (g : Routed z) (j : ℕ) (jl : j < schedules z) where
   module _ (cycle circuit : ℕ) (h : 0 < slotLength z j cycle circuit) where
-    abbrev found : Slot z j cycle circuit
+    abbrev found : SlotFound z j cycle circuit
     found = slot z j cycle circuit h
 
     -- rules 4 and 7 at a slot
@@ -96,12 +83,11 @@ module _ (z : List ℕ) (g : Routed z) (j : ℕ) (jl : j < schedules z) where
     slot-way = subst (EntryWay z) (found .entry-is) (entry-way z (g .routes-lead) j jl (found .place) (found .listed))
 
     -- number 10
-    pub slot-ends : cycle + slotLength z j cycle circuit
-        + delayAt (entryUses z (slotEntry z j cycle circuit)) (suc (entryHops z (slotEntry z j cycle circuit))) ≤ period z j + 6
+    pub slot-ends : cycle + lastDelay (entryRoute z (slotEntry z j cycle circuit)) + slotLength z j cycle circuit ≤ period z j + 6
     unfolding slotEntry
     slot-ends =
-        subst (λ (e : Entry). e .offset + e .size + delayAt (entryUses z e) (suc (entryHops z e)) ≤ period z j + 6) (found .entry-is)
-        (entry-ends z g j jl (found .place) (found .listed))
+        subst (λ (e : Entry). e .offset + lastDelay (entryRoute z e) + e .size ≤ period z j + 6) (found .entry-is)
+        (entry-in-time z g j jl (found .place) (found .listed))
 
     -- a slot's packet leaves its source's node
     pub slot-far : 1 ≤ entryHops z (slotEntry z j cycle circuit)

@@ -1,6 +1,6 @@
 -- Along a route that leads somewhere, router by router: node, input and output there, the wire and delay of each use, and the header.
 -- Assumes nothing.
-use Prim.Native.Nat.{ℕ, zero, suc, _+_, _*_, _/_, _%_, _<_, _≤_}
+use Prim.Native.Nat.{ℕ, zero, suc, _+_, _*_, _<_, _≤_}
 use mathlib.Core.Bool.{Bool, true, false}
 use mathlib.Core.List.{List, [], _∷_}
 use mathlib.Core.Path.{_≡_, refl, sym, _∙_, ap, ap₂, subst}
@@ -13,23 +13,21 @@ use Rattle.words.specs.Tests.{_=?_}
 use Rattle.words.specs.Words.{pick}
 use Rattle.words.proofs.TestLaws.{yes=, no=}
 use Rattle.packet.specs.Header.{kindOf, addressOf, routeOf, firstCode, laterCodes, shiftedWord}
-use Rattle.torus.specs.Torus.{InGrid, neighbourOf, oppositeOf}
-use Rattle.torus.specs.Route.{Wire, source, side, memory, Use, Route, leads, nowhere, outputOf, ending, overSide, fromSource, follow, routeFrom, routerCycles, codes, noSide}
+use Rattle.packet.proofs.HeaderLaws.{shifted-kind, shifted-address}
+use Rattle.torus.specs.Torus.{neighbourOf, oppositeOf}
+use Rattle.torus.specs.Inner.Grid.{InGrid}
+use Rattle.torus.specs.Route.{Wire, source, side, memory, Use, Route, leads, nowhere, outputOf, ending, overSide, fromSource, follow, routeFrom, routerCycles, hopCycles, codes, noSide}
+use Rattle.torus.specs.Inner.Delays.{delayAt}
 use Rattle.torus.proofs.RouteLaws.{next-inside, side-small, follow-memory, follow-side}
 use Rattle.torus.proofs.NeighbourLaws.{neighbour-back, opposite-side, opposite-back}
 use Rattle.network.specs.View.{sourceInput, memoryOutput}
 use Rattle.network.specs.Cycle.{outputFor}
 
--- the wire of use k of a list of uses, and its delay: 0 past the end
+-- the wire of use k of a list of uses
 unfoldable pub wireAt : List Use → ℕ → Wire
 wireAt [] k = source 0
 wireAt (u ∷ uses) zero = u .wire
 wireAt (u ∷ uses) (suc k) = wireAt uses k
-
-unfoldable pub delayAt : List Use → ℕ → ℕ
-delayAt [] k = 0
-delayAt (u ∷ uses) zero = u .delay
-delayAt (u ∷ uses) (suc k) = delayAt uses k
 
 -- the wire of a router's output
 unfoldable pub outputWire : ℕ → ℕ → Wire
@@ -46,8 +44,8 @@ unfoldable pub stopOutput : Stop → ℕ
 stopOutput stop = outputOf (stop .input) (firstCode (stop .codes))
 
 -- the next router, by a side output
-abbrev pub onward : ℕ → ℕ → Stop → Stop
-onward cols rows stop = record {
+abbrev pub nextStop : ℕ → ℕ → Stop → Stop
+nextStop cols rows stop = record {
   node = neighbourOf cols rows (stop .node) (stopOutput stop);
   input = oppositeOf (stopOutput stop);
   codes = laterCodes (stop .codes);
@@ -56,7 +54,12 @@ onward cols rows stop = record {
 -- the router after k steps
 unfoldable pub stopAfter : ℕ → ℕ → Stop → ℕ → Stop
 stopAfter cols rows stop zero = stop
-stopAfter cols rows stop (suc k) = onward cols rows (stopAfter cols rows stop k)
+stopAfter cols rows stop (suc k) = nextStop cols rows (stopAfter cols rows stop k)
+
+-- the cycles of those k hops
+unfoldable pub cyclesAfter : ℕ → ℕ → Stop → ℕ → ℕ
+cyclesAfter cols rows stop zero = 0
+cyclesAfter cols rows stop (suc k) = cyclesAfter cols rows stop k + hopCycles (stopOutput (stopAfter cols rows stop k))
 
 -- a header word after k routers
 unfoldable pub headerAfter : ℕ → ℕ → ℕ
@@ -72,17 +75,6 @@ unfolding headerAfter
 header-next k word = refl
 
 -- it keeps its kind and its address
-shifted-kind : (word : ℕ) → kindOf (shiftedWord word) ≡ kindOf word
-shifted-kind word = omega arith
-
-shifted-address : (word : ℕ) → addressOf (shiftedWord word) ≡ addressOf word
-shifted-address word =
-    let q : shiftedWord word / 65536 ≡ kindOf word * 16384 + addressOf word = omega arith in
-    ap (λ (n : ℕ). n % 16384) q ∙ back (kindOf word) (addressOf word) (omega arith)
-  where
-    back : (kind address : ℕ) → address < 16384 → (kind * 16384 + address) % 16384 ≡ address
-    back kind address l = omega arith
-
 pub header-kind : (k word : ℕ) → kindOf (headerAfter k word) ≡ kindOf word
 unfolding headerAfter
 header-kind zero word = refl
@@ -104,29 +96,35 @@ wire-side node output l = rw (no= {a = output} {b = 4} (λ e. let z : ⊥ = omeg
 
 module _ (cols rows : ℕ) where
   -- the first step may be taken first
-  step-first : (stop : Stop) (k : ℕ) → stopAfter cols rows (onward cols rows stop) k ≡ stopAfter cols rows stop (suc k)
+  step-first : (stop : Stop) (k : ℕ) → stopAfter cols rows (nextStop cols rows stop) k ≡ stopAfter cols rows stop (suc k)
   unfolding stopAfter
   step-first stop zero = refl
-  step-first stop (suc k) = ap (onward cols rows) (step-first stop k)
+  step-first stop (suc k) = ap (nextStop cols rows) (step-first stop k)
+
+  cycles-first : (stop : Stop) (k : ℕ)
+      → hopCycles (stopOutput stop) + cyclesAfter cols rows (nextStop cols rows stop) k ≡ cyclesAfter cols rows stop (suc k)
+  unfolding cyclesAfter stopAfter
+  cycles-first stop zero = omega arith
+  cycles-first stop (suc k) = omega (arith, cycles-first stop k, ap (λ (s : Stop). hopCycles (stopOutput s)) (step-first stop k))
 
   -- what holds from a router on, whose output has the given delay
-  record Led (stop : Stop) (delay : ℕ) (uses : List Use) (end hops : ℕ) : Type 0 where
+  record WayLed (stop : Stop) (delay : ℕ) (uses : List Use) (end hops : ℕ) : Type 0 where
     counted : length uses ≡ hops + 1
     sides : (k : ℕ) → k < hops → stopOutput (stopAfter cols rows stop k) < 4
     last-out : stopOutput (stopAfter cols rows stop hops) ≡ memoryOutput
     arrives : stopAfter cols rows stop hops .node ≡ end
     wires : (k : ℕ) → k ≤ hops
         → wireAt uses k ≡ outputWire (stopAfter cols rows stop k .node) (stopOutput (stopAfter cols rows stop k))
-    delays : (k : ℕ) → k ≤ hops → delayAt uses k ≡ delay + routerCycles * k
+    delays : (k : ℕ) → k ≤ hops → delayAt uses k ≡ delay + cyclesAfter cols rows stop k
 
   -- and nothing where the route leads nowhere
-  abbrev Followed : Stop → ℕ → Route → Type 0
-  Followed stop delay (leads uses end hops) = Led stop delay uses end hops
-  Followed stop delay nowhere = Unit {0}
+  abbrev WayFollowed : Stop → ℕ → Route → Type 0
+  WayFollowed stop delay (leads uses end hops) = WayLed stop delay uses end hops
+  WayFollowed stop delay nowhere = Unit {0}
 
   followed-out : (stop : Stop) (delay : ℕ) → stopOutput stop ≡ memoryOutput → (b : Bool)
-      → Followed stop delay (ending b (stop .node) delay)
-  unfolding stopAfter wireAt delayAt
+      → WayFollowed stop delay (ending b (stop .node) delay)
+  unfolding stopAfter cyclesAfter wireAt delayAt
   followed-out stop delay e true = record {
     counted = refl;
     sides = λ k l. absurd (omega arith);
@@ -141,14 +139,15 @@ module _ (cols rows : ℕ) where
       wires zero l = sym (wire-memory (stop .node) (stopOutput stop) e)
       wires (suc k) l = absurd (omega arith)
 
-      delays : (k : ℕ) → k ≤ 0 → delayAt (record { wire = memory (stop .node); delay = delay } ∷ []) k ≡ delay + 3 * k
+      delays : (k : ℕ) → k ≤ 0 → delayAt (record { wire = memory (stop .node); delay = delay } ∷ []) k
+          ≡ delay + cyclesAfter cols rows stop k
       delays zero l = omega arith
       delays (suc k) l = absurd (omega arith)
   followed-out stop delay e false = tt
 
-  followed-on : (stop : Stop) (delay : ℕ) → stopOutput stop < 4 → (r : Route) → Followed (onward cols rows stop) (delay + routerCycles) r
-      → Followed stop delay (overSide (record { wire = side (stop .node) (stopOutput stop); delay = delay }) r)
-  unfolding stopAfter wireAt delayAt
+  followed-on : (stop : Stop) (delay : ℕ) → stopOutput stop < 4 → (r : Route) → WayFollowed (nextStop cols rows stop) (delay + hopCycles (stopOutput stop)) r
+      → WayFollowed stop delay (overSide (record { wire = side (stop .node) (stopOutput stop); delay = delay }) r)
+  unfolding stopAfter cyclesAfter wireAt delayAt
   followed-on stop delay l (leads uses end hops) f = record {
     counted = omega (arith, f .counted);
     sides = sides;
@@ -168,36 +167,37 @@ module _ (cols rows : ℕ) where
       wires (suc k) h = f .wires k (omega arith) ∙ ap (λ (s : Stop). outputWire (s .node) (stopOutput s)) (step-first stop k)
 
       delays : (k : ℕ) → k ≤ hops + 1
-          → delayAt (record { wire = side (stop .node) (stopOutput stop); delay = delay } ∷ uses) k ≡ delay + routerCycles * k
+          → delayAt (record { wire = side (stop .node) (stopOutput stop); delay = delay } ∷ uses) k ≡ delay + cyclesAfter cols rows stop k
       delays zero h = omega arith
-      delays (suc k) h = omega (arith, f .delays k (omega arith))
+      delays (suc k) h = omega (arith, f .delays k (omega arith), cycles-first stop k)
   followed-on stop delay l nowhere f = tt
 
   abbrev followAt : ℕ → Stop → ℕ → Route
   followAt left stop delay = follow left cols rows (stop .node) (stop .input) delay (stop .codes)
 
-  followed : (left : ℕ) (stop : Stop) (delay : ℕ) → Followed stop delay (followAt left stop delay)
+  followed : (left : ℕ) (stop : Stop) (delay : ℕ) → WayFollowed stop delay (followAt left stop delay)
   unfolding follow stopOutput
   followed zero stop delay = tt
   followed (suc left) stop delay =
-      go (ℕ-discrete (stopOutput stop) memoryOutput) (followed left (onward cols rows stop) (delay + routerCycles))
+      go (ℕ-discrete (stopOutput stop) memoryOutput) (followed left (nextStop cols rows stop) (delay + hopCycles (stopOutput stop)))
     where
       go : Dec (stopOutput stop ≡ memoryOutput)
-          → Followed (onward cols rows stop) (delay + routerCycles) (followAt left (onward cols rows stop) (delay + routerCycles))
-          → Followed stop delay (followAt (suc left) stop delay)
+          → WayFollowed (nextStop cols rows stop) (delay + hopCycles (stopOutput stop))
+          (followAt left (nextStop cols rows stop) (delay + hopCycles (stopOutput stop)))
+          → WayFollowed stop delay (followAt (suc left) stop delay)
       go (yes e) r =
-          subst (Followed stop delay) (sym (follow-memory cols rows (stop .node) (stop .input) delay (stop .codes) left e))
+          subst (WayFollowed stop delay) (sym (follow-memory cols rows (stop .node) (stop .input) delay (stop .codes) left e))
           (followed-out stop delay e (laterCodes (stop .codes) =? 0))
       go (no ne) r =
-          subst (Followed stop delay) (sym (follow-side cols rows (stop .node) (stop .input) delay (stop .codes) left ne))
+          subst (WayFollowed stop delay) (sym (follow-side cols rows (stop .node) (stop .input) delay (stop .codes) left ne))
           (followed-on stop delay (side-small (stop .input) (firstCode (stop .codes)) (mod-lt (stop .codes) (omega arith)) ne)
-          (followAt left (onward cols rows stop) (delay + routerCycles)) r)
+          (followAt left (nextStop cols rows stop) (delay + hopCycles (stopOutput stop))) r)
 
 -- a packet at its first router, which it enters from the source
 abbrev pub startOf : ℕ → ℕ → Stop
 startOf from route = record { node = from; input = sourceInput; codes = route }
 
--- the way of a route from a node: node, input and output of router k
+-- the way of a route from a node: node, input and output of router k, and the cycles from the source's wire to its input's wire
 unfoldable pub wayNode : ℕ → ℕ → ℕ → ℕ → ℕ → ℕ
 wayNode cols rows from route k = stopAfter cols rows (startOf from route) k .node
 
@@ -207,6 +207,9 @@ wayInput cols rows from route k = stopAfter cols rows (startOf from route) k .in
 unfoldable pub wayOutput : ℕ → ℕ → ℕ → ℕ → ℕ → ℕ
 wayOutput cols rows from route k = stopOutput (stopAfter cols rows (startOf from route) k)
 
+unfoldable pub wayDelay : ℕ → ℕ → ℕ → ℕ → ℕ → ℕ
+wayDelay cols rows from route k = cyclesAfter cols rows (startOf from route) k
+
 -- the uses of a route along its way, and where it ends
 pub record Way (cols rows from route : ℕ) (uses : List Use) (end hops : ℕ) : Type 0 where
   pub counted : length uses ≡ hops + 2
@@ -214,7 +217,7 @@ pub record Way (cols rows from route : ℕ) (uses : List Use) (end hops : ℕ) :
   pub source-delay : delayAt uses 0 ≡ 0
   pub output-wire : (k : ℕ) → k ≤ hops
       → wireAt uses (suc k) ≡ outputWire (wayNode cols rows from route k) (wayOutput cols rows from route k)
-  pub output-delay : (k : ℕ) → k ≤ hops → delayAt uses (suc k) ≡ delayAt uses k + routerCycles
+  pub output-delay : (k : ℕ) → k ≤ hops → delayAt uses (suc k) ≡ wayDelay cols rows from route k + routerCycles
   pub side-output : (k : ℕ) → k < hops → wayOutput cols rows from route k < 4
   pub memory-output : wayOutput cols rows from route hops ≡ memoryOutput
   pub arrives : wayNode cols rows from route hops ≡ end
@@ -239,6 +242,15 @@ module _ (cols rows from route : ℕ) where
   unfolding wayInput wayOutput stopAfter
   input-next k = refl
 
+  -- the delay is the sum of the hops' cycles
+  pub delay-first : wayDelay cols rows from route 0 ≡ 0
+  unfolding wayDelay cyclesAfter
+  delay-first = refl
+
+  pub delay-next : (k : ℕ) → wayDelay cols rows from route (suc k) ≡ wayDelay cols rows from route k + hopCycles (wayOutput cols rows from route k)
+  unfolding wayDelay wayOutput cyclesAfter
+  delay-next k = refl
+
   -- over nodes of the grid
   pub way-inside : InGrid cols rows from → (k : ℕ) → InGrid cols rows (wayNode cols rows from route k)
   unfolding wayNode wayOutput stopAfter
@@ -262,27 +274,23 @@ module _ (cols rows from route : ℕ) where
       (header-codes word e k)
 
   -- where a route leads, that is its way
-  abbrev Leading : Route → Type 0
-  Leading (leads uses end hops) = Way cols rows from route uses end hops
-  Leading nowhere = Unit {0}
+  abbrev LeadingWay : Route → Type 0
+  LeadingWay (leads uses end hops) = Way cols rows from route uses end hops
+  LeadingWay nowhere = Unit {0}
 
-  leading : (r : Route) → Followed cols rows (startOf from route) routerCycles r
-      → Leading (fromSource (record { wire = source from; delay = 0 }) r)
-  unfolding wayNode wayOutput wireAt delayAt
+  leading : (r : Route) → WayFollowed cols rows (startOf from route) routerCycles r
+      → LeadingWay (fromSource (record { wire = source from; delay = 0 }) r)
+  unfolding wayNode wayOutput wayDelay wireAt delayAt
   leading (leads uses end hops) f = record {
     counted = omega (arith, f .counted);
     source-wire = refl;
     source-delay = refl;
     output-wire = f .wires;
-    output-delay = delays;
+    output-delay = λ k l. omega (arith, f .delays k l);
     side-output = f .sides;
     memory-output = f .last-out;
     arrives = f .arrives;
   }
-    where
-      delays : (k : ℕ) → k ≤ hops → delayAt uses k ≡ delayAt (record { wire = source from; delay = 0 } ∷ uses) k + routerCycles
-      delays zero l = omega (arith, f .delays 0 l)
-      delays (suc k) l = omega (arith, f .delays (suc k) l, f .delays k (omega arith))
   leading nowhere f = tt
 
   -- a route that leads somewhere leads along its way
@@ -290,7 +298,7 @@ module _ (cols rows from route : ℕ) where
       → Way cols rows from route uses end hops
   unfolding routeFrom
   way uses end hops e =
-      subst Leading e
+      subst LeadingWay e
       (leading (follow codes cols rows from noSide routerCycles route) (followed cols rows codes (startOf from route) routerCycles))
 
 module _ {cols rows from route : ℕ} {uses : List Use} {end hops : ℕ} (w : Way cols rows from route uses end hops) where
@@ -302,11 +310,6 @@ module _ {cols rows from route : ℕ} {uses : List Use} {end hops : ℕ} (w : Wa
   -- and the memory output at the end
   pub memory-wire : wireAt uses (suc hops) ≡ memory end
   memory-wire = w .output-wire hops (omega arith) ∙ wire-memory _ _ (w .memory-output) ∙ ap memory (w .arrives)
-
-  -- three cycles a router
-  pub delay-is : (k : ℕ) → k ≤ hops + 1 → delayAt uses k ≡ routerCycles * k
-  delay-is zero l = omega (arith, w .source-delay)
-  delay-is (suc k) l = omega (arith, w .output-delay k (omega arith), delay-is k (omega arith))
 
   -- a packet leaves its source's node, where its end is another
   pub hops-some : (from ≡ end → ⊥) → 1 ≤ hops

@@ -18,7 +18,11 @@ slice-aggregate-write-part c = search needs
 
 write-part-requires : tie.Need-write-part-requires
 unfolding tooLarge
-write-part-requires c κs = line-has _ (message-stops _ _ refl (sym (c .before .before .before .before .input-message .ensures) ∙ c .before .before .enum-told .given .1)) (c .before .before .before .before .before .before .pre)
+write-part-requires c κs =
+    let at-enum-told = c .before .before in
+    let at-input-message = at-enum-told .before .before in
+    let entry = at-input-message .before .before in
+    line-has _ (message-stops _ _ refl (sym (at-input-message .input-message .ensures) ∙ at-enum-told .enum-told .given .1)) (entry .pre)
 
 enum-told-2 : tie.Need-enum-told-2
 enum-told-2 c = search needs
@@ -28,13 +32,21 @@ slice-aggregate-write-part-2 c = search needs
 
 write-part-requires-2 : tie.Need-write-part-requires-2
 unfolding inputEnds
-write-part-requires-2 c κs = line-has _ (message-stops _ _ refl (sym (c .before .before .before .before .input-message .ensures) ∙ c .before .before .enum-told2 .given .1)) (c .before .before .before .before .before .before .pre)
+write-part-requires-2 c κs =
+    let at-enum-told2 = c .before .before in
+    let at-input-message = at-enum-told2 .before .before in
+    let entry = at-input-message .before .before in
+    line-has _ (message-stops _ _ refl (sym (at-input-message .input-message .ensures) ∙ at-enum-told2 .enum-told2 .given .1)) (entry .pre)
 
 enum-known-n : tie.Need-enum-known-n
 enum-known-n c = search needs
 
 print-refused-requires : tie.Need-print-refused-requires
-print-refused-requires c κs = (message-stops _ _ refl (sym (c .before .before .before .before .input-message .ensures) ∙ c .before .before .n .given .1), c .before .before .before .before .before .before .pre)
+print-refused-requires c κs =
+    let at-n = c .before .before in
+    let at-input-message = at-n .before .before in
+    let entry = at-input-message .before .before in
+    line-has _ (message-stops _ _ refl (sym (at-input-message .input-message .ensures) ∙ at-n .n .given .1)) (entry .pre)
 
 enum-told-3 : tie.Need-enum-told-3
 enum-told-3 c = search needs
@@ -44,14 +56,29 @@ run-input-requires c κs = (sym (c .before .before .before .input-message .ensur
 
 returns : tie.Need-returns
 unfolding tooLarge
-returns c = line-done _ (message-stops _ _ refl (sym (c .before .before .before .before .before .input-message .ensures) ∙ c .before .before .before .enum-told .given .1)) (c .before .before .before .before .before .before .before .pre) (c .write-part .ensures)
+returns c =
+    let at-enum-told = c .before .before .before in
+    let at-input-message = at-enum-told .before .before in
+    let entry = at-input-message .before .before in
+    line-done _ (message-stops _ _ refl (sym (at-input-message .input-message .ensures) ∙ at-enum-told .enum-told .given .1)) (entry .pre)
+    (c .write-part .ensures)
 
 returns-2 : tie.Need-returns-2
 unfolding inputEnds
-returns-2 c = line-done _ (message-stops _ _ refl (sym (c .before .before .before .before .before .input-message .ensures) ∙ c .before .before .before .enum-told2 .given .1)) (c .before .before .before .before .before .before .before .pre) (c .write-part2 .ensures)
+returns-2 c =
+    let at-enum-told2 = c .before .before .before in
+    let at-input-message = at-enum-told2 .before .before in
+    let entry = at-input-message .before .before in
+    line-done _ (message-stops _ _ refl (sym (at-input-message .input-message .ensures) ∙ at-enum-told2 .enum-told2 .given .1)) (entry .pre)
+    (c .write-part2 .ensures)
 
 returns-3 : tie.Need-returns-3
-returns-3 c = c .print-refused .ensures
+returns-3 c =
+    let at-n = c .before .before .before in
+    let at-input-message = at-n .before .before in
+    let entry = at-input-message .before .before in
+    line-done _ (message-stops _ _ refl (sym (at-input-message .input-message .ensures) ∙ at-n .n .given .1)) (entry .pre)
+    (c .print-refused .ensures)
 
 returns-4 : tie.Need-returns-4
 returns-4 c = c .run-input .ensures

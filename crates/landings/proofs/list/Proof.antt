@@ -14,14 +14,17 @@ slice-aggregate-write-part c = refl
 
 write-part-requires : tie.Need-write-part-requires
 unfolding heading
-write-part-requires c κs = heading-has _ (c .before .before .before .before .before .pre .0) (c .before .before .before .before .before .pre .4)
+write-part-requires c κs = heading-has _ (c .before .before .before .before .before .pre .0 .runs) (c .before .before .before .before .before .pre .1)
 
 slice-aggregate-write-pages : tie.Need-slice-aggregate-write-pages
 slice-aggregate-write-pages c = sym (length-replicate {A = ℕ} 65536 0)
 
 write-pages-requires : tie.Need-write-pages-requires
 unfolding heading
-write-pages-requires c κs = (c .before .before .before .before .before .before .before .before .before .before .pre .0, c .before .before .before .before .before .before .before .before .before .before .pre .1, c .before .before .before .before .before .before .before .before .before .before .pre .2, c .before .before .before .before .before .before .before .before .before .before .pre .3, omega (arith, c .before .before .before .before .write-part .ensures, c .before .before .before .before .before .before .before .before .before .before .pre .4), length-replicate {A = ℕ} 65536 0)
+write-pages-requires c κs =
+    let at-write-part = c .before .before .before .before in
+    let entry = at-write-part .before .before .before .before .before .before in
+    (entry .pre .0, omega (arith, at-write-part .write-part .ensures, entry .pre .1), length-replicate {A = ℕ} 65536 0)
 
 same-length : tie.Need-same-length
 same-length c = omega arith

@@ -1,8 +1,10 @@
 -- `landings::run_input` meets its contract: the input's sheet fits in the room.
 -- Assumes nothing.
-use Rattle.landings.proofs.MessageLaws.{whole, part-length}
+use Rattle.landings.proofs.MessageLaws.{whole}
+use Rattle.words.proofs.WordLaws.{length-zeros}
 use native.Mathlib.Omega.{arith}
 use mathlib.Core.Path.{sym, _∙_}
+use Rattle.sheet.specs.Sheet.{sheetWords}
 use borrow.Author.Needs.{needs}
 use Rattle.landings.proofs.run_input.Statement.{statement}
 use Rattle.landings.proofs.run_input.Tie as tie
@@ -17,10 +19,17 @@ array-borrow-prefix-sheet : tie.Need-array-borrow-prefix-sheet
 array-borrow-prefix-sheet c = omega (arith, c .before .word-in .ensures, whole _ (c .before .before .before .pre .0) .small-sheet)
 
 slice-aggregate-run : tie.Need-slice-aggregate-run
-slice-aggregate-run c = sym (part-length _ 8597 (omega (arith, c .before .before .word-in .ensures, whole _ (c .before .before .before .before .pre .0) .small-sheet)))
+slice-aggregate-run c = sym (length-zeros _ sheetWords (omega (arith, c .before .before .word-in .ensures, whole _ (c .before .before .before .before .pre .0) .small-sheet)))
 
 run-requires : tie.Need-run-requires
-run-requires c κs = (c .before .before .before .before .pre .0, part-length _ 8597 (omega (arith, c .before .before .word-in .ensures, whole _ (c .before .before .before .before .pre .0) .small-sheet)) ∙ c .before .before .word-in .ensures, c .before .before .before .before .pre .1)
+run-requires c κs =
+    let at-word-in = c .before .before in
+    let entry = at-word-in .before .before in (
+      entry .pre .0,
+      length-zeros _ sheetWords (omega (arith, at-word-in .word-in .ensures, whole _ (entry .pre .0) .small-sheet)) ∙
+          at-word-in .word-in .ensures,
+      entry .pre .1,
+    )
 
 returns : tie.Need-returns
 returns c = c .before .run .ensures .0

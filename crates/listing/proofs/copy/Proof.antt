@@ -2,7 +2,7 @@
 -- Assumes nothing.
 use native.Mathlib.Omega.{arith}
 use Prim.Native.Nat.{_-_}
-use Rattle.listing.proofs.TextLaws.{Copying, copy-start, copy-more, copy-done}
+use Rattle.listing.proofs.TextLaws.{Copying, copying-start, copying-more, copying-done}
 use Rattle.listing.proofs.copy.Statement.{statement}
 use Rattle.listing.proofs.copy.Tie as tie
 
@@ -13,7 +13,7 @@ abbrev μ-loop : tie.MeasureT-loop
 μ-loop text count buffer₀ at k₀ buffer k = count - k
 
 loop-holds : tie.Need-loop-holds Inv-loop μ-loop
-loop-holds c = copy-start _ _ _ _
+loop-holds c = copying-start _ _ _ _
 
 element-copy-out-buffer : tie.Need-element-copy-out-buffer Inv-loop μ-loop
 element-copy-out-buffer c = omega arith
@@ -31,13 +31,13 @@ loop-less : tie.Need-loop-less Inv-loop μ-loop
 loop-less c = omega arith
 
 loop-again : tie.Need-loop-again Inv-loop μ-loop
-loop-again c = copy-more _ _ _ _ _ _ (c .before .before .loop .inv) (c .before .before .before .pre .1) (c .before .loop-test .taken)
+loop-again c = copying-more _ _ _ _ _ _ (c .before .before .loop .inv) (c .before .before .before .pre .1) (c .before .loop-test .taken)
 
 same-length : tie.Need-same-length Inv-loop μ-loop
 same-length c = c .before .loop .inv .long
 
 returns : tie.Need-returns Inv-loop μ-loop
-returns c = copy-done _ _ _ _ _ _ (c .before .loop .inv) (omega arith)
+returns c = copying-done _ _ _ _ _ _ (c .before .loop .inv) (omega arith)
 
 pub copy-spec : {M : Type 1} → statement M
 copy-spec =

@@ -10,7 +10,13 @@ decimal-requires : tie.Need-decimal-requires
 decimal-requires c κs = search needs
 
 copy-requires : tie.Need-copy-requires
-copy-requires c κs = (fewest-few _ _ (omega arith) (c .before .before .decimal .ensures .1 .0), c .before .before .decimal .ensures .0 .0, omega (arith, fewest-few _ _ (omega arith) (c .before .before .decimal .ensures .1 .0)))
+copy-requires c κs =
+    let at-decimal = c .before .before in (
+      fewest-few _ _ (omega arith) (at-decimal .decimal .ensures .1 .0),
+      at-decimal .decimal .ensures .0 .0,
+      omega
+          (arith, fewest-few _ _ (omega arith) (at-decimal .decimal .ensures .1 .0)),
+    )
 
 add-buffer : tie.Need-add-buffer
 add-buffer c = omega (arith, fewest-few _ _ (omega arith) (c .before .before .before .before .before .decimal .ensures .1 .0))
@@ -28,7 +34,14 @@ same-length : tie.Need-same-length
 same-length c = search needs
 
 returns : tie.Need-returns
-returns c = (field-place _ _ _ _ (omega arith) (c .before .before .before .before .before .decimal .ensures .1 .0) (c .before .before .before .before .before .decimal .ensures .1 .1) _, field-bytes _ _ _ _ (omega arith) (c .before .before .before .before .before .decimal .ensures .1 .0) (c .before .before .before .before .before .decimal .ensures .1 .1) _ _ _ (c .before .before .copy .ensures) (c .before .before .before .before .before .decimal .ensures .0 .0))
+returns c =
+    let at-copy = c .before .before in
+    let at-decimal = at-copy .before .before .before in (
+      field-place _ _ _ _ (omega arith) (at-decimal .decimal .ensures .1 .0) (at-decimal .decimal .ensures .1 .1) _,
+      field-bytes _ _ _ _
+          (omega arith) (at-decimal .decimal .ensures .1 .0) (at-decimal .decimal .ensures .1 .1) _ _ _ (at-copy .copy .ensures)
+          (at-decimal .decimal .ensures .0 .0),
+    )
 
 pub put-field-spec : {M : Type 1} → statement M
 put-field-spec =

@@ -13,21 +13,74 @@ put-field-requires-2 : tie.Need-put-field-requires-2
 put-field-requires-2 c κs = omega (arith, c .before .before .before .put-field .ensures .0, field-short (c .before .before .before .before .before .before .args .cycle) 32)
 
 put-field-requires-3 : tie.Need-put-field-requires-3
-put-field-requires-3 c κs = omega (arith, c .before .before .before .before .before .before .before .put-field .ensures .0, field-short (c .before .before .before .before .before .before .before .before .before .before .args .cycle) 32, c .before .before .before .put-field2 .ensures .0, field-short (c .before .before .before .before .before .before .before .before .before .before .args .node) 32)
+put-field-requires-3 c κs =
+    let at-put-field2 = c .before .before .before in
+    let at-put-field = at-put-field2 .before .before .before .before in
+    let entry = at-put-field .before .before .before in
+    omega (
+      arith,
+      at-put-field .put-field .ensures .0,
+      field-short (entry .args .cycle) 32,
+      at-put-field2 .put-field2 .ensures .0,
+      field-short (entry .args .node) 32,
+    )
 
 put-field-requires-4 : tie.Need-put-field-requires-4
-put-field-requires-4 c κs = omega (arith, c .before .before .before .before .before .before .before .before .before .before .before .put-field .ensures .0, field-short (c .before .before .before .before .before .before .before .before .before .before .before .before .before .before .args .cycle) 32, c .before .before .before .before .before .before .before .put-field2 .ensures .0, field-short (c .before .before .before .before .before .before .before .before .before .before .before .before .before .before .args .node) 32, c .before .before .before .put-field3 .ensures .0, field-short (c .before .before .before .before .before .before .before .before .before .before .before .before .before .before .args .address) 32)
+put-field-requires-4 c κs =
+    let at-put-field3 = c .before .before .before in
+    let at-put-field2 = at-put-field3 .before .before .before .before in
+    let at-put-field = at-put-field2 .before .before .before .before in
+    let entry = at-put-field .before .before .before in
+    omega (
+      arith,
+      at-put-field .put-field .ensures .0,
+      field-short (entry .args .cycle) 32,
+      at-put-field2 .put-field2 .ensures .0,
+      field-short (entry .args .node) 32,
+      at-put-field3 .put-field3 .ensures .0,
+      field-short (entry .args .address) 32,
+    )
 
 put-field-requires-5 : tie.Need-put-field-requires-5
-put-field-requires-5 c κs = omega (arith, c .before .before .before .before .before .before .before .before .before .before .before .before .before .before .before .put-field .ensures .0, field-short (c .before .before .before .before .before .before .before .before .before .before .before .before .before .before .before .before .before .before .args .cycle) 32, c .before .before .before .before .before .before .before .before .before .before .before .put-field2 .ensures .0, field-short (c .before .before .before .before .before .before .before .before .before .before .before .before .before .before .before .before .before .before .args .node) 32, c .before .before .before .before .before .before .before .put-field3 .ensures .0, field-short (c .before .before .before .before .before .before .before .before .before .before .before .before .before .before .before .before .before .before .args .address) 32, c .before .before .before .put-field4 .ensures .0, field-short (c .before .before .before .before .before .before .before .before .before .before .before .before .before .before .before .before .before .before .args .word) 32)
+put-field-requires-5 c κs =
+    let at-put-field4 = c .before .before .before in
+    let at-put-field3 = at-put-field4 .before .before .before .before in
+    let at-put-field2 = at-put-field3 .before .before .before .before in
+    let at-put-field = at-put-field2 .before .before .before .before in
+    let entry = at-put-field .before .before .before in
+    omega (
+      arith,
+      at-put-field .put-field .ensures .0,
+      field-short (entry .args .cycle) 32,
+      at-put-field2 .put-field2 .ensures .0,
+      field-short (entry .args .node) 32,
+      at-put-field3 .put-field3 .ensures .0,
+      field-short (entry .args .address) 32,
+      at-put-field4
+          .put-field4 .ensures .0,
+      field-short (entry .args .word) 32,
+    )
 
 same-length : tie.Need-same-length
 same-length c = search needs
 
 returns : tie.Need-returns
 returns c =
-    let a = c .before .before .before .before .before .before .before .before .before .before .before .before .before .before .before .before .before .before .before .before .before .args in
-    (line-place (a .at) (a .cycle) (a .node) (a .address) (a .word) (a .kind) (c .before .before .before .before .before .before .before .before .before .before .before .before .before .before .before .before .before .before .put-field .ensures .0) (c .before .before .before .before .before .before .before .before .before .before .before .before .before .before .put-field2 .ensures .0) (c .before .before .before .before .before .before .before .before .before .before .put-field3 .ensures .0) (c .before .before .before .before .before .before .put-field4 .ensures .0) (c .before .before .put-field5 .ensures .0), line-bytes (a .at) (a .cycle) (a .node) (a .address) (a .word) (a .kind) (c .before .before .before .before .before .before .before .before .before .before .before .before .before .before .before .before .before .before .put-field .ensures .0) (c .before .before .before .before .before .before .before .before .before .before .before .before .before .before .put-field2 .ensures .0) (c .before .before .before .before .before .before .before .before .before .before .put-field3 .ensures .0) (c .before .before .before .before .before .before .put-field4 .ensures .0) _ (c .before .before .before .before .before .before .before .before .before .before .before .before .before .before .before .before .before .before .put-field .ensures .1) (c .before .before .before .before .before .before .before .before .before .before .before .before .before .before .put-field2 .ensures .1) (c .before .before .before .before .before .before .before .before .before .before .put-field3 .ensures .1) (c .before .before .before .before .before .before .put-field4 .ensures .1) (c .before .before .put-field5 .ensures .1))
+    let at-put-field5 = c .before .before in
+    let at-put-field4 = at-put-field5 .before .before .before .before in
+    let at-put-field3 = at-put-field4 .before .before .before .before in
+    let at-put-field2 = at-put-field3 .before .before .before .before in
+    let at-put-field = at-put-field2 .before .before .before .before in
+    let entry = at-put-field .before .before .before in
+    let a = entry .args in (
+      line-place (a .at) (a .cycle) (a .node) (a .address) (a .word) (a .kind) (at-put-field .put-field .ensures .0)
+          (at-put-field2 .put-field2 .ensures .0) (at-put-field3 .put-field3 .ensures .0) (at-put-field4 .put-field4 .ensures .0)
+          (at-put-field5 .put-field5 .ensures .0),
+      line-bytes (a .at) (a .cycle) (a .node) (a .address) (a .word) (a .kind)
+          (at-put-field .put-field .ensures .0) (at-put-field2 .put-field2 .ensures .0) (at-put-field3 .put-field3 .ensures .0)
+          (at-put-field4 .put-field4 .ensures .0) _ (at-put-field .put-field .ensures .1) (at-put-field2 .put-field2 .ensures .1)
+          (at-put-field3 .put-field3 .ensures .1) (at-put-field4 .put-field4 .ensures .1) (at-put-field5 .put-field5 .ensures .1),
+    )
 
 pub put-line-spec : {M : Type 1} → statement M
 put-line-spec =

@@ -1,6 +1,6 @@
 -- `machine::prepare` meets its contract: each kind of fault is looked for, and where there is none all tables are those of the cycle.
 -- Assumes nothing.
-use Rattle.machine.proofs.PrepareLaws.{count-is, count-few, counted, own-paired, own-sendable, own-ascending, faulty-answer, tables}
+use Rattle.machine.proofs.PrepareLaws.{own-head, count-is, counted, own-paired, own-sendable, own-ascending, faulty-answer, tables}
 use mathlib.Core.Path.{sym, _∙_}
 use native.Mathlib.Omega.{arith}
 use Rattle.machine.proofs.FaultLaws.{fault-crossed, fault-unheld, fault-wires, fault-last}
@@ -11,17 +11,20 @@ use Rattle.machine.proofs.prepare.Tie as tie
 sheet-of-requires : tie.Need-sheet-of-requires
 sheet-of-requires c κs = search needs
 
-get-requires : tie.Need-get-requires
-get-requires c κs = search needs
-
-get-requires-2 : tie.Need-get-requires-2
-get-requires-2 c κs = search needs
-
-mul-nodes : tie.Need-mul-nodes
-mul-nodes c = omega (arith, count-few (c .before .before .before .before .before .before .before .before .before .before .pre .0) (c .before .before .sheet-of .ensures) (c .before .get .ensures) (c .get2 .ensures))
+nodes-of-requires : tie.Need-nodes-of-requires
+nodes-of-requires c κs = own-head (c .before .before .before .before .before .before .before .before .pre .0) (c .sheet-of .ensures)
 
 cross-requires : tie.Need-cross-requires
-cross-requires c κs = (count-is (c .before .before .before .before .before .before .before .before .before .before .before .before .pre .0) (c .before .before .before .before .sheet-of .ensures) (c .before .before .before .get .ensures) (c .before .before .get2 .ensures), count-few (c .before .before .before .before .before .before .before .before .before .before .before .before .pre .0) (c .before .before .before .before .sheet-of .ensures) (c .before .before .before .get .ensures) (c .before .before .get2 .ensures), c .before .before .before .before .before .before .before .before .before .before .before .before .pre .1 .out-mark, c .before .before .before .before .before .before .before .before .before .before .before .before .pre .1 .out-word)
+cross-requires c κs =
+    let at-nodes-of = c .before .before in
+    let at-sheet-of = at-nodes-of .before in
+    let entry = at-sheet-of .before .before .before .before .before .before .before .before in (
+      count-is (entry .pre .0) (at-sheet-of .sheet-of .ensures) (at-nodes-of .nodes-of .ensures),
+      at-nodes-of .nodes-of .ensures .1,
+      entry
+          .pre .1 .out-mark,
+      entry .pre .1 .out-word,
+    )
 
 same-length : tie.Need-same-length
 same-length c = search needs
@@ -33,10 +36,15 @@ returns : tie.Need-returns
 returns c = faulty-answer _ _ (fault-crossed _ (sym (c .before .before .before .before .before .cross .ensures .0) ∙ c .if1 .taken))
 
 mul-has-unheld : tie.Need-mul-has-unheld
-mul-has-unheld c = omega (arith, count-few (c .before .before .before .before .before .before .before .before .before .before .before .before .before .before .before .before .before .before .pre .0) (c .before .before .before .before .before .before .before .before .before .before .sheet-of .ensures) (c .before .before .before .before .before .before .before .before .before .get .ensures) (c .before .before .before .before .before .before .before .before .get2 .ensures))
+mul-has-unheld c = omega (arith, c .before .before .before .before .before .before .before .before .nodes-of .ensures .1)
 
 has-unheld-requires : tie.Need-has-unheld-requires
-has-unheld-requires c κs = let few = count-few (c .before .before .before .before .before .before .before .before .before .before .before .before .before .before .before .before .before .before .pre .0) (c .before .before .before .before .before .before .before .before .before .before .sheet-of .ensures) (c .before .before .before .before .before .before .before .before .before .get .ensures) (c .before .before .before .before .before .before .before .before .get2 .ensures) in (omega (arith, count-is (c .before .before .before .before .before .before .before .before .before .before .before .before .before .before .before .before .before .before .pre .0) (c .before .before .before .before .before .before .before .before .before .before .sheet-of .ensures) (c .before .before .before .before .before .before .before .before .before .get .ensures) (c .before .before .before .before .before .before .before .before .get2 .ensures)), omega (arith, few))
+has-unheld-requires c κs =
+    let at-nodes-of = c .before .before .before .before .before .before .before .before in
+    let at-sheet-of = at-nodes-of .before in
+    let entry = at-sheet-of .before .before .before .before .before .before .before .before in
+    let few = at-nodes-of .nodes-of .ensures .1 in
+    (omega (arith, count-is (entry .pre .0) (at-sheet-of .sheet-of .ensures) (at-nodes-of .nodes-of .ensures)), omega (arith, few))
 
 same-length-3 : tie.Need-same-length-3
 same-length-3 c = search needs
@@ -45,13 +53,35 @@ same-length-4 : tie.Need-same-length-4
 same-length-4 c = search needs
 
 returns-2 : tie.Need-returns-2
-returns-2 c = faulty-answer _ _ (fault-unheld _ (sym (c .before .before .before .before .before .before .before .cross .ensures .0) ∙ c .before .before .if1 .left) (sym (c .before .has-unheld .ensures) ∙ c .if2 .taken))
+returns-2 c =
+    let at-if1 = c .before .before in
+    let at-cross = at-if1 .before .before .before .before .before in
+    faulty-answer _ _ (fault-unheld _ (sym (at-cross .cross .ensures .0) ∙ at-if1 .if1 .left)
+    (sym (c .before .has-unheld .ensures) ∙ c .if2 .taken))
 
 slots-now-requires : tie.Need-slots-now-requires
-slots-now-requires c κs = (own-paired (c .before .before .before .before .before .before .before .before .before .before .before .before .before .before .before .before .before .before .before .before .before .pre .0) (c .before .before .before .before .before .before .before .before .before .before .before .before .before .sheet-of .ensures), own-ascending (c .before .before .before .before .before .before .before .before .before .before .before .before .before .before .before .before .before .before .before .before .before .pre .0) (c .before .before .before .before .before .before .before .before .before .before .before .before .before .sheet-of .ensures), c .before .before .before .before .before .before .before .before .before .before .before .before .before .before .before .before .before .before .before .before .before .pre .1 .slot)
+slots-now-requires c κs =
+    let at-sheet-of = c .before .before .before .before .before .before .before .before .before .before .before .before in
+    let entry = at-sheet-of .before .before .before .before .before .before .before .before in (
+      own-paired (entry .pre .0) (at-sheet-of .sheet-of .ensures),
+      own-ascending (entry .pre .0) (at-sheet-of .sheet-of .ensures),
+      entry .pre
+          .1 .slot,
+    )
 
 source-wires-requires : tie.Need-source-wires-requires
-source-wires-requires c κs = (own-sendable (c .before .before .before .before .before .before .before .before .before .before .before .before .before .before .before .before .before .before .before .before .before .before .before .before .before .before .before .pre .0) (c .before .before .before .before .before .before .before .before .before .before .before .before .before .before .before .before .before .before .before .sheet-of .ensures), c .before .before .before .before .before .before .before .before .before .before .before .before .before .before .before .before .before .before .before .before .before .before .before .before .before .before .before .pre .0 .steppable, c .before .before .before .before .before .slots-now .ensures, c .before .before .before .before .before .before .before .before .before .before .before .before .before .before .before .before .before .before .before .before .before .before .before .before .before .before .before .pre .1 .source-mark, c .before .before .before .before .before .before .before .before .before .before .before .before .before .before .before .before .before .before .before .before .before .before .before .before .before .before .before .pre .1 .source-word)
+source-wires-requires c κs =
+    let at-slots-now = c .before .before .before .before .before in
+    let at-sheet-of = at-slots-now .before .before .before .before .before .before .before .before .before .before .before .before
+    .before in
+    let entry = at-sheet-of .before .before .before .before .before .before .before .before in (
+      own-sendable (entry .pre .0) (at-sheet-of .sheet-of .ensures),
+      entry .pre .0 .steppable,
+      at-slots-now .slots-now .ensures,
+      entry .pre
+          .1 .source-mark,
+      entry .pre .1 .source-word,
+    )
 
 same-length-5 : tie.Need-same-length-5
 same-length-5 c = search needs
@@ -69,13 +99,25 @@ same-length-9 : tie.Need-same-length-9
 same-length-9 c = search needs
 
 returns-3 : tie.Need-returns-3
-returns-3 c = faulty-answer _ _ (fault-wires _ (sym (c .before .before .before .before .before .before .before .before .before .before .before .before .before .before .before .before .before .before .before .before .cross .ensures .0) ∙ c .before .before .before .before .before .before .before .before .before .before .before .before .before .before .before .if1 .left) (sym (c .before .before .before .before .before .before .before .before .before .before .before .before .before .before .has-unheld .ensures) ∙ c .before .before .before .before .before .before .before .before .before .before .before .before .before .if2 .left) (sym (c .before .before .before .before .before .source-wires .ensures .0) ∙ c .if3 .taken))
+returns-3 c =
+    let at-source-wires = c .before .before .before .before .before in
+    let at-if2 = at-source-wires .before .before .before .before .before .before .before .before in
+    let at-has-unheld = at-if2 .before in
+    let at-if1 = at-has-unheld .before in
+    let at-cross = at-if1 .before .before .before .before .before in
+    faulty-answer _ _ (fault-wires _ (sym (at-cross .cross .ensures .0) ∙ at-if1 .if1 .left)
+    (sym (at-has-unheld .has-unheld .ensures) ∙ at-if2 .if2 .left) (sym (at-source-wires .source-wires .ensures .0) ∙ c .if3 .taken))
 
-get-requires-3 : tie.Need-get-requires-3
-get-requires-3 c κs = search needs
+memory-of-requires : tie.Need-memory-of-requires
+memory-of-requires c κs = search needs
 
 has-stray-requires : tie.Need-has-stray-requires
-has-stray-requires c κs = counted (c .before .before .before .before .before .before .before .before .before .before .before .before .before .before .before .before .before .before .before .before .before .before .before .before .before .before .before .before .before .before .before .before .before .before .pre .0) (c .before .before .before .before .before .before .before .before .before .before .before .before .before .before .before .before .before .before .before .before .before .before .before .before .before .before .sheet-of .ensures) (c .before .before .before .before .before .before .before .before .before .before .before .before .before .before .before .before .before .before .before .before .before .before .before .before .before .get .ensures) (c .before .before .before .before .before .before .before .before .before .before .before .before .before .before .before .before .before .before .before .before .before .before .before .before .get2 .ensures) (c .get3 .ensures)
+has-stray-requires c κs =
+    let at-nodes-of = c .before .before .before .before .before .before .before .before .before .before .before .before .before .before
+    .before .before .before .before .before .before .before .before .before .before in
+    let at-sheet-of = at-nodes-of .before in
+    let entry = at-sheet-of .before .before .before .before .before .before .before .before in
+    counted (entry .pre .0) (at-sheet-of .sheet-of .ensures) (at-nodes-of .nodes-of .ensures) (c .memory-of .ensures)
 
 same-length-10 : tie.Need-same-length-10
 same-length-10 c = search needs
@@ -93,16 +135,30 @@ same-length-14 : tie.Need-same-length-14
 same-length-14 c = search needs
 
 returns-4 : tie.Need-returns-4
-returns-4 c = (fault-last _ (sym (c .before .before .before .before .before .before .before .before .before .before .before .before .before .before .before .before .before .before .before .before .before .before .cross .ensures .0) ∙ c .before .before .before .before .before .before .before .before .before .before .before .before .before .before .before .before .before .if1 .left) (sym (c .before .before .before .before .before .before .before .before .before .before .before .before .before .before .before .before .has-unheld .ensures) ∙ c .before .before .before .before .before .before .before .before .before .before .before .before .before .before .before .if2 .left) (sym (c .before .before .before .before .before .before .before .source-wires .ensures .0) ∙ c .before .before .if3 .left) _ (c .has-stray .ensures), (λ h. tables (c .before .before .before .before .before .before .before .before .before .before .before .before .before .slots-now .ensures) (c .before .before .before .before .before .before .before .source-wires .ensures .1 .0) (c .before .before .before .before .before .before .before .source-wires .ensures .1 .1) (c .before .before .before .before .before .before .before .before .before .before .before .before .before .before .before .before .before .before .before .before .before .before .cross .ensures .1 .0) (c .before .before .before .before .before .before .before .before .before .before .before .before .before .before .before .before .before .before .before .before .before .before .cross .ensures .1 .1), λ h. sym (c .has-stray .ensures) ∙ h))
+returns-4 c =
+    let at-if3 = c .before .before in
+    let at-source-wires = at-if3 .before .before .before .before .before in
+    let at-slots-now = at-source-wires .before .before .before .before .before .before in
+    let at-if2 = at-slots-now .before .before in
+    let at-has-unheld = at-if2 .before in
+    let at-if1 = at-has-unheld .before in
+    let at-cross = at-if1 .before .before .before .before .before in (
+      fault-last _ (sym (at-cross .cross .ensures .0) ∙ at-if1 .if1 .left) (sym (at-has-unheld .has-unheld .ensures) ∙ at-if2 .if2 .left)
+          (sym (at-source-wires .source-wires .ensures .0) ∙ at-if3 .if3 .left) _ (c .has-stray .ensures),
+      (
+        λ h. tables (at-slots-now .slots-now .ensures) (at-source-wires .source-wires .ensures .1 .0)
+            (at-source-wires .source-wires .ensures .1 .1) (at-cross .cross .ensures .1 .0) (at-cross .cross .ensures .1 .1),
+        λ h. sym
+            (c .has-stray .ensures) ∙ h,
+      ),
+    )
 
 pub prepare-spec : {M : Type 1} → statement M
 prepare-spec =
     tie.close
     (tie.spec
     sheet-of-requires
-    get-requires
-    get-requires-2
-    mul-nodes
+    nodes-of-requires
     cross-requires
     same-length
     same-length-2
@@ -120,7 +176,7 @@ prepare-spec =
     same-length-8
     same-length-9
     returns-3
-    get-requires-3
+    memory-of-requires
     has-stray-requires
     same-length-10
     same-length-11

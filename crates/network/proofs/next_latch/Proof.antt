@@ -1,7 +1,7 @@
 -- `network::next_latch` meets its contract: a header's mark is 1, a last word's 3, and any other leaves the latch.
 -- Assumes nothing.
 use native.Mathlib.Omega.{arith}
-use Rattle.network.proofs.StageLaws.{output-small, latch-set, latch-dropped, latch-held}
+use Rattle.network.proofs.StageLaws.{outputFor-small, latch-set, latch-dropped, latch-held}
 use borrow.Author.Needs.{needs}
 use Rattle.network.proofs.next_latch.Statement.{statement}
 use Rattle.network.proofs.next_latch.Tie as tie
@@ -16,7 +16,7 @@ output-for-requires : tie.Need-output-for-requires
 output-for-requires c κs = search needs
 
 add-result : tie.Need-add-result
-add-result c = omega (arith, output-small _ _ _ (c .output-for .ensures))
+add-result c = omega (arith, outputFor-small _ _ _ (c .output-for .ensures))
 
 returns : tie.Need-returns
 returns c = latch-set _ _ _ _ _ (c .before .before .before .reg .ensures) _ _ (c .before .reg2 .ensures) (c .output-for .ensures) (omega arith)

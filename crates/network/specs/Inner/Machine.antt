@@ -1,9 +1,9 @@
--- One clock cycle in words: what each register holds afterwards, row by row, and the memories. The same machine as in Cycle, which reads
--- better; that both agree is proved beside (proofs/ViewLaws, FaultLaws).
+-- One clock cycle in words: what each register holds afterwards, row by row, and the memories. That it is the machine in Cycle, which
+-- reads better, is the claim in OneMachine.
 use Prim.Native.Nat.{ℕ, zero, suc, _+_, _*_, _/_, _%_}
-use mathlib.Core.Bool.{Bool}
+use mathlib.Core.Bool.{Bool, true, false}
 use mathlib.Core.List.{List, [], _∷_, _++_}
-use lib.ListN.{length, drop, getD}
+use lib.ListN.{length, drop}
 use Rattle.words.specs.Tests.{any, _and_, _or_, _≤?_, _<?_, _=?_}
 use Rattle.words.specs.Words.{word, pick, tab, countOf}
 use Rattle.packet.specs.Header.{headerWord, kindOf, addressOf, shiftedWord}
@@ -13,7 +13,10 @@ use Rattle.sheet.specs.Slots.{slotLength, slotRoute, sourceOf}
 use Rattle.network.specs.View.{Sender, sourceInput, memoryOutput}
 use Rattle.network.specs.Cycle.{outputFor, Move, rests, opens, sends, move, stepSender, nextNumber}
 use Rattle.network.specs.Seen.{seenSender}
-use Rattle.network.specs.Registers.{at, reg, sheetIn, room, movingWords, rowWords, clockRow, cyclePlace, numberPlace, inForcePlace, orderMarkPlace, orderSchedulePlace, orderPeriodPlace, linkMark, linkWord, headMark, headWord, choiceRow, latchRow, outMark, outWord, receiveMark, receiveKind, receiveAddress, leftRow, readRow, writeRow, kindRow, toGoRow}
+use Rattle.network.specs.Registers.{at, reg, sheetIn, room, movingWords, rowWords, clockRow, clockWords, cyclePlace, numberPlace, inForcePlace}
+use Rattle.network.specs.Registers.{orderMarkPlace, orderSchedulePlace, orderPeriodPlace, linkMark, linkWord, headMark, headWord, choiceRow}
+use Rattle.network.specs.Registers.{latchRow, outMark, outWord, receiveMark, receiveKind, receiveAddress, landingMark, landingKind}
+use Rattle.network.specs.Registers.{landingAddress, landingWord, leftRow, readRow, writeRow, kindRow, toGoRow}
 
 -- the first mark of so many that is not empty, and the word beside it; both 0 where all are empty
 unfoldable pub firstMark : ℕ → (ℕ → ℕ) → ℕ
@@ -137,46 +140,66 @@ nextClock s k =
     (pick (k =? orderMarkPlace) (pick (isDue s) 0 (reg s clockRow orderMarkPlace))
     (reg s clockRow k))))
 
--- the rows after a cycle, each by the place in the row
-unfoldable pub nextRows : List ℕ → List ℕ → List (ℕ → ℕ)
+-- a row: its number, how many registers of it the sheet has, and what each of them holds after a cycle, by its place
+pub record Row : Type 0 where
+  pub number : ℕ
+  pub extent : ℕ
+  pub next : ℕ → ℕ
+
+abbrev pub rowOf : ℕ → ℕ → (ℕ → ℕ) → Row
+rowOf number extent next = record { number = number; extent = extent; next = next }
+
+-- a row of the routers has five registers a node, the others one a node or one a circuit
+abbrev pub fiveANode : List ℕ → ℕ
+fiveANode s = nodes (sheetIn s) * 5
+
+abbrev pub oneANode : List ℕ → ℕ
+oneANode s = nodes (sheetIn s)
+
+abbrev pub oneACircuit : List ℕ → ℕ
+oneACircuit s = circuits (sheetIn s)
+
+-- the rows after a cycle
+unfoldable pub nextRows : List ℕ → List ℕ → List Row
 nextRows s m =
-    (λ k. nextClock s k)
-    ∷ (λ k. nextLinkMark s (k / 5) (k % 5))
-    ∷ (λ k. nextLinkWord s m (k / 5) (k % 5))
-    ∷ (λ k. reg s linkMark k)
-    ∷ (λ k. nextHeadWord (reg s linkMark k) (reg s linkWord k))
-    ∷ (λ k. nextChoice (k % 5) (reg s latchRow k) (reg s linkMark k) (reg s linkWord k))
-    ∷ (λ k. nextLatch (k % 5) (reg s latchRow k) (reg s linkMark k) (reg s linkWord k))
-    ∷ (λ k. nextOutMark s (k / 5) (k % 5))
-    ∷ (λ k. nextOutWord s (k / 5) (k % 5))
-    ∷ (λ k. nextReceiveMark s k)
-    ∷ (λ k. nextReceiveKind s k)
-    ∷ (λ k. nextReceiveAddress s k)
-    ∷ (λ k. nextLandingMark s k)
-    ∷ (λ k. reg s receiveKind k)
-    ∷ (λ k. reg s receiveAddress k)
-    ∷ (λ k. memoryWord s k)
-    ∷ (λ k. nextSender s k .left)
-    ∷ (λ k. nextSender s k .readAddress)
-    ∷ (λ k. nextSender s k .writeAddress)
-    ∷ (λ k. nextSender s k .kind)
-    ∷ (λ k. nextSender s k .toGo)
+    rowOf clockRow clockWords (λ k. nextClock s k)
+    ∷ rowOf linkMark (fiveANode s) (λ k. nextLinkMark s (k / 5) (k % 5))
+    ∷ rowOf linkWord (fiveANode s) (λ k. nextLinkWord s m (k / 5) (k % 5))
+    ∷ rowOf headMark (fiveANode s) (λ k. reg s linkMark k)
+    ∷ rowOf headWord (fiveANode s) (λ k. nextHeadWord (reg s linkMark k) (reg s linkWord k))
+    ∷ rowOf choiceRow (fiveANode s) (λ k. nextChoice (k % 5) (reg s latchRow k) (reg s linkMark k) (reg s linkWord k))
+    ∷ rowOf latchRow (fiveANode s) (λ k. nextLatch (k % 5) (reg s latchRow k) (reg s linkMark k) (reg s linkWord k))
+    ∷ rowOf outMark (fiveANode s) (λ k. nextOutMark s (k / 5) (k % 5))
+    ∷ rowOf outWord (fiveANode s) (λ k. nextOutWord s (k / 5) (k % 5))
+    ∷ rowOf receiveMark (oneANode s) (λ k. nextReceiveMark s k)
+    ∷ rowOf receiveKind (oneANode s) (λ k. nextReceiveKind s k)
+    ∷ rowOf receiveAddress (oneANode s) (λ k. nextReceiveAddress s k)
+    ∷ rowOf landingMark (oneANode s) (λ k. nextLandingMark s k)
+    ∷ rowOf landingKind (oneANode s) (λ k. reg s receiveKind k)
+    ∷ rowOf landingAddress (oneANode s) (λ k. reg s receiveAddress k)
+    ∷ rowOf landingWord (oneANode s) (λ k. memoryWord s k)
+    ∷ rowOf leftRow (oneACircuit s) (λ k. nextSender s k .left)
+    ∷ rowOf readRow (oneACircuit s) (λ k. nextSender s k .readAddress)
+    ∷ rowOf writeRow (oneACircuit s) (λ k. nextSender s k .writeAddress)
+    ∷ rowOf kindRow (oneACircuit s) (λ k. nextSender s k .kind)
+    ∷ rowOf toGoRow (oneACircuit s) (λ k. nextSender s k .toGo)
     ∷ []
 
-unfoldable pub nextInRow : List ℕ → List ℕ → ℕ → ℕ → ℕ
-nextInRow s m row k = getD (nextRows s m) row (λ k. 0) k
+-- the row of a number; one that is not listed has no registers
+unfoldable pub rowIn : List Row → ℕ → Row
+rowIn [] row = rowOf row 0 (λ k. 0)
+rowIn (x ∷ rows) row = elim (x .number =? row) [ true ↦ x | false ↦ rowIn rows row ]
 
--- the register exists: six words of the clock, five registers a node in the routers' rows, one a node or one a circuit in the others
-unfoldable pub exists : List ℕ → ℕ → ℕ → Bool
-exists s row k =
-    (row =? clockRow and k <? 6)
-    or (1 ≤? row and row ≤? 8 and k <? nodes (sheetIn s) * 5)
-    or (9 ≤? row and row ≤? 15 and k <? nodes (sheetIn s))
-    or (16 ≤? row and row ≤? 20 and k <? circuits (sheetIn s))
+unfoldable pub nextInRow : List ℕ → List ℕ → ℕ → ℕ → ℕ
+nextInRow s m row k = rowIn (nextRows s m) row .next k
+
+-- the sheet has this register
+unfoldable pub exists : List ℕ → List ℕ → ℕ → ℕ → Bool
+exists s m row k = k <? rowIn (nextRows s m) row .extent
 
 -- word k after a cycle: a register that does not exist stays as it is
 unfoldable pub nextWord : List ℕ → List ℕ → ℕ → ℕ
-nextWord s m k = pick (exists s (k / rowWords) (k % rowWords)) (nextInRow s m (k / rowWords) (k % rowWords)) (word s k)
+nextWord s m k = pick (exists s m (k / rowWords) (k % rowWords)) (nextInRow s m (k / rowWords) (k % rowWords)) (word s k)
 
 -- the state and the memories after a cycle that is carried out
 unfoldable pub nextState : List ℕ → List ℕ → List ℕ

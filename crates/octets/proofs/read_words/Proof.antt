@@ -40,9 +40,15 @@ loop-less c = omega arith
 
 loop-again : tie.Need-loop-again Inv-loop μ-loop
 loop-again c =
-    let l = c .before .before .loop in
-    let h : l .k < length (l .into) = omega arith in
-    (omega arith, simp length-set (l .inv .1), fill-more (l .into) (l .k) _ (λ j. wordIn (now (c .before .before .before .before .before .args .bytes)) (c .before .before .before .before .before .args .first + j)) h (l .inv .2) (c .word-in .ensures))
+    let at-loop = c .before .before in
+    let entry = at-loop .before .before .before in
+    let l = at-loop .loop in
+    let h : l .k < length (l .into) = omega arith in (
+      omega arith,
+      simp length-set (l .inv .1),
+      fill-more (l .into) (l .k) _
+          (λ j. wordIn (now (entry .args .bytes)) (entry .args .first + j)) h (l .inv .2) (c .word-in .ensures),
+    )
 
 same-length : tie.Need-same-length Inv-loop μ-loop
 same-length c = c .before .loop .inv .1

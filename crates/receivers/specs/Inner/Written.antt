@@ -4,7 +4,8 @@ use mathlib.Core.List.{List}
 use lib.ListN.{set}
 use Rattle.words.specs.Tests.{_≤?_}
 use Rattle.words.specs.Words.{pick}
-use Rattle.network.specs.Registers.{reg, put, clockRow, cyclePlace, numberPlace, inForcePlace, orderMarkPlace, receiveMark, receiveKind, receiveAddress, landingMark, landingKind, landingAddress, landingWord}
+use Rattle.network.specs.Registers.{reg, put, clockRow, cyclePlace, numberPlace, inForcePlace, orderMarkPlace, receiveMark, receiveKind}
+use Rattle.network.specs.Registers.{receiveAddress, landingMark, landingKind, landingAddress, landingWord}
 use Rattle.network.specs.Inner.Machine.{memoryMark, memoryWord, nextReceiveMark, nextReceiveKind, nextReceiveAddress, nextLandingMark}
 
 -- the stored landing: what is on the memory output, with the receive unit's kind and address

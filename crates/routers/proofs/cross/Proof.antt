@@ -40,7 +40,10 @@ loop-less : tie.Need-loop-less Inv-loop μ-loop
 loop-less c = omega arith
 
 loop-again : tie.Need-loop-again Inv-loop μ-loop
-loop-again c = (refl, crossing-more _ _ _ _ _ _ _ _ _ (omega arith) (omega arith) (c .before .before .before .before .before .before .before .before .loop .inv .1) (c .before .before .before .before .cross-input .ensures))
+loop-again c =
+    let at-cross-input = c .before .before .before .before in
+    let at-loop = at-cross-input .before .before .before .before in
+    (refl, crossing-more _ _ _ _ _ _ _ _ _ (omega arith) (omega arith) (at-loop .loop .inv .1) (at-cross-input .cross-input .ensures))
 
 same-length : tie.Need-same-length Inv-loop μ-loop
 same-length c = same-long _ _ (c .before .loop .inv .1 .marks-length) (c .before .before .before .before .before .before .pre .2)
@@ -50,7 +53,15 @@ same-length-2 c = same-long _ _ (c .before .loop .inv .1 .cells-length) (c .befo
 
 returns-2 : tie.Need-returns-2 Inv-loop μ-loop
 unfolding _≤?_
-returns-2 c = (crossed-met _ _ _ _ _ _ (c .before .before .before .before .before .before .pre .0) (c .before .loop .inv .1) (omega arith), (crossed-marks _ _ _ _ _ _ (c .before .before .before .before .before .before .pre .0) (c .before .loop .inv .1) (omega arith), crossed-cells _ _ _ _ _ _ (c .before .before .before .before .before .before .pre .0) (c .before .loop .inv .1) (omega arith)))
+returns-2 c =
+    let entry = c .before .before .before .before .before .before in (
+      crossed-met _ _ _ _ _ _ (entry .pre .0) (c .before .loop .inv .1) (omega arith),
+      (
+        crossed-marks _ _ _ _ _ _ (entry .pre .0) (c .before .loop .inv .1) (omega arith),
+        crossed-cells _ _ _ _ _ _ (entry .pre .0)
+            (c .before .loop .inv .1) (omega arith),
+      ),
+    )
 
 pub cross-spec : {M : Type 1} → statement M
 cross-spec =

@@ -5,7 +5,8 @@ use Prim.Native.Nat.{_≤_, _-_}
 use mathlib.Core.Bool.{false}
 use mathlib.Core.Path.{_≡_, sym, _∙_}
 use Rattle.words.specs.Tests.{any}
-use Rattle.routers.proofs.UnheldLaws.{unheldAt, any-nothing, any-more, unheld-found, unheld-none}
+use Rattle.routers.proofs.UnheldLaws.{unheldAt, unheld-found, unheld-none}
+use Rattle.words.proofs.AllLaws.{any-start, any-still-none}
 use Rattle.routers.proofs.has_unheld.Statement.{statement}
 use Rattle.routers.proofs.has_unheld.Tie as tie
 
@@ -19,7 +20,7 @@ returns : tie.Need-returns Inv-loop μ-loop
 returns c = absurd (omega arith)
 
 loop-holds : tie.Need-loop-holds Inv-loop μ-loop
-loop-holds c = (omega arith, any-nothing _)
+loop-holds c = (omega arith, any-start _)
 
 is-unheld-requires : tie.Need-is-unheld-requires Inv-loop μ-loop
 is-unheld-requires c κs = tt
@@ -34,7 +35,7 @@ loop-less : tie.Need-loop-less Inv-loop μ-loop
 loop-less c = omega arith
 
 loop-again : tie.Need-loop-again Inv-loop μ-loop
-loop-again c = (omega arith, any-more _ _ (c .before .before .before .loop .inv .1) (sym (c .before .is-unheld .ensures) ∙ c .if2 .left))
+loop-again c = (omega arith, any-still-none _ _ (c .before .before .before .loop .inv .1) (sym (c .before .is-unheld .ensures) ∙ c .if2 .left))
 
 returns-3 : tie.Need-returns-3 Inv-loop μ-loop
 returns-3 c = unheld-none _ _ (c .before .before .before .before .pre .0) _ (c .before .loop .inv .1) (omega arith) (omega arith)

@@ -1,7 +1,7 @@
 -- `routers::next_choice` meets its contract: a header's mark is 1, an empty register's 0, and any other word goes by the latch.
 -- Assumes nothing.
 use native.Mathlib.Omega.{arith}
-use Rattle.network.proofs.StageLaws.{output-small}
+use Rattle.network.proofs.StageLaws.{outputFor-small}
 use Rattle.routers.proofs.HeadLaws.{choice-none, choice-own, choice-held}
 use borrow.Author.Needs.{needs}
 use Rattle.routers.proofs.next_choice.Statement.{statement}
@@ -20,7 +20,7 @@ output-for-requires : tie.Need-output-for-requires
 output-for-requires c κs = search needs
 
 add-result : tie.Need-add-result
-add-result c = omega (arith, output-small _ _ _ (c .output-for .ensures))
+add-result c = omega (arith, outputFor-small _ _ _ (c .output-for .ensures))
 
 returns-2 : tie.Need-returns-2
 returns-2 c = choice-own _ _ _ _ _ (c .before .before .before .before .reg .ensures) _ _ (c .before .reg2 .ensures) (c .output-for .ensures) (c .before .before .if2 .taken)

@@ -35,7 +35,14 @@ same-length-2 : tie.Need-same-length-2
 same-length-2 c = search needs
 
 returns-2 : tie.Need-returns-2
-returns-2 c = head-empty _ _ _ _ (c .before .before .before .before .before .before .before .before .before .before .before .before .before .before .before .reg .ensures) (omega arith) (c .before .before .before .before .before .before .before .before .before .before .before .before .reg2 .ensures) _ _ _ (c .before .before .before .before .before .before .before .before .before .before .put-reg .ensures) (c .before .before .before .before .before .before .put-reg2 .ensures) (c .before .before .put-reg3 .ensures)
+returns-2 c =
+    let at-put-reg3 = c .before .before in
+    let at-put-reg2 = at-put-reg3 .before .before .before .before in
+    let at-put-reg = at-put-reg2 .before .before .before .before in
+    let at-reg2 = at-put-reg .before .before in
+    let at-reg = at-reg2 .before .before .before in
+    head-empty _ _ _ _ (at-reg .reg .ensures) (omega arith) (at-reg2 .reg2 .ensures) _ _ _ (at-put-reg .put-reg .ensures)
+    (at-put-reg2 .put-reg2 .ensures) (at-put-reg3 .put-reg3 .ensures)
 
 pub step-head-spec : {M : Type 1} → statement M
 step-head-spec =

@@ -33,7 +33,19 @@ same-length : tie.Need-same-length
 same-length c = search needs
 
 returns : tie.Need-returns
-returns c = head-is _ _ _ _ _ _ _ (c .before .before .before .before .before .before .before .before .before .before .before .before .before .before .before .before .before .before .before .before .before .before .before .before .pre) (c .before .before .before .before .before .before .before .before .before .before .before .before .before .before .before .before .before .before .before .before .before .reg .ensures) (c .before .before .before .before .before .before .before .before .before .before .before .before .before .before .before .before .before .before .before .before .next-head-word .ensures) (c .before .before .before .before .before .before .before .before .before .before .before .before .before .before .before .before .before .before .next-choice .ensures) (c .before .before .before .before .before .before .before .before .before .before .before .before .before .before .before .before .next-latch .ensures) _ _ _ _ (c .before .before .before .before .before .before .before .before .before .before .before .before .before .before .put-reg .ensures) (c .before .before .before .before .before .before .before .before .before .before .put-reg2 .ensures) (c .before .before .before .before .before .before .put-reg3 .ensures) (c .before .before .put-reg4 .ensures)
+returns c =
+    let at-put-reg4 = c .before .before in
+    let at-put-reg3 = at-put-reg4 .before .before .before .before in
+    let at-put-reg2 = at-put-reg3 .before .before .before .before in
+    let at-put-reg = at-put-reg2 .before .before .before .before in
+    let at-next-latch = at-put-reg .before .before in
+    let at-next-choice = at-next-latch .before .before in
+    let at-next-head-word = at-next-choice .before .before in
+    let at-reg = at-next-head-word .before in
+    let entry = at-reg .before .before .before in
+    head-is _ _ _ _ _ _ _ (entry .pre) (at-reg .reg .ensures) (at-next-head-word .next-head-word .ensures)
+    (at-next-choice .next-choice .ensures) (at-next-latch .next-latch .ensures) _ _ _ _ (at-put-reg .put-reg .ensures)
+    (at-put-reg2 .put-reg2 .ensures) (at-put-reg3 .put-reg3 .ensures) (at-put-reg4 .put-reg4 .ensures)
 
 pub step-head-word-spec : {M : Type 1} → statement M
 step-head-word-spec =

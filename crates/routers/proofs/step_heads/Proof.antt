@@ -3,6 +3,7 @@
 use native.Mathlib.Omega.{arith}
 use Prim.Native.Nat.{_≤_, _-_}
 use mathlib.Core.List.{[]}
+use Rattle.network.specs.Registers.{headMark, latchRow}
 use Rattle.network.specs.Inner.Machine.{nextInRow}
 use Rattle.network.proofs.FillLaws.{Staged, stage-start}
 use Rattle.routers.proofs.HeadLaws.{heads-more}
@@ -11,7 +12,7 @@ use Rattle.routers.proofs.step_heads.Statement.{statement}
 use Rattle.routers.proofs.step_heads.Tie as tie
 
 abbrev Inv-loop : tie.InvT-loop
-Inv-loop s₀ count k₀ s k = (k ≤ count) × Staged 3 6 k (nextInRow s₀ []) s₀ s
+Inv-loop s₀ count k₀ s k = (k ≤ count) × Staged headMark latchRow k (nextInRow s₀ []) s₀ s
 
 abbrev μ-loop : tie.MeasureT-loop
 μ-loop s₀ count k₀ s k = count - k
@@ -32,7 +33,11 @@ loop-less : tie.Need-loop-less Inv-loop μ-loop
 loop-less c = omega arith
 
 loop-again : tie.Need-loop-again Inv-loop μ-loop
-loop-again c = (omega arith, heads-more _ _ _ (omega arith) (c .before .before .before .before .before .before .before .before .pre .0) (c .before .before .before .before .before .loop .inv .1) _ (c .before .before .step-head .ensures))
+loop-again c =
+    let at-step-head = c .before .before in
+    let at-loop = at-step-head .before .before .before in
+    let entry = at-loop .before .before .before in
+    (omega arith, heads-more _ _ _ (omega arith) (entry .pre .0) (at-loop .loop .inv .1) _ (at-step-head .step-head .ensures))
 
 same-length : tie.Need-same-length Inv-loop μ-loop
 same-length c = c .before .loop .inv .1 .same-length

@@ -1,9 +1,10 @@
 -- `routers::step_links` meets its contract: each turn writes the five inputs of one node; the out registers, which it reads, are never written.
 -- Assumes nothing.
-use Rattle.routers.proofs.LinkLaws.{few-read, Linking, linking-start, linking-grid, linking-more, linking-done}
+use Rattle.routers.proofs.LinkLaws.{Linking, linking-start, linking-grid, linking-more, linking-done}
 use native.Mathlib.Omega.{arith}
 use Prim.Native.Nat.{_-_}
-use mathlib.Core.Path.{refl}
+use Rattle.sheet.specs.Inner.Passed.{Headed}
+use mathlib.Core.Path.{refl, sym, subst}
 use Rattle.routers.proofs.step_links.Statement.{statement}
 use Rattle.routers.proofs.step_links.Tie as tie
 
@@ -16,23 +17,26 @@ abbrev μ-loop : tie.MeasureT-loop
 sheet-of-requires : tie.Need-sheet-of-requires Inv-loop μ-loop
 sheet-of-requires c κs = tt
 
-get-requires : tie.Need-get-requires Inv-loop μ-loop
-get-requires c κs = tt
+columns-of-requires : tie.Need-columns-of-requires Inv-loop μ-loop
+columns-of-requires c κs = tt
 
-get-requires-2 : tie.Need-get-requires-2 Inv-loop μ-loop
-get-requires-2 c κs = tt
+rows-of-requires : tie.Need-rows-of-requires Inv-loop μ-loop
+rows-of-requires c κs = tt
 
-mul-nodes : tie.Need-mul-nodes Inv-loop μ-loop
-mul-nodes c = omega (arith, few-read _ _ (c .before .before .sheet-of .ensures) _ _ (c .before .get .ensures) (c .get2 .ensures) (c .before .before .before .before .before .before .before .pre .0))
+nodes-of-requires : tie.Need-nodes-of-requires Inv-loop μ-loop
+nodes-of-requires c κs = subst Headed (sym (c .before .before .sheet-of .ensures)) (c .before .before .before .before .before .before .before .pre .0)
 
 same-length : tie.Need-same-length Inv-loop μ-loop
 same-length c = refl
 
 returns : tie.Need-returns Inv-loop μ-loop
-returns c = absurd (omega (arith, few-read _ _ (c .before .before .before .sheet-of .ensures) _ _ (c .before .before .get .ensures) (c .before .get2 .ensures) (c .before .before .before .before .before .before .before .before .pre .0)))
+returns c = absurd (omega arith)
 
 loop-holds : tie.Need-loop-holds Inv-loop μ-loop
-loop-holds c = linking-start _ _ (c .before .before .before .sheet-of .ensures) _ _ (c .before .before .get .ensures) (c .before .get2 .ensures) (c .before .before .before .before .before .before .before .before .pre .0) _ _ (c .before .before .before .before .before .before .before .before .pre .1)
+loop-holds c =
+    let pre = c .before .before .before .before .before .before .before .before .before .pre in
+    linking-start _ _ (c .before .before .before .before .sheet-of .ensures) _ _ _ (c .before .before .before .columns-of .ensures)
+    (c .before .before .rows-of .ensures) (c .before .nodes-of .ensures) (pre .0) _ _ (pre .1)
 
 step-side-requires : tie.Need-step-side-requires Inv-loop μ-loop
 step-side-requires c κs = (linking-grid _ _ _ _ _ _ _ _ (c .before .before .loop .inv) (omega arith), omega arith)
@@ -44,37 +48,66 @@ step-side-requires-3 : tie.Need-step-side-requires-3 Inv-loop μ-loop
 step-side-requires-3 c κs = (linking-grid _ _ _ _ _ _ _ _ (c .before .before .before .before .before .before .before .before .before .before .loop .inv) (omega arith), omega arith)
 
 step-side-requires-4 : tie.Need-step-side-requires-4 Inv-loop μ-loop
-step-side-requires-4 c κs = (linking-grid _ _ _ _ _ _ _ _ (c .before .before .before .before .before .before .before .before .before .before .before .before .before .before .loop .inv) (omega arith), omega arith)
+step-side-requires-4 c κs =
+    let at-loop = c .before .before .before .before .before .before .before .before .before .before .before .before .before .before in
+    (linking-grid _ _ _ _ _ _ _ _ (at-loop .loop .inv) (omega arith), omega arith)
 
 cast-get : tie.Need-cast-get Inv-loop μ-loop
 cast-get c = omega arith
 
-get-requires-3 : tie.Need-get-requires-3 Inv-loop μ-loop
-get-requires-3 c κs = tt
+get-requires : tie.Need-get-requires Inv-loop μ-loop
+get-requires c κs = tt
 
 cast-get-2 : tie.Need-cast-get-2 Inv-loop μ-loop
 cast-get-2 c = omega arith
 
-get-requires-4 : tie.Need-get-requires-4 Inv-loop μ-loop
-get-requires-4 c κs = tt
+get-requires-2 : tie.Need-get-requires-2 Inv-loop μ-loop
+get-requires-2 c κs = tt
 
 mul-put-link : tie.Need-mul-put-link Inv-loop μ-loop
-mul-put-link c = omega (arith, c .before .before .before .before .before .before .before .before .before .before .before .before .before .before .before .before .before .before .before .before .loop .inv .few, c .before .before .before .before .before .before .before .before .before .before .before .before .before .before .before .before .before .before .before .loop-test .taken)
+mul-put-link c =
+    let at-loop-test = c .before .before .before .before .before .before .before .before .before .before .before .before .before .before
+    .before .before .before .before .before in
+    let at-loop = at-loop-test .before in
+    omega (arith, at-loop .loop .inv .few, at-loop-test .loop-test .taken)
 
 add-put-link : tie.Need-add-put-link Inv-loop μ-loop
-add-put-link c = omega (arith, c .before .before .before .before .before .before .before .before .before .before .before .before .before .before .before .before .before .before .before .before .loop .inv .few, c .before .before .before .before .before .before .before .before .before .before .before .before .before .before .before .before .before .before .before .loop-test .taken)
+add-put-link c =
+    let at-loop-test = c .before .before .before .before .before .before .before .before .before .before .before .before .before .before
+    .before .before .before .before .before in
+    let at-loop = at-loop-test .before in
+    omega (arith, at-loop .loop .inv .few, at-loop-test .loop-test .taken)
 
 put-link-requires : tie.Need-put-link-requires Inv-loop μ-loop
 put-link-requires c κs = tt
 
 add-node : tie.Need-add-node Inv-loop μ-loop
-add-node c = omega (arith, c .before .before .before .before .before .before .before .before .before .before .before .before .before .before .before .before .before .before .before .before .before .before .before .loop .inv .few, c .before .before .before .before .before .before .before .before .before .before .before .before .before .before .before .before .before .before .before .before .before .before .loop-test .taken)
+add-node c =
+    let at-loop-test = c .before .before .before .before .before .before .before .before .before .before .before .before .before .before
+    .before .before .before .before .before .before .before .before in
+    let at-loop = at-loop-test .before in
+    omega (arith, at-loop .loop .inv .few, at-loop-test .loop-test .taken)
 
 loop-less : tie.Need-loop-less Inv-loop μ-loop
-loop-less c = omega (arith, c .before .before .before .before .before .before .before .before .before .before .before .before .before .before .before .before .before .before .before .before .before .before .loop-test .taken)
+loop-less c =
+    let at-loop-test = c .before .before .before .before .before .before .before .before .before .before .before .before .before .before
+    .before .before .before .before .before .before .before .before in
+    omega (arith, at-loop-test .loop-test .taken)
 
 loop-again : tie.Need-loop-again Inv-loop μ-loop
-loop-again c = linking-more _ _ _ _ _ _ _ _ (c .before .before .before .before .before .before .before .before .before .before .before .before .before .before .before .before .before .before .before .before .before .before .before .loop .inv) (c .before .before .before .before .before .before .before .before .before .before .before .before .before .before .before .before .before .before .before .before .before .before .loop-test .taken) _ _ _ _ _ (c .before .before .before .before .before .before .before .before .before .before .before .before .before .before .before .before .before .before .before .before .step-side .ensures) (c .before .before .before .before .before .before .before .before .before .before .before .before .before .before .before .before .step-side2 .ensures) (c .before .before .before .before .before .before .before .before .before .before .before .before .step-side3 .ensures) (c .before .before .before .before .before .before .before .before .step-side4 .ensures) _ _ (c .before .before .before .before .before .get3 .ensures) (c .before .before .before .before .get4 .ensures) (c .before .before .put-link .ensures)
+loop-again c =
+    let at-put-link = c .before .before in
+    let at-get2 = at-put-link .before .before in
+    let at-get = at-get2 .before in
+    let at-step-side4 = at-get .before .before .before in
+    let at-step-side3 = at-step-side4 .before .before .before .before in
+    let at-step-side2 = at-step-side3 .before .before .before .before in
+    let at-step-side = at-step-side2 .before .before .before .before in
+    let at-loop-test = at-step-side .before .before in
+    let at-loop = at-loop-test .before in
+    linking-more _ _ _ _ _ _ _ _ (at-loop .loop .inv) (at-loop-test .loop-test .taken) _ _ _ _ _ (at-step-side .step-side .ensures)
+    (at-step-side2 .step-side2 .ensures) (at-step-side3 .step-side3 .ensures) (at-step-side4 .step-side4 .ensures) _ _
+    (at-get .get .ensures) (at-get2 .get2 .ensures) (at-put-link .put-link .ensures)
 
 same-length-2 : tie.Need-same-length-2 Inv-loop μ-loop
 same-length-2 c = c .before .loop .inv .so-far .same-length
@@ -89,9 +122,9 @@ step-links-spec =
     Inv-loop
     μ-loop
     sheet-of-requires
-    get-requires
-    get-requires-2
-    mul-nodes
+    columns-of-requires
+    rows-of-requires
+    nodes-of-requires
     same-length
     returns
     loop-holds
@@ -100,9 +133,9 @@ step-links-spec =
     step-side-requires-3
     step-side-requires-4
     cast-get
-    get-requires-3
+    get-requires
     cast-get-2
-    get-requires-4
+    get-requires-2
     mul-put-link
     add-put-link
     put-link-requires

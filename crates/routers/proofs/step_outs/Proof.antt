@@ -2,6 +2,7 @@
 -- Assumes nothing.
 use native.Mathlib.Omega.{arith}
 use Prim.Native.Nat.{_≤_, _-_}
+use Rattle.network.specs.Registers.{outMark, outWord}
 use Rattle.network.specs.Inner.Stages.{outFrom}
 use Rattle.network.proofs.FillLaws.{Staged, stage-start}
 use Rattle.routers.proofs.OutLaws.{outs-more, filled}
@@ -9,7 +10,7 @@ use Rattle.routers.proofs.step_outs.Statement.{statement}
 use Rattle.routers.proofs.step_outs.Tie as tie
 
 abbrev Inv-loop : tie.InvT-loop
-Inv-loop s₀ count marks cells k₀ s k = (k ≤ count) × Staged 7 8 k (outFrom marks cells) s₀ s
+Inv-loop s₀ count marks cells k₀ s k = (k ≤ count) × Staged outMark outWord k (outFrom marks cells) s₀ s
 
 abbrev μ-loop : tie.MeasureT-loop
 μ-loop s₀ count marks cells k₀ s k = count - k
@@ -45,7 +46,17 @@ loop-less : tie.Need-loop-less Inv-loop μ-loop
 loop-less c = omega arith
 
 loop-again : tie.Need-loop-again Inv-loop μ-loop
-loop-again c = (omega arith, outs-more _ _ _ _ _ (omega arith) (c .before .before .before .before .before .before .before .before .before .before .before .before .before .before .before .before .pre .0) (c .before .before .before .before .before .before .before .before .before .before .before .loop .inv .1) _ _ (c .before .before .before .before .before .before .before .before .before .get .ensures) (c .before .before .before .before .before .before .before .before .get2 .ensures) _ _ (c .before .before .before .before .before .before .put-reg .ensures) (c .before .before .put-reg2 .ensures))
+loop-again c =
+    let at-put-reg2 = c .before .before in
+    let at-put-reg = at-put-reg2 .before .before .before .before in
+    let at-get2 = at-put-reg .before .before in
+    let at-get = at-get2 .before in
+    let at-loop = at-get .before .before in
+    let entry = at-loop .before .before .before .before .before in (
+      omega arith,
+      outs-more _ _ _ _ _ (omega arith) (entry .pre .0) (at-loop .loop .inv .1) _ _ (at-get .get .ensures)
+          (at-get2 .get2 .ensures) _ _ (at-put-reg .put-reg .ensures) (at-put-reg2 .put-reg2 .ensures),
+    )
 
 same-length : tie.Need-same-length Inv-loop μ-loop
 same-length c = c .before .loop .inv .1 .same-length

@@ -38,7 +38,14 @@ same-length : tie.Need-same-length
 same-length c = search needs
 
 returns : tie.Need-returns
-returns c = side-is _ _ _ _ (c .before .before .before .before .before .before .before .before .before .before .pre .0) _ _ _ _ _ _ (c .before .before .before .before .before .before .before .before .neighbour .ensures) (c .before .before .before .before .before .before .reg .ensures) (c .before .before .before .before .reg2 .ensures) (omega arith) (c .before .before .put-link .ensures)
+returns c =
+    let at-put-link = c .before .before in
+    let at-reg2 = at-put-link .before .before in
+    let at-reg = at-reg2 .before .before in
+    let at-neighbour = at-reg .before .before in
+    let entry = at-neighbour .before .before in
+    side-is _ _ _ _ (entry .pre .0) _ _ _ _ _ _ (at-neighbour .neighbour .ensures) (at-reg .reg .ensures) (at-reg2 .reg2 .ensures)
+    (omega arith) (at-put-link .put-link .ensures)
 
 pub step-side-spec : {M : Type 1} → statement M
 step-side-spec =

@@ -7,7 +7,7 @@ use mathlib.Core.List.{List}
 use lib.ListN.{length}
 use Rattle.words.specs.Tests.{any, _and_, _or_, _≤?_, _=?_}
 use Rattle.words.specs.Words.{word, pick}
-use Rattle.network.specs.Registers.{reg, headMark, headWord, choiceRow}
+use Rattle.network.specs.Registers.{reg, headMark, headWord, choiceRow, rowWords}
 
 -- the mark that input k asks of the output at a place; 0 where it asks for another, or nothing
 unfoldable pub asking : List ℕ → ℕ → ℕ → ℕ
@@ -19,10 +19,10 @@ unchosenAt s k = 2 ≤? reg s headMark k and reg s choiceRow k =? 0
 
 -- the tables before and after input k; fault is 1 where the output that it asks for was taken or a payload word has no choice, else 0
 pub record Crossed (s : List ℕ) (k : ℕ) (marks cells marks′ cells′ : List ℕ) (fault : ℕ) : Type 0 where
-  pub marks-length : length marks′ ≡ 80
-  pub cells-length : length cells′ ≡ 80
-  pub marks-next : (p : ℕ) → p < 80 → word marks′ p ≡ pick (word marks p =? 0) (asking s k p) (word marks p)
-  pub cells-next : (p : ℕ) → p < 80
+  pub marks-length : length marks′ ≡ rowWords
+  pub cells-length : length cells′ ≡ rowWords
+  pub marks-next : (p : ℕ) → p < rowWords → word marks′ p ≡ pick (word marks p =? 0) (asking s k p) (word marks p)
+  pub cells-next : (p : ℕ) → p < rowWords
       → word cells′ p ≡ pick (word marks p =? 0) (pick (asking s k p =? 0) (word cells p) (reg s headWord k)) (word cells p)
   pub one : fault < 2
   pub found : (n : ℕ) → k < n * 5 → n * 5 < 81

@@ -13,8 +13,8 @@ Inv-loop z count distances₀ k₀ distances k = (k ≤ count) × (Reading z k d
 abbrev μ-loop : tie.MeasureT-loop
 μ-loop z count distances₀ k₀ distances k = count - k
 
-get-requires : tie.Need-get-requires Inv-loop μ-loop
-get-requires c κs = search needs
+circuits-of-requires : tie.Need-circuits-of-requires Inv-loop μ-loop
+circuits-of-requires c κs = search needs
 
 loop-holds : tie.Need-loop-holds Inv-loop μ-loop
 loop-holds c = (omega arith, reading-start _)
@@ -23,13 +23,17 @@ cast-at : tie.Need-cast-at Inv-loop μ-loop
 cast-at c = search needs
 
 circuit-distance-requires : tie.Need-circuit-distance-requires Inv-loop μ-loop
-circuit-distance-requires c κs = (c .before .before .before .before .pre .0, c .before .before .before .before .pre .1, omega (arith, c .before .before .get .ensures))
+circuit-distance-requires c κs = (c .before .before .before .before .pre .0, c .before .before .before .before .pre .1, omega (arith, c .before .before .circuits-of .ensures))
 
 mul-distances : tie.Need-mul-distances Inv-loop μ-loop
-mul-distances c = omega (arith, c .before .before .before .get .ensures, c .before .before .before .before .before .pre .0 .headed .circuits-high)
+mul-distances c = omega (arith, c .before .before .before .circuits-of .ensures, c .before .before .before .before .before .pre .0 .headed .circuits-high)
 
 array-write-distances : tie.Need-array-write-distances Inv-loop μ-loop
-array-write-distances c = omega (arith, c .before .before .before .get .ensures, c .before .before .before .before .before .pre .0 .headed .circuits-high, c .before .before .loop .inv .1 .long)
+array-write-distances c =
+    let at-loop = c .before .before in
+    let at-circuits-of = at-loop .before in
+    let entry = at-circuits-of .before .before in
+    omega (arith, at-circuits-of .circuits-of .ensures, entry .pre .0 .headed .circuits-high, at-loop .loop .inv .1 .long)
 
 add-k : tie.Need-add-k Inv-loop μ-loop
 add-k c = omega arith
@@ -38,10 +42,17 @@ loop-less : tie.Need-loop-less Inv-loop μ-loop
 loop-less c = omega arith
 
 loop-again : tie.Need-loop-again Inv-loop μ-loop
-loop-again c = (omega arith, reading-more _ (c .before .before .loop .k) _ (c .before .before .loop .inv .1) (omega (arith, c .before .before .before .get .ensures)) (omega (arith, c .before .before .before .get .ensures, c .before .before .before .before .before .pre .0 .headed .circuits-high)) _ (c .circuit-distance .ensures))
+loop-again c =
+    let at-loop = c .before .before in
+    let at-circuits-of = at-loop .before in
+    let entry = at-circuits-of .before .before in (
+      omega arith,
+      reading-more _ (at-loop .loop .k) _ (at-loop .loop .inv .1) (omega (arith, at-circuits-of .circuits-of .ensures))
+          (omega (arith, at-circuits-of .circuits-of .ensures, entry .pre .0 .headed .circuits-high)) _ (c .circuit-distance .ensures),
+    )
 
 returns : tie.Need-returns Inv-loop μ-loop
-returns c = reading-done _ (c .before .loop .k) _ (c .before .loop .inv .1) (omega (arith, c .before .before .get .ensures))
+returns c = reading-done _ (c .before .loop .k) _ (c .before .loop .inv .1) (omega (arith, c .before .before .circuits-of .ensures))
 
 pub circuit-distances-spec : {M : Type 1} → statement M
 circuit-distances-spec =
@@ -49,7 +60,7 @@ circuit-distances-spec =
     (tie.spec
     Inv-loop
     μ-loop
-    get-requires
+    circuits-of-requires
     loop-holds
     cast-at
     circuit-distance-requires

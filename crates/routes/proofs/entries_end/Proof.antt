@@ -31,7 +31,17 @@ at-requires : tie.Need-at-requires Inv-loop μ-loop
 at-requires c κs = omega arith
 
 entry-ends-requires : tie.Need-entry-ends-requires Inv-loop μ-loop
-entry-ends-requires c κs = (timed _ (c .before .before .before .before .before .before .before .pre .0 .ranged) _ (c .before .before .before .before .before .before .before .pre .1) _ (c .before .before .before .entries-of .ensures) (c .before .before .loop .i) (omega arith) _ (c .at .ensures) _ (c .before .before .before .before .schedule-period .ensures), led _ (c .before .before .before .before .before .before .before .pre .0 .ranged) _ (c .before .before .before .before .before .before .before .pre .1) _ (c .before .before .before .entries-of .ensures) (c .before .before .loop .i) (omega arith) _ (c .at .ensures) (c .before .before .before .before .before .before .before .pre .0 .routes-lead), c .before .before .before .before .before .before .before .pre .2)
+entry-ends-requires c κs =
+    let at-loop = c .before .before in
+    let at-entries-of = at-loop .before in
+    let at-schedule-period = at-entries-of .before in
+    let entry = at-schedule-period .before .before .before in (
+      timed _ (entry .pre .0 .ranged) _ (entry .pre .1) _ (at-entries-of .entries-of .ensures) (at-loop .loop .i) (omega arith) _
+          (c .at .ensures) _ (at-schedule-period .schedule-period .ensures),
+      led _ (entry .pre .0 .ranged) _ (entry .pre .1) _
+          (at-entries-of .entries-of .ensures) (at-loop .loop .i) (omega arith) _ (c .at .ensures) (entry .pre .0 .routes-lead),
+      entry .pre .2,
+    )
 
 add-i : tie.Need-add-i Inv-loop μ-loop
 add-i c = omega arith
@@ -43,7 +53,12 @@ loop-again : tie.Need-loop-again Inv-loop μ-loop
 loop-again c = (omega arith, all-more _ _ (c .before .before .before .before .loop .inv .1) (cc))
 
 returns : tie.Need-returns Inv-loop μ-loop
-returns c = all-fails _ _ (c .before .before .before .before .loop .i) (omega arith) (cc) ∙ each-ending _ _ _ _ (c .before .before .before .before .before .entries-of .ensures) (c .before .before .before .before .before .before .schedule-period .ensures)
+returns c =
+    let at-loop = c .before .before .before .before in
+    let at-entries-of = at-loop .before in
+    let at-schedule-period = at-entries-of .before in
+    all-fails _ _ (at-loop .loop .i) (omega arith) (cc) ∙ each-ending _ _ _ _ (at-entries-of .entries-of .ensures)
+    (at-schedule-period .schedule-period .ensures)
 
 returns-2 : tie.Need-returns-2 Inv-loop μ-loop
 returns-2 c = all-done _ _ _ (c .before .loop .inv .1) (omega arith) (omega arith) ∙ each-ending _ _ _ _ (c .before .before .entries-of .ensures) (c .before .before .before .schedule-period .ensures)

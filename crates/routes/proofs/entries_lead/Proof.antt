@@ -28,7 +28,13 @@ at-requires : tie.Need-at-requires Inv-loop μ-loop
 at-requires c κs = omega arith
 
 entry-leads-requires : tie.Need-entry-leads-requires Inv-loop μ-loop
-entry-leads-requires c κs = (joined _ (c .before .before .before .before .before .before .pre .0) _ (c .before .before .before .before .before .before .pre .1) _ (c .before .before .before .entries-of .ensures) (c .before .before .loop .i) (omega arith) _ (c .at .ensures), c .before .before .before .before .before .before .pre .2)
+entry-leads-requires c κs =
+    let at-loop = c .before .before in
+    let at-entries-of = at-loop .before in
+    let entry = at-entries-of .before .before .before in (
+      joined _ (entry .pre .0) _ (entry .pre .1) _ (at-entries-of .entries-of .ensures) (at-loop .loop .i) (omega arith) _ (c .at .ensures),
+      entry .pre .2,
+    )
 
 add-i : tie.Need-add-i Inv-loop μ-loop
 add-i c = omega arith

@@ -20,17 +20,32 @@ sub-result : tie.Need-sub-result
 sub-result c = search needs
 
 mul-result : tie.Need-mul-result
-mul-result c = omega (arith, hops-are _ _ (c .before .before .before .before .before .pre .0 .joined) (c .before .before .before .before .before .pre .1) _ (distance-read _ _ (c .before .before .before .before .before .pre .0 .joined) _ (c .before .before .before .before .before .pre .2) _ (c .before .get .ensures)) .1)
+mul-result c =
+    let entry = c .before .before .before .before .before in
+    omega (
+      arith,
+      hops-are _ _ (entry .pre .0 .joined) (entry .pre .1) _
+          (distance-read _ _ (entry .pre .0 .joined) _ (entry .pre .2) _ (c .before .get .ensures)) .1,
+    )
 
 add-result-2 : tie.Need-add-result-2
-add-result-2 c = omega (arith, hops-are _ _ (c .before .before .before .before .before .pre .0 .joined) (c .before .before .before .before .before .pre .1) _ (distance-read _ _ (c .before .before .before .before .before .pre .0 .joined) _ (c .before .before .before .before .before .pre .2) _ (c .before .get .ensures)) .1)
+add-result-2 c =
+    let entry = c .before .before .before .before .before in
+    omega (
+      arith,
+      hops-are _ _ (entry .pre .0 .joined) (entry .pre .1) _
+          (distance-read _ _ (entry .pre .0 .joined) _ (entry .pre .2) _ (c .before .get .ensures)) .1,
+    )
 
 add-result-3 : tie.Need-add-result-3
 add-result-3 c = search needs
 
 returns : tie.Need-returns
 unfolding _≤?_
-returns c = ending _ _ (c .before .before .before .before .before .pre .0 .joined) (c .before .before .before .before .before .pre .1) _ (distance-read _ _ (c .before .before .before .before .before .pre .0 .joined) _ (c .before .before .before .before .before .pre .2) _ (c .before .get .ensures)) _
+returns c =
+    let entry = c .before .before .before .before .before in
+    ending _ _ (entry .pre .0 .joined) (entry .pre .1) _
+    (distance-read _ _ (entry .pre .0 .joined) _ (entry .pre .2) _ (c .before .get .ensures)) _
 
 pub entry-ends-spec : {M : Type 1} → statement M
 entry-ends-spec =

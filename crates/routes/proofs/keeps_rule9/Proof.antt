@@ -17,14 +17,14 @@ Inv-loop z distances count j₀ j = (j ≤ count) × (all j (λ k. eachEntry z k
 abbrev μ-loop : tie.MeasureT-loop
 μ-loop z distances count j₀ j = count - j
 
-get-requires : tie.Need-get-requires Inv-loop μ-loop
-get-requires c κs = search needs
+schedules-of-requires : tie.Need-schedules-of-requires Inv-loop μ-loop
+schedules-of-requires c κs = search needs
 
 loop-holds : tie.Need-loop-holds Inv-loop μ-loop
 loop-holds c = (omega arith, sym (all-none _))
 
 entries-lead-requires : tie.Need-entries-lead-requires Inv-loop μ-loop
-entries-lead-requires c κs = (c .before .before .before .before .before .pre .0, omega (arith, c .before .before .get .ensures), c .before .before .before .before .before .pre .1)
+entries-lead-requires c κs = (c .before .before .before .before .before .pre .0, omega (arith, c .before .before .schedules-of .ensures), c .before .before .before .before .before .pre .1)
 
 add-j : tie.Need-add-j Inv-loop μ-loop
 add-j c = omega arith
@@ -37,11 +37,11 @@ loop-again c = (omega arith, all-more _ _ (c .before .before .before .loop .inv 
 
 returns : tie.Need-returns Inv-loop μ-loop
 unfolding rule9
-returns c = all-fails _ _ (c .before .before .before .loop .j) (omega (arith, c .before .before .before .before .get .ensures)) (cc)
+returns c = all-fails _ _ (c .before .before .before .loop .j) (omega (arith, c .before .before .before .before .schedules-of .ensures)) (cc)
 
 returns-2 : tie.Need-returns-2 Inv-loop μ-loop
 unfolding rule9
-returns-2 c = all-done _ _ _ (c .before .loop .inv .1) (omega (arith, c .before .before .get .ensures)) (omega (arith, c .before .before .get .ensures))
+returns-2 c = all-done _ _ _ (c .before .loop .inv .1) (omega (arith, c .before .before .schedules-of .ensures)) (omega (arith, c .before .before .schedules-of .ensures))
 
 pub keeps-rule9-spec : {M : Type 1} → statement M
 keeps-rule9-spec =
@@ -49,7 +49,7 @@ keeps-rule9-spec =
     (tie.spec
     Inv-loop
     μ-loop
-    get-requires
+    schedules-of-requires
     loop-holds
     entries-lead-requires
     add-j

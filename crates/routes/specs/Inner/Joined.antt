@@ -5,9 +5,10 @@ use mathlib.Core.Bool.{true}
 use mathlib.Core.Path.{_≡_}
 use Rattle.words.specs.Tests.{_<?_}
 use Rattle.words.specs.Words.{pick, tab}
-use Rattle.torus.specs.Torus.{InGrid, distanceOf}
+use Rattle.torus.specs.Inner.Grid.{InGrid}
 use Rattle.sheet.specs.declared.entries.Entry.{Entry}
 use Rattle.sheet.specs.Sheet.{columns, rows, circuits, circuitAt}
+use Rattle.sheet.specs.Flight.{hopsOf}
 use Rattle.sheet.specs.Rules.{rule9}
 use Rattle.sheet.specs.Inner.Passed.{Ranged}
 
@@ -30,10 +31,6 @@ pub record Leading (z : List ℕ) : Type 0 where
   pub ranged : Ranged z
   pub routes-lead : rule9 z ≡ true
 
--- the distance of a circuit's two nodes
-unfoldable pub circuitDistance : List ℕ → ℕ → ℕ
-circuitDistance z k = distanceOf (columns z) (rows z) (circuitAt z k .read .node) (circuitAt z k .receive .node)
-
 -- the distances of all circuits, 0 for the numbers that no circuit has
 unfoldable pub circuitDistances : List ℕ → List ℕ
-circuitDistances z = tab 64 (λ k. pick (k <? circuits z) (circuitDistance z k) 0)
+circuitDistances z = tab 64 (λ k. pick (k <? circuits z) (hopsOf z k) 0)

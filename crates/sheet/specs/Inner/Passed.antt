@@ -4,7 +4,7 @@ use mathlib.Core.List.{List}
 use mathlib.Core.Bool.{Bool, true}
 use mathlib.Core.Path.{_≡_}
 use lib.ListN.{length}
-use Rattle.torus.specs.Torus.{InGrid}
+use Rattle.torus.specs.Inner.Grid.{InGrid}
 use Rattle.sheet.specs.declared.circuits.Circuit.{Circuit}
 use Rattle.sheet.specs.declared.entries.Entry.{Entry}
 use Rattle.sheet.specs.Sheet.{columns, rows, memoryWords, circuits, schedules, statedEntries, period, circuitAt}

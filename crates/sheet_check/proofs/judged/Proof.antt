@@ -21,13 +21,22 @@ same-length : tie.Need-same-length
 same-length c = search needs
 
 returns : tie.Need-returns
-returns c = judged-passes _ _ _ (c .before .before .before .before .before .before .before .before .before .before .pre .1) (c .before .before .before .before .before .before .read-words .ensures) _ (c .before .before .verdict .ensures) (c .enum-told .given .1)
+returns c =
+    let at-verdict = c .before .before in
+    let at-read-words = at-verdict .before .before .before .before in
+    let entry = at-read-words .before .before .before .before in
+    judged-passes _ _ _ (entry .pre .1) (at-read-words .read-words .ensures) _ (at-verdict .verdict .ensures) (c .enum-told .given .1)
 
 same-length-2 : tie.Need-same-length-2
 same-length-2 c = search needs
 
 returns-2 : tie.Need-returns-2
-returns-2 c = judged-refused _ _ _ (c .before .before .before .before .before .before .before .before .before .before .before .pre .1) (c .before .before .before .before .before .before .before .read-words .ensures) _ (c .before .before .before .verdict .ensures) _ (c .before .outcome .given .1)
+returns-2 c =
+    let at-verdict = c .before .before .before in
+    let at-read-words = at-verdict .before .before .before .before in
+    let entry = at-read-words .before .before .before .before in
+    judged-refused _ _ _ (entry .pre .1) (at-read-words .read-words .ensures) _ (at-verdict .verdict .ensures) _
+    (c .before .outcome .given .1)
 
 pub judged-spec : {M : Type 1} → statement M
 judged-spec =

@@ -2,7 +2,9 @@
 -- Assumes nothing.
 use Rattle.sheet_check.proofs.LineLaws.{part-ready}
 use mathlib.Core.Path.{sym, _∙_}
-use Rattle.sheet_check.proofs.LineLaws.{no-length, too-large, sheet-ends, whole, part-length}
+use Rattle.sheet_check.proofs.LineLaws.{no-length, too-large, sheet-ends, whole}
+use Rattle.sheet.specs.Sheet.{sheetWords}
+use Rattle.words.proofs.WordLaws.{length-zeros}
 use borrow.Author.Needs.{needs}
 use Rattle.sheet_check.proofs.line_for.Statement.{statement}
 use Rattle.sheet_check.proofs.line_for.Tie as tie
@@ -32,13 +34,18 @@ array-borrow-prefix-words : tie.Need-array-borrow-prefix-words
 array-borrow-prefix-words c = search needs
 
 slice-aggregate-judged : tie.Need-slice-aggregate-judged
-slice-aggregate-judged c = sym (part-length _ 8597 (c .before .before .if2 .left))
+slice-aggregate-judged c = sym (length-zeros _ sheetWords (c .before .before .if2 .left))
 
 judged-requires : tie.Need-judged-requires
-judged-requires c κs = part-ready _ 8597 _ (c .before .before .if2 .left) (c .before .if3 .left) (c .before .before .before .word-in .ensures)
+judged-requires c κs = part-ready _ sheetWords _ (c .before .before .if2 .left) (c .before .if3 .left) (c .before .before .before .word-in .ensures)
 
 returns-4 : tie.Need-returns-4
-returns-4 c = c .before .judged .ensures ∙ whole _ (c .before .before .before .before .before .before .if1 .left) _ (c .before .before .before .before .before .word-in .ensures) (c .before .before .before .before .if2 .left) (c .before .before .before .if3 .left)
+returns-4 c =
+    let at-if3 = c .before .before .before in
+    let at-if2 = at-if3 .before in
+    let at-word-in = at-if2 .before in
+    let at-if1 = at-word-in .before in
+    c .before .judged .ensures ∙ whole _ (at-if1 .if1 .left) _ (at-word-in .word-in .ensures) (at-if2 .if2 .left) (at-if3 .if3 .left)
 
 pub line-for-spec : {M : Type 1} → statement M
 line-for-spec =

@@ -25,7 +25,12 @@ reg-requires-3 c κs = search needs
 
 returns-3 : tie.Need-returns-3
 unfolding _=?_
-returns-3 c = and-on (yes= (sym (c .before .before .before .before .reg .ensures) ∙ c .before .before .before .if1 .left)) (and-on (yes= (sym (c .before .before .reg2 .ensures) ∙ c .before .if2 .left)) (ap (λ (x : ℕ). x =? 0) (c .reg3 .ensures)))
+returns-3 c =
+    let at-reg2 = c .before .before in
+    let at-if1 = at-reg2 .before in
+    let at-reg = at-if1 .before in
+    and-on (yes= (sym (at-reg .reg .ensures) ∙ at-if1 .if1 .left))
+    (and-on (yes= (sym (at-reg2 .reg2 .ensures) ∙ c .before .if2 .left)) (ap (λ (x : ℕ). x =? 0) (c .reg3 .ensures)))
 
 pub is-idle-spec : {M : Type 1} → statement M
 is-idle-spec =

@@ -9,7 +9,8 @@ use Rattle.words.proofs.AllLaws.{all-none}
 use Rattle.sheet.specs.Sheet.{nodes}
 use Rattle.network.specs.Registers.{sheetIn}
 use Rattle.soundness.specs.Sound.{nodeSound}
-use Rattle.soundness.proofs.SoundnessLaws.{few-nodes, count-nodes, tested-more, tested-fails, tested-all}
+use Rattle.soundness.proofs.SoundnessLaws.{count-nodes, tested-more, tested-fails, tested-all}
+use Rattle.sheet.proofs.PassedLaws.{nodes-few}
 use Rattle.soundness.proofs.nodes_sound.Statement.{statement}
 use Rattle.soundness.proofs.nodes_sound.Tie as tie
 
@@ -19,17 +20,11 @@ Inv-loop s z count n₀ n = (count ≡ nodes (sheetIn s)) × (count ≤ 16) × (
 abbrev μ-loop : tie.MeasureT-loop
 μ-loop s z count n₀ n = count - n
 
-get-requires : tie.Need-get-requires Inv-loop μ-loop
-get-requires c κs = tt
-
-get-requires-2 : tie.Need-get-requires-2 Inv-loop μ-loop
-get-requires-2 c κs = tt
-
-mul-count : tie.Need-mul-count Inv-loop μ-loop
-mul-count c = omega (arith, few-nodes _ (c .before .before .before .before .pre .1) _ _ (c .before .get .ensures) (c .get2 .ensures))
+nodes-of-requires : tie.Need-nodes-of-requires Inv-loop μ-loop
+nodes-of-requires c κs = c .before .before .pre .1 .headed
 
 loop-holds : tie.Need-loop-holds Inv-loop μ-loop
-loop-holds c = (count-nodes _ _ (c .before .before .before .before .pre .0) (c .before .get .ensures) (c .get2 .ensures), omega (arith, few-nodes _ (c .before .before .before .before .pre .1) _ _ (c .before .get .ensures) (c .get2 .ensures)), omega arith, sym (all-none _))
+loop-holds c = (count-nodes _ _ (c .before .before .before .pre .0) (c .nodes-of .ensures .0), omega arith, omega arith, sym (all-none _))
 
 node-sound-requires : tie.Need-node-sound-requires Inv-loop μ-loop
 node-sound-requires c κs = tt
@@ -41,10 +36,21 @@ loop-less : tie.Need-loop-less Inv-loop μ-loop
 loop-less c = omega arith
 
 loop-again : tie.Need-loop-again Inv-loop μ-loop
-loop-again c = (c .before .before .before .loop .inv .0, c .before .before .before .loop .inv .1, omega arith, tested-more _ _ (c .before .before .before .loop .inv .3) (c .before .node-sound .ensures) (c .if1 .taken))
+loop-again c =
+    let at-loop = c .before .before .before in (
+      at-loop .loop .inv .0,
+      at-loop .loop .inv .1,
+      omega arith,
+      tested-more _ _ (at-loop .loop .inv .3) (c .before .node-sound .ensures)
+          (c .if1 .taken),
+    )
 
 returns : tie.Need-returns Inv-loop μ-loop
-returns c = tested-fails _ _ (c .before .before .before .loop .inv .3) _ _ (c .before .before .before .loop .inv .0) (c .before .before .loop-test .taken) (c .before .node-sound .ensures) (c .if1 .left)
+returns c =
+    let at-loop-test = c .before .before in
+    let at-loop = at-loop-test .before in
+    tested-fails _ _ (at-loop .loop .inv .3) _ _ (at-loop .loop .inv .0) (at-loop-test .loop-test .taken) (c .before .node-sound .ensures)
+    (c .if1 .left)
 
 returns-2 : tie.Need-returns-2 Inv-loop μ-loop
 returns-2 c = tested-all _ _ (c .before .loop .inv .3) _ _ (c .before .loop .inv .0) (c .before .loop .inv .2) (c .loop-test .left)
@@ -55,9 +61,7 @@ nodes-sound-spec =
     (tie.spec
     Inv-loop
     μ-loop
-    get-requires
-    get-requires-2
-    mul-count
+    nodes-of-requires
     loop-holds
     node-sound-requires
     add-n

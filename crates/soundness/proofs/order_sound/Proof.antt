@@ -18,13 +18,19 @@ returns-2 c = order-none _ _ (c .before .before .before .before .before .pre) _ 
 reg-requires-2 : tie.Need-reg-requires-2
 reg-requires-2 c κs = search needs
 
-get-requires : tie.Need-get-requires
-get-requires c κs = search needs
+schedules-of-requires : tie.Need-schedules-of-requires
+schedules-of-requires c κs = search needs
 
 returns-3 : tie.Need-returns-3
 unfolding _<?_
-returns-3 c = order-rest _ _ (c .before .before .before .before .before .before .before .pre) _ (c .before .before .before .before .reg .ensures) _ _ (c .before .reg2 .ensures) (c .get .ensures) (c .before .before .before .if1 .left) (c .before .before .if2 .left)
+returns-3 c =
+    let at-if2 = c .before .before in
+    let at-if1 = at-if2 .before in
+    let at-reg = at-if1 .before in
+    let entry = at-reg .before .before .before in
+    order-rest _ _ (entry .pre) _ (at-reg .reg .ensures) _ _ (c .before .reg2 .ensures) (c .schedules-of .ensures) (at-if1 .if1 .left)
+    (at-if2 .if2 .left)
 
 pub order-sound-spec : {M : Type 1} → statement M
 order-sound-spec =
-    tie.close (tie.spec reg-requires returns returns-2 reg-requires-2 get-requires returns-3)
+    tie.close (tie.spec reg-requires returns returns-2 reg-requires-2 schedules-of-requires returns-3)

@@ -16,7 +16,12 @@ nodes-sound-requires : tie.Need-nodes-sound-requires
 nodes-sound-requires c κs = search needs
 
 returns : tie.Need-returns
-returns c = and-on (sym (c .before .before .before .before .transfers-sound .ensures) ∙ c .before .before .before .if1 .taken) (and-on (sym (c .before .before .routers-sound .ensures) ∙ c .before .if2 .taken) (c .nodes-sound .ensures))
+returns c =
+    let at-routers-sound = c .before .before in
+    let at-if1 = at-routers-sound .before in
+    let at-transfers-sound = at-if1 .before in
+    and-on (sym (at-transfers-sound .transfers-sound .ensures) ∙ at-if1 .if1 .taken)
+    (and-on (sym (at-routers-sound .routers-sound .ensures) ∙ c .before .if2 .taken) (c .nodes-sound .ensures))
 
 returns-2 : tie.Need-returns-2
 returns-2 c = and-on (sym (c .before .before .before .transfers-sound .ensures) ∙ c .before .before .if1 .taken) (and-no _ (sym (c .before .routers-sound .ensures) ∙ c .if2 .left))

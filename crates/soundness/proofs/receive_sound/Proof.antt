@@ -22,7 +22,12 @@ kind-travels-requires : tie.Need-kind-travels-requires
 kind-travels-requires c κs = search needs
 
 returns-3 : tie.Need-returns-3
-returns-3 c = receive-rest _ _ _ (c .before .before .before .before .reg .ensures) _ (c .before .reg2 .ensures) (c .before .before .before .if1 .left) (c .before .before .if2 .left) (c .kind-travels .ensures)
+returns-3 c =
+    let at-if2 = c .before .before in
+    let at-if1 = at-if2 .before in
+    let at-reg = at-if1 .before in
+    receive-rest _ _ _ (at-reg .reg .ensures) _ (c .before .reg2 .ensures) (at-if1 .if1 .left) (at-if2 .if2 .left)
+    (c .kind-travels .ensures)
 
 pub receive-sound-spec : {M : Type 1} → statement M
 receive-sound-spec =

@@ -21,11 +21,25 @@ lies-in-requires-2 c κs = search needs
 
 returns : tie.Need-returns
 unfolding _≤?_
-returns c = and-on (sym (c .before .before .before .before .before .before .kind-travels .ensures) ∙ c .before .before .before .before .before .if1 .taken) (and-on (sym (c .before .before .before .before .unless-data .ensures) ∙ c .before .before .before .if2 .taken) (and-on (sym (c .before .before .lies-in .ensures) ∙ c .before .if3 .taken) (c .lies-in2 .ensures)))
+returns c =
+    let at-lies-in = c .before .before in
+    let at-if2 = at-lies-in .before in
+    let at-unless-data = at-if2 .before in
+    let at-if1 = at-unless-data .before in
+    let at-kind-travels = at-if1 .before in
+    and-on (sym (at-kind-travels .kind-travels .ensures) ∙ at-if1 .if1 .taken)
+    (and-on (sym (at-unless-data .unless-data .ensures) ∙ at-if2 .if2 .taken)
+    (and-on (sym (at-lies-in .lies-in .ensures) ∙ c .before .if3 .taken) (c .lies-in2 .ensures)))
 
 returns-2 : tie.Need-returns-2
 unfolding _≤?_
-returns-2 c = and-on (sym (c .before .before .before .before .before .kind-travels .ensures) ∙ c .before .before .before .before .if1 .taken) (and-on (sym (c .before .before .before .unless-data .ensures) ∙ c .before .before .if2 .taken) (and-no _ (sym (c .before .lies-in .ensures) ∙ c .if3 .left)))
+returns-2 c =
+    let at-if2 = c .before .before in
+    let at-unless-data = at-if2 .before in
+    let at-if1 = at-unless-data .before in
+    let at-kind-travels = at-if1 .before in
+    and-on (sym (at-kind-travels .kind-travels .ensures) ∙ at-if1 .if1 .taken)
+    (and-on (sym (at-unless-data .unless-data .ensures) ∙ at-if2 .if2 .taken) (and-no _ (sym (c .before .lies-in .ensures) ∙ c .if3 .left)))
 
 returns-3 : tie.Need-returns-3
 unfolding _≤?_

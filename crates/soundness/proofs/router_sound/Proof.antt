@@ -37,15 +37,43 @@ reg-requires-2 c κs = search needs
 
 returns-2 : tie.Need-returns-2
 unfolding routerSound _≤?_
-returns-2 c = and-on (sym (c .before .before .before .before .before .before .before .before .wire-sound .ensures) ∙ c .before .before .before .before .before .before .before .if2 .taken) (and-on (sym (c .before .before .before .before .before .before .wire-sound2 .ensures) ∙ c .before .before .before .before .before .if3 .taken) (and-on (sym (c .before .before .before .before .wire-sound3 .ensures) ∙ c .before .before .before .if4 .taken) (and-on (sym (c .before .before .choice-sound .ensures) ∙ c .before .if5 .taken) (ap (λ (n : ℕ). n ≤? 5) (c .reg2 .ensures)))))
+returns-2 c =
+    let at-choice-sound = c .before .before in
+    let at-if4 = at-choice-sound .before in
+    let at-wire-sound3 = at-if4 .before in
+    let at-if3 = at-wire-sound3 .before in
+    let at-wire-sound2 = at-if3 .before in
+    let at-if2 = at-wire-sound2 .before in
+    let at-wire-sound = at-if2 .before in
+    and-on (sym (at-wire-sound .wire-sound .ensures) ∙ at-if2 .if2 .taken)
+    (and-on (sym (at-wire-sound2 .wire-sound2 .ensures) ∙ at-if3 .if3 .taken)
+    (and-on (sym (at-wire-sound3 .wire-sound3 .ensures) ∙ at-if4 .if4 .taken)
+    (and-on (sym (at-choice-sound .choice-sound .ensures) ∙ c .before .if5 .taken) (ap (λ (n : ℕ). n ≤? 5) (c .reg2 .ensures)))))
 
 returns-3 : tie.Need-returns-3
 unfolding routerSound
-returns-3 c = and-on (sym (c .before .before .before .before .before .before .before .wire-sound .ensures) ∙ c .before .before .before .before .before .before .if2 .taken) (and-on (sym (c .before .before .before .before .before .wire-sound2 .ensures) ∙ c .before .before .before .before .if3 .taken) (and-on (sym (c .before .before .before .wire-sound3 .ensures) ∙ c .before .before .if4 .taken) (and-no _ (sym (c .before .choice-sound .ensures) ∙ c .if5 .left))))
+returns-3 c =
+    let at-if4 = c .before .before in
+    let at-wire-sound3 = at-if4 .before in
+    let at-if3 = at-wire-sound3 .before in
+    let at-wire-sound2 = at-if3 .before in
+    let at-if2 = at-wire-sound2 .before in
+    let at-wire-sound = at-if2 .before in
+    and-on (sym (at-wire-sound .wire-sound .ensures) ∙ at-if2 .if2 .taken)
+    (and-on (sym (at-wire-sound2 .wire-sound2 .ensures) ∙ at-if3 .if3 .taken)
+    (and-on (sym (at-wire-sound3 .wire-sound3 .ensures) ∙ at-if4 .if4 .taken)
+    (and-no _ (sym (c .before .choice-sound .ensures) ∙ c .if5 .left))))
 
 returns-4 : tie.Need-returns-4
 unfolding routerSound
-returns-4 c = and-on (sym (c .before .before .before .before .before .wire-sound .ensures) ∙ c .before .before .before .before .if2 .taken) (and-on (sym (c .before .before .before .wire-sound2 .ensures) ∙ c .before .before .if3 .taken) (and-no _ (sym (c .before .wire-sound3 .ensures) ∙ c .if4 .left)))
+returns-4 c =
+    let at-if3 = c .before .before in
+    let at-wire-sound2 = at-if3 .before in
+    let at-if2 = at-wire-sound2 .before in
+    let at-wire-sound = at-if2 .before in
+    and-on (sym (at-wire-sound .wire-sound .ensures) ∙ at-if2 .if2 .taken)
+    (and-on (sym (at-wire-sound2 .wire-sound2 .ensures) ∙ at-if3 .if3 .taken)
+    (and-no _ (sym (c .before .wire-sound3 .ensures) ∙ c .if4 .left)))
 
 returns-5 : tie.Need-returns-5
 unfolding routerSound

@@ -33,7 +33,18 @@ rest-sound-requires : tie.Need-rest-sound-requires
 rest-sound-requires c κs = search needs
 
 returns-3 : tie.Need-returns-3
-returns-3 c = transfer-rest _ _ _ _ (c .before .before .before .before .before .before .before .before .reg .ensures) (c .before .before .before .before .before .before .before .reg2 .ensures) _ (c .before .before .before .before .before .before .before .before .before .before .before .pre) _ _ _ _ (c .before .before .before .before .at .ensures) (c .before .before .before .reg3 .ensures) (c .before .before .reg4 .ensures) (c .before .reg5 .ensures) (c .before .before .before .before .before .before .if1 .left) (c .before .before .before .before .before .if2 .left) (c .rest-sound .ensures)
+returns-3 c =
+    let at-reg4 = c .before .before in
+    let at-reg3 = at-reg4 .before in
+    let at-at = at-reg3 .before in
+    let at-if2 = at-at .before in
+    let at-if1 = at-if2 .before in
+    let at-reg2 = at-if1 .before in
+    let at-reg = at-reg2 .before in
+    let entry = at-reg .before .before .before in
+    transfer-rest _ _ _ _ (at-reg .reg .ensures) (at-reg2 .reg2 .ensures) _ (entry .pre) _ _ _ _ (at-at .at .ensures)
+    (at-reg3 .reg3 .ensures) (at-reg4 .reg4 .ensures) (c .before .reg5 .ensures) (at-if1 .if1 .left) (at-if2 .if2 .left)
+    (c .rest-sound .ensures)
 
 pub transfer-sound-spec : {M : Type 1} → statement M
 transfer-sound-spec =

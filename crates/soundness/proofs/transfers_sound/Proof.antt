@@ -19,11 +19,11 @@ Inv-loop s z count c₀ c = (count ≡ circuits (sheetIn s)) × (c ≤ count) ×
 abbrev μ-loop : tie.MeasureT-loop
 μ-loop s z count c₀ c = count - c
 
-get-requires : tie.Need-get-requires Inv-loop μ-loop
-get-requires c κs = tt
+circuits-of-requires : tie.Need-circuits-of-requires Inv-loop μ-loop
+circuits-of-requires c κs = tt
 
 loop-holds : tie.Need-loop-holds Inv-loop μ-loop
-loop-holds c = (count-circuits _ _ (c .before .before .before .pre) (c .get .ensures), omega arith, sym (all-none _))
+loop-holds c = (count-circuits _ _ (c .before .before .before .pre) (c .circuits-of .ensures), omega arith, sym (all-none _))
 
 transfer-sound-requires : tie.Need-transfer-sound-requires Inv-loop μ-loop
 transfer-sound-requires c κs = c .before .before .before .before .before .pre
@@ -38,7 +38,11 @@ loop-again : tie.Need-loop-again Inv-loop μ-loop
 loop-again c = (c .before .before .before .loop .inv .0, omega arith, tested-more _ _ (c .before .before .before .loop .inv .2) (c .before .transfer-sound .ensures) (c .if1 .taken))
 
 returns : tie.Need-returns Inv-loop μ-loop
-returns c = tested-fails _ _ (c .before .before .before .loop .inv .2) _ _ (c .before .before .before .loop .inv .0) (c .before .before .loop-test .taken) (c .before .transfer-sound .ensures) (c .if1 .left)
+returns c =
+    let at-loop-test = c .before .before in
+    let at-loop = at-loop-test .before in
+    tested-fails _ _ (at-loop .loop .inv .2) _ _ (at-loop .loop .inv .0) (at-loop-test .loop-test .taken)
+    (c .before .transfer-sound .ensures) (c .if1 .left)
 
 returns-2 : tie.Need-returns-2 Inv-loop μ-loop
 returns-2 c = tested-all _ _ (c .before .loop .inv .2) _ _ (c .before .loop .inv .0) (c .before .loop .inv .1) (c .loop-test .left)
@@ -49,7 +53,7 @@ transfers-sound-spec =
     (tie.spec
     Inv-loop
     μ-loop
-    get-requires
+    circuits-of-requires
     loop-holds
     transfer-sound-requires
     add-c

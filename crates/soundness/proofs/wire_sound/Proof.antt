@@ -25,7 +25,12 @@ kind-travels-requires : tie.Need-kind-travels-requires
 kind-travels-requires c κs = search needs
 
 returns-3 : tie.Need-returns-3
-returns-3 c = cell-header _ _ _ (c .before .before .before .before .before .reg .ensures) _ _ (c .before .before .before .if2 .left) (c .before .before .reg2 .ensures) (c .before .kind .ensures) (c .kind-travels .ensures)
+returns-3 c =
+    let at-reg2 = c .before .before in
+    let at-if2 = at-reg2 .before in
+    let at-reg = at-if2 .before .before in
+    cell-header _ _ _ (at-reg .reg .ensures) _ _ (at-if2 .if2 .left) (at-reg2 .reg2 .ensures) (c .before .kind .ensures)
+    (c .kind-travels .ensures)
 
 pub wire-sound-spec : {M : Type 1} → statement M
 wire-sound-spec =

@@ -38,7 +38,13 @@ loop-less : tie.Need-loop-less Inv-loop μ-loop
 loop-less c = omega (arith, c .before .before .before .loop-test .taken)
 
 loop-again : tie.Need-loop-again Inv-loop μ-loop
-loop-again c = passing-more _ _ _ _ _ _ (c .before .before .before .before .before .before .before .pre .1) (c .before .before .before .before .before .before .before .pre .2) (c .before .before .before .before .before .before .before .pre .3) (c .before .before .before .before .loop .inv) (c .before .before .before .loop-test .taken) _ (c .before .before .at .ensures) (c .if1 .taken)
+loop-again c =
+    let at-at = c .before .before in
+    let at-loop-test = at-at .before in
+    let at-loop = at-loop-test .before in
+    let entry = at-loop .before .before .before in
+    passing-more _ _ _ _ _ _ (entry .pre .1) (entry .pre .2) (entry .pre .3) (at-loop .loop .inv) (at-loop-test .loop-test .taken) _
+    (at-at .at .ensures) (c .if1 .taken)
 
 returns : tie.Need-returns Inv-loop μ-loop
 returns c = c .before .before .before .before .loop .inv .behind

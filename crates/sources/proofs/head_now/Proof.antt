@@ -25,13 +25,24 @@ enum-told c = search needs
 
 returns : tie.Need-returns
 returns c =
-    let p = parts _ _ _ _ _ (c .before .before .before .before .before .reg .ensures) (c .before .before .before .before .reg2 .ensures) (c .before .before .before .before .before .before .slot-now .ensures .1) in
-    header-made _ _ (c .before .before .before .before .before .before .before .before .before .before .pre .0) _ (c .before .before .before .before .before .before .before .before .before .before .pre .2) (c .before .before .before .before .before .before .before .before .before .before .pre .3) _ _ _ p _ (c .before .before .before .new .ensures) _ (c .before .built .given .1)
+    let at-new = c .before .before .before in
+    let at-reg2 = at-new .before in
+    let at-reg = at-reg2 .before in
+    let at-slot-now = at-reg .before in
+    let entry = at-slot-now .before .before .before .before in
+    let p = parts _ _ _ _ _ (at-reg .reg .ensures) (at-reg2 .reg2 .ensures) (at-slot-now .slot-now .ensures .1) in
+    header-made _ _ (entry .pre .0) _ (entry .pre .2) (entry .pre .3) _ _ _ p _ (at-new .new .ensures) _ (c .before .built .given .1)
 
 returns-2 : tie.Need-returns-2
 returns-2 c =
-    let p = parts _ _ _ _ _ (c .before .before .before .before .reg .ensures) (c .before .before .before .reg2 .ensures) (c .before .before .before .before .before .slot-now .ensures .1) in
-    absurd (header-refused _ _ (c .before .before .before .before .before .before .before .before .before .pre .0) _ (c .before .before .before .before .before .before .before .before .before .pre .2) (c .before .before .before .before .before .before .before .before .before .pre .3) _ _ _ p _ (c .before .before .new .ensures) _ (c .enum-told .given .1))
+    let at-new = c .before .before in
+    let at-reg2 = at-new .before in
+    let at-reg = at-reg2 .before in
+    let at-slot-now = at-reg .before in
+    let entry = at-slot-now .before .before .before .before in
+    let p = parts _ _ _ _ _ (at-reg .reg .ensures) (at-reg2 .reg2 .ensures) (at-slot-now .slot-now .ensures .1) in
+    absurd (header-refused _ _ (entry .pre .0) _ (entry .pre .2) (entry .pre .3) _ _ _ p _ (at-new .new .ensures) _
+    (c .enum-told .given .1))
 
 pub head-now-spec : {M : Type 1} → statement M
 head-now-spec =

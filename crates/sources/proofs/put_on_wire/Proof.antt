@@ -13,7 +13,15 @@ same-length : tie.Need-same-length
 same-length c = search needs
 
 returns : tie.Need-returns
-returns c = (is-taken (c .before .before .before .before .before .args .marks .now) (c .before .before .before .before .before .args .node) _ (c .before .get .ensures) (λ h. omega arith), (taken-stays _ _ _ (c .before .get .ensures) (λ h. omega arith) _ _, taken-stays _ _ _ (c .before .get .ensures) (λ h. omega arith) _ _))
+returns c =
+    let entry = c .before .before .before .before .before in (
+      is-taken (entry .args .marks .now) (entry .args .node) _ (c .before .get .ensures) (λ h. omega arith),
+      (
+        taken-stays _ _ _ (c .before .get .ensures) (λ h. omega arith) _ _,
+        taken-stays _ _ _ (c .before .get .ensures) (λ h. omega arith) _
+            _,
+      ),
+    )
 
 put-requires : tie.Need-put-requires
 put-requires c κs = search needs

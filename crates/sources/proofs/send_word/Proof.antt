@@ -19,25 +19,35 @@ reg-requires-4 : tie.Need-reg-requires-4
 reg-requires-4 c κs = search needs
 
 sub-put-reg : tie.Need-sub-put-reg
-sub-put-reg c = omega (arith, c .before .before .before .before .before .before .before .before .before .before .pre .0 .some-left (c .before .before .before .before .before .before .before .before .before .before .pre .1))
+sub-put-reg c =
+    let entry = c .before .before .before .before .before .before .before .before .before .before in
+    omega (arith, entry .pre .0 .some-left (entry .pre .1))
 
 put-reg-requires : tie.Need-put-reg-requires
 put-reg-requires c κs = search needs
 
 add-put-reg : tie.Need-add-put-reg
-add-put-reg c = omega (arith, c .before .before .before .before .before .before .before .before .before .before .before .before .before .before .pre .0 .read-rises (c .before .before .before .before .before .before .before .before .before .before .before .before .before .before .pre .1))
+add-put-reg c =
+    let entry = c .before .before .before .before .before .before .before .before .before .before .before .before .before .before in
+    omega (arith, entry .pre .0 .read-rises (entry .pre .1))
 
 put-reg-requires-2 : tie.Need-put-reg-requires-2
 put-reg-requires-2 c κs = search needs
 
 add-put-reg-2 : tie.Need-add-put-reg-2
-add-put-reg-2 c = omega (arith, c .before .before .before .before .before .before .before .before .before .before .before .before .before .before .before .before .before .before .pre .0 .write-rises (c .before .before .before .before .before .before .before .before .before .before .before .before .before .before .before .before .before .before .pre .1))
+add-put-reg-2 c =
+    let entry = c .before .before .before .before .before .before .before .before .before .before .before .before .before .before .before
+    .before .before .before in
+    omega (arith, entry .pre .0 .write-rises (entry .pre .1))
 
 put-reg-requires-3 : tie.Need-put-reg-requires-3
 put-reg-requires-3 c κs = search needs
 
 sub-put-reg-2 : tie.Need-sub-put-reg-2
-sub-put-reg-2 c = omega (arith, c .before .before .before .before .before .before .before .before .before .before .before .before .before .before .before .before .before .before .before .before .before .before .pre .1)
+sub-put-reg-2 c =
+    let entry = c .before .before .before .before .before .before .before .before .before .before .before .before .before .before .before
+    .before .before .before .before .before .before .before in
+    omega (arith, entry .pre .1)
 
 put-reg-requires-4 : tie.Need-put-reg-requires-4
 put-reg-requires-4 c κs = search needs
@@ -46,7 +56,17 @@ same-length : tie.Need-same-length
 same-length c = search needs
 
 returns : tie.Need-returns
-returns c = send-is _ _ _ _ _ _ (c .before .before .before .before .before .before .before .before .before .before .before .before .before .before .before .before .before .before .before .before .before .before .reg .ensures) (c .before .before .before .before .before .before .before .before .before .before .before .before .before .before .before .before .before .before .before .before .reg2 .ensures) (c .before .before .before .before .before .before .before .before .before .before .before .before .before .before .before .before .before .before .reg3 .ensures) (c .before .before .before .before .before .before .before .before .before .before .before .before .before .before .before .before .reg4 .ensures) _ _ _ _ (c .before .before .before .before .before .before .before .before .before .before .before .before .before .before .put-reg .ensures) (c .before .before .before .before .before .before .before .before .before .before .put-reg2 .ensures) (c .before .before .before .before .before .before .put-reg3 .ensures) (c .before .before .put-reg4 .ensures)
+returns c =
+    let at-put-reg4 = c .before .before in
+    let at-put-reg3 = at-put-reg4 .before .before .before .before in
+    let at-put-reg2 = at-put-reg3 .before .before .before .before in
+    let at-put-reg = at-put-reg2 .before .before .before .before in
+    let at-reg4 = at-put-reg .before .before in
+    let at-reg3 = at-reg4 .before .before in
+    let at-reg2 = at-reg3 .before .before in
+    let at-reg = at-reg2 .before .before in
+    send-is _ _ _ _ _ _ (at-reg .reg .ensures) (at-reg2 .reg2 .ensures) (at-reg3 .reg3 .ensures) (at-reg4 .reg4 .ensures) _ _ _ _
+    (at-put-reg .put-reg .ensures) (at-put-reg2 .put-reg2 .ensures) (at-put-reg3 .put-reg3 .ensures) (at-put-reg4 .put-reg4 .ensures)
 
 pub send-word-spec : {M : Type 1} → statement M
 send-word-spec =

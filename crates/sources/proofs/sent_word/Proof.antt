@@ -9,7 +9,9 @@ does-open-requires : tie.Need-does-open-requires
 does-open-requires c κs = (c .before .before .before .before .pre .0 .paired, c .before .before .before .before .pre .1, c .before .before .before .before .pre .2)
 
 head-now-requires : tie.Need-head-now-requires
-head-now-requires c κs = (c .before .before .before .before .before .before .pre .0, c .before .before .before .before .before .before .pre .1, c .before .before .before .before .before .before .pre .2, opens-left _ _ _ (c .before .does-open .ensures) (c .if1 .taken))
+head-now-requires c κs =
+    let entry = c .before .before .before .before .before .before in
+    (entry .pre .0, entry .pre .1, entry .pre .2, opens-left _ _ _ (c .before .does-open .ensures) (c .if1 .taken))
 
 returns : tie.Need-returns
 returns c = word-opens _ _ _ (c .before .before .does-open .ensures) _ _ (c .head-now .ensures) (c .before .if1 .taken)
@@ -24,7 +26,12 @@ read-now-requires : tie.Need-read-now-requires
 read-now-requires c κs = c .before .before .before .before .before .before .before .before .pre .0 .paired
 
 returns-3 : tie.Need-returns-3
-returns-3 c = word-sends _ _ _ (c .before .before .before .before .does-open .ensures) _ (c .before .before .before .if1 .left) _ (c .before .before .reg .ensures) _ (c .read-now .ensures) (c .before .if2 .left)
+returns-3 c =
+    let at-reg = c .before .before in
+    let at-if1 = at-reg .before in
+    let at-does-open = at-if1 .before in
+    word-sends _ _ _ (at-does-open .does-open .ensures) _ (at-if1 .if1 .left) _ (at-reg .reg .ensures) _ (c .read-now .ensures)
+    (c .before .if2 .left)
 
 pub sent-word-spec : {M : Type 1} → statement M
 sent-word-spec =

@@ -10,7 +10,12 @@ get-requires : tie.Need-get-requires
 get-requires c κs = search needs
 
 returns : tie.Need-returns
-returns c = (no-slot _ _ (c .before .before .before .before .before .pre .0) _ (c .before .before .before .before .before .pre .1) _ (c .before .before .before .before .before .pre .2) _ (c .before .get .ensures) (c .if1 .taken), no-route _ _ (c .before .before .before .before .before .pre .0) _ (c .before .before .before .before .before .pre .1) _ (c .before .before .before .before .before .pre .2) _ (c .before .get .ensures) (c .if1 .taken))
+returns c =
+    let entry = c .before .before .before .before .before in (
+      no-slot _ _ (entry .pre .0) _ (entry .pre .1) _ (entry .pre .2) _ (c .before .get .ensures) (c .if1 .taken),
+      no-route _ _
+          (entry .pre .0) _ (entry .pre .1) _ (entry .pre .2) _ (c .before .get .ensures) (c .if1 .taken),
+    )
 
 reg-requires : tie.Need-reg-requires
 reg-requires c κs = search needs
@@ -25,10 +30,24 @@ cast-at : tie.Need-cast-at
 cast-at c = search needs
 
 at-requires : tie.Need-at-requires
-at-requires c κs = slot-inside _ _ (c .before .before .before .before .before .before .before .pre .0) _ (c .before .before .before .before .before .before .before .pre .1) _ (c .before .before .before .before .before .before .before .pre .2) _ (c .before .before .before .get .ensures) (c .before .before .if1 .left) _ (c .before .reg .ensures) _ (c .entries-of .ensures)
+at-requires c κs =
+    let at-if1 = c .before .before in
+    let at-get = at-if1 .before in
+    let entry = at-get .before .before .before .before in
+    slot-inside _ _ (entry .pre .0) _ (entry .pre .1) _ (entry .pre .2) _ (at-get .get .ensures) (at-if1 .if1 .left) _
+    (c .before .reg .ensures) _ (c .entries-of .ensures)
 
 returns-2 : tie.Need-returns-2
-returns-2 c = (slot-size _ _ (c .before .before .before .before .before .before .before .before .pre .0) _ (c .before .before .before .before .before .before .before .before .pre .1) _ (c .before .before .before .before .before .before .before .before .pre .2) _ (c .before .before .before .before .get .ensures) (c .before .before .before .if1 .left) _ (c .before .before .reg .ensures) _ (c .before .entries-of .ensures) _ (c .at .ensures), slot-route _ _ (c .before .before .before .before .before .before .before .before .pre .0) _ (c .before .before .before .before .before .before .before .before .pre .1) _ (c .before .before .before .before .before .before .before .before .pre .2) _ (c .before .before .before .before .get .ensures) (c .before .before .before .if1 .left) _ (c .before .before .reg .ensures) _ (c .before .entries-of .ensures) _ (c .at .ensures))
+returns-2 c =
+    let at-reg = c .before .before in
+    let at-if1 = at-reg .before in
+    let at-get = at-if1 .before in
+    let entry = at-get .before .before .before .before in (
+      slot-size _ _ (entry .pre .0) _ (entry .pre .1) _ (entry .pre .2) _ (at-get .get .ensures) (at-if1 .if1 .left) _ (at-reg .reg .ensures)
+          _ (c .before .entries-of .ensures) _ (c .at .ensures),
+      slot-route _ _ (entry .pre .0) _ (entry .pre .1) _ (entry .pre .2) _
+          (at-get .get .ensures) (at-if1 .if1 .left) _ (at-reg .reg .ensures) _ (c .before .entries-of .ensures) _ (c .at .ensures),
+    )
 
 pub slot-now-spec : {M : Type 1} → statement M
 slot-now-spec =

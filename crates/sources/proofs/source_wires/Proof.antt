@@ -16,11 +16,13 @@ Inv-loop s z m slots marks₀ cells₀ count fault₀ c₀ marks cells fault c =
 abbrev μ-loop : tie.MeasureT-loop
 μ-loop s z m slots marks₀ cells₀ count fault₀ c₀ marks cells fault c = count - c
 
-get-requires : tie.Need-get-requires Inv-loop μ-loop
-get-requires c κs = search needs
+circuits-of-requires : tie.Need-circuits-of-requires Inv-loop μ-loop
+circuits-of-requires c κs = search needs
 
 loop-holds : tie.Need-loop-holds Inv-loop μ-loop
-loop-holds c = wiring-start _ _ _ (c .before .before .before .before .before .before .before .pre .0) _ _ _ (c .get .ensures) (c .before .before .before .before .before .before .before .pre .3) (c .before .before .before .before .before .before .before .pre .4)
+loop-holds c =
+    let entry = c .before .before .before .before .before .before .before in
+    wiring-start _ _ _ (entry .pre .0) _ _ _ (c .circuits-of .ensures) (entry .pre .3) (entry .pre .4)
 
 reg-requires : tie.Need-reg-requires Inv-loop μ-loop
 reg-requires c κs = search needs
@@ -32,10 +34,17 @@ loop-less : tie.Need-loop-less Inv-loop μ-loop
 loop-less c = omega arith
 
 loop-again : tie.Need-loop-again Inv-loop μ-loop
-loop-again c = wiring-rests _ _ _ (c .before .before .before .before .before .before .before .before .before .before .before .pre .0) _ _ _ _ _ (c .before .before .before .loop .inv) (c .before .before .before .before .before .before .before .before .before .before .before .pre .1) (omega arith) _ (c .before .reg .ensures) (c .if1 .taken)
+loop-again c =
+    let at-loop = c .before .before .before in
+    let entry = at-loop .before .before .before .before .before .before .before .before in
+    wiring-rests _ _ _ (entry .pre .0) _ _ _ _ _ (at-loop .loop .inv) (entry .pre .1) (omega arith) _ (c .before .reg .ensures)
+    (c .if1 .taken)
 
 put-circuit-requires : tie.Need-put-circuit-requires Inv-loop μ-loop
-put-circuit-requires c κs = (c .before .before .before .before .before .before .before .before .before .before .before .before .before .pre .0, c .before .before .before .before .before .before .before .before .before .before .before .before .before .pre .2, omega (arith, c .before .before .before .before .before .loop .inv .whole), c .before .before .before .before .before .loop .inv .marks-done, c .before .before .before .before .before .loop .inv .words-done)
+put-circuit-requires c κs =
+    let at-loop = c .before .before .before .before .before in
+    let entry = at-loop .before .before .before .before .before .before .before .before in
+    (entry .pre .0, entry .pre .2, omega (arith, at-loop .loop .inv .whole), at-loop .loop .inv .marks-done, at-loop .loop .inv .words-done)
 
 either-requires : tie.Need-either-requires Inv-loop μ-loop
 either-requires c κs = search needs
@@ -47,7 +56,12 @@ loop-less-2 : tie.Need-loop-less-2 Inv-loop μ-loop
 loop-less-2 c = omega arith
 
 loop-again-2 : tie.Need-loop-again-2 Inv-loop μ-loop
-loop-again-2 c = wiring-more _ _ _ (c .before .before .before .before .before .before .before .before .before .before .before .before .before .before .before .before .before .before .before .pre .0) _ _ _ _ _ (c .before .before .before .before .before .before .before .before .before .before .before .loop .inv) (omega arith) _ _ _ _ (c .before .before .before .before .before .put-circuit .ensures .1 .0) (c .before .before .before .before .before .put-circuit .ensures .1 .1) (c .before .before .before .before .before .put-circuit .ensures .0) (c .either .ensures)
+loop-again-2 c =
+    let at-put-circuit = c .before .before .before .before .before in
+    let at-loop = at-put-circuit .before .before .before .before .before .before in
+    let entry = at-loop .before .before .before .before .before .before .before .before in
+    wiring-more _ _ _ (entry .pre .0) _ _ _ _ _ (at-loop .loop .inv) (omega arith) _ _ _ _ (at-put-circuit .put-circuit .ensures .1 .0)
+    (at-put-circuit .put-circuit .ensures .1 .1) (at-put-circuit .put-circuit .ensures .0) (c .either .ensures)
 
 same-length : tie.Need-same-length Inv-loop μ-loop
 same-length c = marks-length _ _ _ (c .before .loop .inv .marks-done) ∙ sym (ap length (c .before .before .before .before .before .before .before .before .before .pre .3) ∙ length-tab 16 _)
@@ -56,7 +70,15 @@ same-length-2 : tie.Need-same-length-2 Inv-loop μ-loop
 same-length-2 c = words-length _ _ _ _ (c .before .loop .inv .words-done) ∙ sym (ap length (c .before .before .before .before .before .before .before .before .before .pre .4) ∙ length-tab 16 _)
 
 returns : tie.Need-returns Inv-loop μ-loop
-returns c = (wiring-fault _ _ _ (c .before .before .before .before .before .before .before .before .before .pre .0) _ _ _ _ _ (c .before .loop .inv) (omega arith), (wiring-marks _ _ _ (c .before .before .before .before .before .before .before .before .before .pre .0) _ _ _ _ _ (c .before .loop .inv) (omega arith), wiring-words _ _ _ (c .before .before .before .before .before .before .before .before .before .pre .0) _ _ _ _ _ (c .before .loop .inv) (omega arith)))
+returns c =
+    let entry = c .before .before .before .before .before .before .before .before .before in (
+      wiring-fault _ _ _ (entry .pre .0) _ _ _ _ _ (c .before .loop .inv) (omega arith),
+      (
+        wiring-marks _ _ _ (entry .pre .0) _ _ _ _ _ (c .before .loop .inv) (omega arith),
+        wiring-words _ _ _ (entry .pre .0) _ _ _ _ _
+            (c .before .loop .inv) (omega arith),
+      ),
+    )
 
 pub source-wires-spec : {M : Type 1} → statement M
 source-wires-spec =
@@ -64,7 +86,7 @@ source-wires-spec =
     (tie.spec
     Inv-loop
     μ-loop
-    get-requires
+    circuits-of-requires
     loop-holds
     reg-requires
     add-c

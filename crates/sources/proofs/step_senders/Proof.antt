@@ -16,14 +16,23 @@ abbrev μ-loop : tie.MeasureT-loop
 sheet-of-requires : tie.Need-sheet-of-requires Inv-loop μ-loop
 sheet-of-requires c κs = search needs
 
-get-requires : tie.Need-get-requires Inv-loop μ-loop
-get-requires c κs = search needs
+circuits-of-requires : tie.Need-circuits-of-requires Inv-loop μ-loop
+circuits-of-requires c κs = search needs
 
 loop-holds : tie.Need-loop-holds Inv-loop μ-loop
-loop-holds c = stepping-start _ _ (c .before .sheet-of .ensures) _ (c .get .ensures)
+loop-holds c = stepping-start _ _ (c .before .sheet-of .ensures) _ (c .circuits-of .ensures)
 
 step-sender-requires : tie.Need-step-sender-requires Inv-loop μ-loop
-step-sender-requires c κs = (step-paired _ (c .before .before .before .before .before .before .before .before .pre .0) _ _ _ (c .before .before .loop .inv) (omega arith), step-table _ (c .before .before .before .before .before .before .before .before .pre .0) _ _ _ (c .before .before .loop .inv) (omega arith) _ (c .before .before .before .before .before .before .before .before .pre .1), step-inside _ (c .before .before .before .before .before .before .before .before .pre .0) _ _ _ (c .before .before .loop .inv) (omega arith), step-sending _ (c .before .before .before .before .before .before .before .before .pre .0) _ _ _ (c .before .before .loop .inv) (omega arith))
+step-sender-requires c κs =
+    let at-loop = c .before .before in
+    let entry = at-loop .before .before .before .before .before .before in (
+      step-paired _ (entry .pre .0) _ _ _ (at-loop .loop .inv) (omega arith),
+      step-table _ (entry .pre .0) _ _ _ (at-loop .loop .inv)
+          (omega arith) _ (entry .pre .1),
+      step-inside _ (entry .pre .0) _ _ _ (at-loop .loop .inv) (omega arith),
+      step-sending _ (entry .pre .0)
+          _ _ _ (at-loop .loop .inv) (omega arith),
+    )
 
 add-c : tie.Need-add-c Inv-loop μ-loop
 add-c c = omega arith
@@ -32,7 +41,11 @@ loop-less : tie.Need-loop-less Inv-loop μ-loop
 loop-less c = omega arith
 
 loop-again : tie.Need-loop-again Inv-loop μ-loop
-loop-again c = stepping-more _ (c .before .before .before .before .before .before .before .before .before .before .before .pre .0) _ _ _ (c .before .before .before .before .before .loop .inv) (omega arith) _ (c .before .before .step-sender .ensures)
+loop-again c =
+    let at-step-sender = c .before .before in
+    let at-loop = at-step-sender .before .before .before in
+    let entry = at-loop .before .before .before .before .before .before in
+    stepping-more _ (entry .pre .0) _ _ _ (at-loop .loop .inv) (omega arith) _ (at-step-sender .step-sender .ensures)
 
 same-length : tie.Need-same-length Inv-loop μ-loop
 same-length c = stepping-length _ (c .before .before .before .before .before .before .before .pre .0) _ _ _ (c .before .loop .inv)
@@ -47,7 +60,7 @@ step-senders-spec =
     Inv-loop
     μ-loop
     sheet-of-requires
-    get-requires
+    circuits-of-requires
     loop-holds
     step-sender-requires
     add-c

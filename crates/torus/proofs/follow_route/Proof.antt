@@ -4,10 +4,10 @@ use mathlib.Core.Path.{_∙_}
 use Prim.Native.Nat.{_-_}
 use native.Mathlib.Nat.{mod-lt}
 use native.Mathlib.Omega.{arith}
-use borrow.Author.Needs.{needs}
-use Rattle.torus.specs.Route.{routeFrom, pathOf}
+use Rattle.torus.specs.Route.{routeFrom}
+use Rattle.torus.specs.Inner.Paths.{pathOf}
 use Rattle.torus.proofs.NeighbourLaws.{bounds}
-use Rattle.torus.proofs.RouteLaws.{Going, going-start, going-out, going-lost, going-on, going-end, output-small}
+use Rattle.torus.proofs.RouteLaws.{Going, going-start, going-out, going-lost, going-on, going-end, output-small, hop-high}
 use Rattle.torus.proofs.follow_route.Statement.{statement}
 use Rattle.torus.proofs.follow_route.Tie as tie
 
@@ -26,7 +26,7 @@ add-wires : tie.Need-add-wires Inv-loop μ-loop
 add-wires c = let b = bounds (c .pre) in omega arith
 
 array-write-wires : tie.Need-array-write-wires Inv-loop μ-loop
-array-write-wires c = search needs
+array-write-wires c = omega arith
 
 loop-holds : tie.Need-loop-holds Inv-loop μ-loop
 loop-holds c = going-start _ _ _ _ (c .pre)
@@ -47,7 +47,7 @@ output-of-requires : tie.Need-output-of-requires Inv-loop μ-loop
 output-of-requires c κs = mod-lt _ (omega arith)
 
 nowhere-path-requires : tie.Need-nowhere-path-requires Inv-loop μ-loop
-nowhere-path-requires c κs = search needs
+nowhere-path-requires c κs = tt
 
 returns : tie.Need-returns Inv-loop μ-loop
 returns c =
@@ -94,8 +94,11 @@ neighbour-requires c κs = c .before .before .before .loop .inv .here
 add-entry : tie.Need-add-entry Inv-loop μ-loop
 add-entry c = omega (arith, output-small _ _ _ (c .before .before .output-of .ensures) (mod-lt _ (omega arith)))
 
+hop-cycles-requires : tie.Need-hop-cycles-requires Inv-loop μ-loop
+hop-cycles-requires c κs = tt
+
 add-delay : tie.Need-add-delay Inv-loop μ-loop
-add-delay c = omega arith
+add-delay c = omega (arith, hop-high _ _ (c .hop-cycles .ensures))
 
 add-hops : tie.Need-add-hops Inv-loop μ-loop
 add-hops c = omega arith
@@ -105,12 +108,12 @@ loop-less c = omega arith
 
 loop-again : tie.Need-loop-again Inv-loop μ-loop
 loop-again c =
-    let on = c .before in
+    let on = c .before .before in
     going-on (on .before .before .before .loop .inv) (on .before .before .loop-test .taken) (on .before .output-of .ensures)
-    (on .if1 .left) (c .neighbour .ensures) (omega arith)
+    (on .if1 .left) (c .before .neighbour .ensures) (omega arith) (c .hop-cycles .ensures)
 
 nowhere-path-requires-2 : tie.Need-nowhere-path-requires-2 Inv-loop μ-loop
-nowhere-path-requires-2 c κs = search needs
+nowhere-path-requires-2 c κs = tt
 
 returns-3 : tie.Need-returns-3 Inv-loop μ-loop
 returns-3 c = c .nowhere-path2 .ensures ∙ going-end (c .before .before .loop .inv) (c .before .loop-test .left)
@@ -143,6 +146,7 @@ follow-route-spec =
     array-write-wires-3
     neighbour-requires
     add-entry
+    hop-cycles-requires
     add-delay
     add-hops
     loop-less

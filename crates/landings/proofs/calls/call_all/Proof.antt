@@ -1,6 +1,6 @@
 -- `landings::calls::call_all` meets its contract: the load decides, or the starts upon the loaded state do.
 -- Assumes nothing.
-use Rattle.landings.proofs.CallLaws.{place-is, call-refused, call-started}
+use Rattle.landings.proofs.CallLaws.{place-is, load-passes, call-refused, call-started}
 use Rattle.landings.proofs.MessageLaws.{transfers-there, count-is, count-few, all-there}
 use native.Mathlib.Omega.{arith}
 use borrow.Author.Needs.{needs}
@@ -17,7 +17,11 @@ same-length : tie.Need-same-length
 same-length c = search needs
 
 returns : tie.Need-returns
-returns c = call-refused _ _ _ (c .before .before .before .before .before .before .before .before .before .before .pre .1) (c .before .before .before .before .load .ensures .0) (c .before .number-of .ensures) (c .before .before .before .before .load .ensures .1) (c .if1 .taken)
+returns c =
+    let at-load = c .before .before .before .before in
+    let entry = at-load .before .before .before .before .before .before in
+    call-refused _ _ _ (entry .pre .1) (at-load .load .ensures .0) (c .before .number-of .ensures) (at-load .load .ensures .1)
+    (c .if1 .taken)
 
 add-at : tie.Need-add-at
 add-at c = search needs
@@ -26,16 +30,39 @@ add-at-2 : tie.Need-add-at-2
 add-at-2 c = search needs
 
 word-in-requires : tie.Need-word-in-requires
-word-in-requires c κs = transfers-there _ (c .before .before .before .before .before .before .before .before .before .before .pre .0) _ (place-is _ (c .before .before .before .before .before .before .before .before .before .before .pre .1) (c .before .before .before .before .before .before .before .before .before .before .pre .2)) .0
+word-in-requires c κs =
+    let entry = c .before .before .before .before .before .before .before .before .before .before in
+    transfers-there _ (entry .pre .0) _ (place-is _ (entry .pre .1) (entry .pre .2)) .0
 
 start-all-requires : tie.Need-start-all-requires
-start-all-requires c κs = (place-is _ (c .before .before .before .before .before .before .before .before .before .before .before .before .pre .1) (c .before .before .before .before .before .before .before .before .before .before .before .before .pre .2), count-is _ (c .before .before .before .before .before .before .before .before .before .before .before .before .pre .0) _ (place-is _ (c .before .before .before .before .before .before .before .before .before .before .before .before .pre .1) (c .before .before .before .before .before .before .before .before .before .before .before .before .pre .2)) (c .before .word-in .ensures), count-few _ (c .before .before .before .before .before .before .before .before .before .before .before .before .pre .0) _ (place-is _ (c .before .before .before .before .before .before .before .before .before .before .before .before .pre .1) (c .before .before .before .before .before .before .before .before .before .before .before .before .pre .2)) (c .before .word-in .ensures), omega (arith, all-there _ (c .before .before .before .before .before .before .before .before .before .before .before .before .pre .0) _ (place-is _ (c .before .before .before .before .before .before .before .before .before .before .before .before .pre .1) (c .before .before .before .before .before .before .before .before .before .before .before .before .pre .2)) (c .before .word-in .ensures)))
+start-all-requires c κs =
+    let at-if1 = c .before .before in
+    let at-number-of = at-if1 .before in
+    let at-load = at-number-of .before .before .before in
+    let entry = at-load .before .before .before .before .before .before in (
+      place-is _ (entry .pre .1) (entry .pre .2),
+      count-is _ (entry .pre .0) _ (place-is _ (entry .pre .1) (entry .pre .2))
+          (c .before .word-in .ensures),
+      count-few _ (entry .pre .0) _ (place-is _ (entry .pre .1) (entry .pre .2)) (c .before .word-in .ensures),
+      omega (arith, all-there _ (entry .pre .0) _ (place-is _ (entry .pre .1) (entry .pre .2)) (c .before .word-in .ensures)),
+      load-passes _ _
+          _ (entry .pre .1) (at-load .load .ensures .0) (at-number-of .number-of .ensures) (at-load .load .ensures .1) (at-if1 .if1 .left),
+    )
 
 same-length-2 : tie.Need-same-length-2
 same-length-2 c = search needs
 
 returns-2 : tie.Need-returns-2
-returns-2 c = call-started _ _ _ (c .before .before .before .before .before .before .before .before .before .before .before .before .before .before .before .pre .1) (c .before .before .before .before .before .before .before .before .before .load .ensures .0) (c .before .before .before .before .before .before .number-of .ensures) (c .before .before .before .before .before .before .before .before .before .load .ensures .1) _ (c .before .before .before .before .before .if1 .left) (count-is _ (c .before .before .before .before .before .before .before .before .before .before .before .before .before .before .before .pre .0) _ (place-is _ (c .before .before .before .before .before .before .before .before .before .before .before .before .before .before .before .pre .1) (c .before .before .before .before .before .before .before .before .before .before .before .before .before .before .before .pre .2)) (c .before .before .before .before .word-in .ensures)) (c .before .before .start-all .ensures .0) (c .before .before .start-all .ensures .1)
+returns-2 c =
+    let at-start-all = c .before .before in
+    let at-word-in = at-start-all .before .before in
+    let at-if1 = at-word-in .before in
+    let at-number-of = at-if1 .before in
+    let at-load = at-number-of .before .before .before in
+    let entry = at-load .before .before .before .before .before .before in
+    call-started _ _ _ (entry .pre .1) (at-load .load .ensures .0) (at-number-of .number-of .ensures) (at-load .load .ensures .1) _
+    (at-if1 .if1 .left) (count-is _ (entry .pre .0) _ (place-is _ (entry .pre .1) (entry .pre .2)) (at-word-in .word-in .ensures))
+    (at-start-all .start-all .ensures .0) (at-start-all .start-all .ensures .1)
 
 pub call-all-spec : {M : Type 1} → statement M
 call-all-spec =

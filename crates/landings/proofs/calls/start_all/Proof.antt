@@ -13,7 +13,7 @@ abbrev μ-loop : tie.MeasureT-loop
 μ-loop bytes at count s₀ k₀ s k = count - k
 
 loop-holds : tie.Need-loop-holds Inv-loop μ-loop
-loop-holds c = start-none _ _ _
+loop-holds c = start-none _ _ _ (c .before .before .pre .4)
 
 add-start-transfer : tie.Need-add-start-transfer Inv-loop μ-loop
 add-start-transfer c = omega arith
@@ -28,13 +28,18 @@ add-start-transfer-2 : tie.Need-add-start-transfer-2 Inv-loop μ-loop
 add-start-transfer-2 c = omega arith
 
 start-transfer-requires : tie.Need-start-transfer-requires Inv-loop μ-loop
-start-transfer-requires c κs = omega arith
+start-transfer-requires c κs = (c .before .before .loop .inv .passes, omega arith)
 
 same-length : tie.Need-same-length Inv-loop μ-loop
 same-length c = omega arith
 
 returns : tie.Need-returns Inv-loop μ-loop
-returns c = start-refused _ _ _ _ _ _ (c .before .before .before .before .before .before .loop .inv) (c .before .before .before .before .before .loop-test .taken) (omega arith) (c .before .before .before .start-transfer .ensures .0) (c .before .before .before .start-transfer .ensures .1) (c .if1 .taken)
+returns c =
+    let at-start-transfer = c .before .before .before in
+    let at-loop-test = at-start-transfer .before .before in
+    let at-loop = at-loop-test .before in
+    start-refused _ _ _ _ _ _ (at-loop .loop .inv) (at-loop-test .loop-test .taken) (omega arith)
+    (at-start-transfer .start-transfer .ensures .0) (at-start-transfer .start-transfer .ensures .1) (c .if1 .taken)
 
 add-k : tie.Need-add-k Inv-loop μ-loop
 add-k c = omega arith
@@ -43,7 +48,12 @@ loop-less : tie.Need-loop-less Inv-loop μ-loop
 loop-less c = omega arith
 
 loop-again : tie.Need-loop-again Inv-loop μ-loop
-loop-again c = start-more _ _ _ _ _ _ (c .before .before .before .before .before .before .loop .inv) (c .before .before .before .before .before .loop-test .taken) (omega arith) (c .before .before .before .start-transfer .ensures .0) (c .before .before .before .start-transfer .ensures .1) (c .if1 .left) (omega arith)
+loop-again c =
+    let at-start-transfer = c .before .before .before in
+    let at-loop-test = at-start-transfer .before .before in
+    let at-loop = at-loop-test .before in
+    start-more _ _ _ _ _ _ (at-loop .loop .inv) (at-loop-test .loop-test .taken) (omega arith)
+    (at-start-transfer .start-transfer .ensures .0) (at-start-transfer .start-transfer .ensures .1) (c .if1 .left) (omega arith)
 
 same-length-2 : tie.Need-same-length-2 Inv-loop μ-loop
 same-length-2 c = c .before .loop .inv .long

@@ -32,8 +32,8 @@ add-word-in-4 c = search needs
 word-in-requires-5 : tie.Need-word-in-requires-5
 word-in-requires-5 c κs = search needs
 
-start-requires : tie.Need-start-requires
-start-requires c κs = search needs
+start-sound-requires : tie.Need-start-sound-requires
+start-sound-requires c κs = c .before .before .before .before .before .before .before .before .pre .0
 
 number-of-requires : tie.Need-number-of-requires
 number-of-requires c κs = search needs
@@ -42,7 +42,18 @@ same-length : tie.Need-same-length
 same-length c = search needs
 
 returns : tie.Need-returns
-returns c = (start-number-is _ _ _ _ _ _ (c .before .before .before .before .before .before .before .before .before .word-in .ensures) (c .before .before .before .before .before .before .before .before .word-in2 .ensures) (c .before .before .before .before .before .before .before .word-in3 .ensures) (c .before .before .before .before .before .before .word-in4 .ensures) (c .before .before .before .before .before .word-in5 .ensures) (c .before .before .before .start .ensures .0) (c .number-of .ensures), start-state-is _ _ _ _ _ _ (c .before .before .before .before .before .before .before .before .before .word-in .ensures) (c .before .before .before .before .before .before .before .before .word-in2 .ensures) (c .before .before .before .before .before .before .before .word-in3 .ensures) (c .before .before .before .before .before .before .word-in4 .ensures) (c .before .before .before .before .before .word-in5 .ensures) (c .before .before .before .start .ensures .0) (c .number-of .ensures) (c .before .before .before .start .ensures .1))
+returns c =
+    let at-start-sound = c .before .before .before in
+    let at-word-in5 = at-start-sound .before .before in
+    let at-word-in4 = at-word-in5 .before in
+    let at-word-in3 = at-word-in4 .before in
+    let at-word-in2 = at-word-in3 .before in
+    let at-word-in = at-word-in2 .before in (
+      start-number-is _ _ _ (at-word-in .word-in .ensures) (at-word-in2 .word-in2 .ensures) (at-word-in3 .word-in3 .ensures)
+          (at-word-in4 .word-in4 .ensures) (at-word-in5 .word-in5 .ensures) (at-start-sound .start-sound .ensures .0) (c .number-of .ensures),
+      start-state-is _ _ _ (at-word-in .word-in .ensures) (at-word-in2 .word-in2 .ensures) (at-word-in3 .word-in3 .ensures)
+          (at-word-in4 .word-in4 .ensures) (at-word-in5 .word-in5 .ensures) (at-start-sound .start-sound .ensures .1),
+    )
 
 pub start-transfer-spec : {M : Type 1} → statement M
 start-transfer-spec =
@@ -57,7 +68,7 @@ start-transfer-spec =
     word-in-requires-4
     add-word-in-4
     word-in-requires-5
-    start-requires
+    start-sound-requires
     number-of-requires
     same-length
     returns)

@@ -16,7 +16,10 @@ same-length : tie.Need-same-length
 same-length c = search needs
 
 returns : tie.Need-returns
-returns c = checked-refused _ (c .before .before .before .before .before .before .before .before .before .pre .1) (c .before .before .before .before .before .read-words .ensures) (c .before .verdict-number .ensures) (c .if1 .taken)
+returns c =
+    let at-read-words = c .before .before .before .before .before in
+    let entry = at-read-words .before .before .before .before in
+    checked-refused _ (entry .pre .1) (at-read-words .read-words .ensures) (c .before .verdict-number .ensures) (c .if1 .taken)
 
 memory-size-requires : tie.Need-memory-size-requires
 memory-size-requires c κs = search needs
@@ -25,13 +28,22 @@ add-memory-message : tie.Need-add-memory-message
 add-memory-message c = search needs
 
 memory-message-requires : tie.Need-memory-message-requires
-memory-message-requires c κs = (omega arith, omega arith, memory-size-is _ (c .before .before .before .before .before .before .before .before .before .before .before .pre .1) (c .before .before .before .before .before .before .before .read-words .ensures) (c .memory-size .ensures))
+memory-message-requires c κs =
+    let at-read-words = c .before .before .before .before .before .before .before in
+    let entry = at-read-words .before .before .before .before in
+    (omega arith, omega arith, memory-size-is _ (entry .pre .1) (at-read-words .read-words .ensures) (c .memory-size .ensures))
 
 same-length-2 : tie.Need-same-length-2
 same-length-2 c = search needs
 
 returns-2 : tie.Need-returns-2
-returns-2 c = checked-on _ (c .before .before .before .before .before .before .before .before .before .before .before .before .pre .1) (c .before .before .before .before .before .before .before .before .read-words .ensures) (c .before .before .before .before .verdict-number .ensures) (c .before .before .before .if1 .left) (c .memory-message .ensures)
+returns-2 c =
+    let at-if1 = c .before .before .before in
+    let at-verdict-number = at-if1 .before in
+    let at-read-words = at-verdict-number .before .before .before .before in
+    let entry = at-read-words .before .before .before .before in
+    checked-on _ (entry .pre .1) (at-read-words .read-words .ensures) (at-verdict-number .verdict-number .ensures) (at-if1 .if1 .left)
+    (c .memory-message .ensures)
 
 pub checked-message-spec : {M : Type 1} → statement M
 checked-message-spec =

@@ -19,7 +19,14 @@ mul-word-in : tie.Need-mul-word-in
 mul-word-in c = omega (arith, count-few _ (c .before .before .pre .0) _ (c .before .before .pre .1) (c .word-in .ensures))
 
 add-word-in-2 : tie.Need-add-word-in-2
-add-word-in-2 c = omega (arith, transfers-there _ (c .before .before .pre .0) _ (c .before .before .pre .1) .1, count-few _ (c .before .before .pre .0) _ (c .before .before .pre .1) (c .word-in .ensures))
+add-word-in-2 c =
+    let entry = c .before .before in
+    omega (
+      arith,
+      transfers-there _ (entry .pre .0) _ (entry .pre .1) .1,
+      count-few _ (entry .pre .0) _ (entry .pre .1)
+          (c .word-in .ensures),
+    )
 
 word-in-requires-2 : tie.Need-word-in-requires-2
 word-in-requires-2 c κs = all-there _ (c .before .before .pre .0) _ (c .before .before .pre .1) (c .word-in .ensures)

@@ -37,7 +37,11 @@ cycles-message-requires : tie.Need-cycles-message-requires
 cycles-message-requires c κs = (cycles-place _ _ (c .before .before .before .before .pre .0) (c .before .before .if1 .left) (c .before .word-in .ensures), omega arith)
 
 returns-3 : tie.Need-returns-3
-returns-3 c = transfers-on _ _ (c .before .before .before .before .before .pre .0) (c .before .before .before .if1 .left) (c .before .before .word-in .ensures) (c .before .if2 .left) (c .cycles-message .ensures)
+returns-3 c =
+    let at-word-in = c .before .before in
+    let at-if1 = at-word-in .before in
+    let entry = at-if1 .before .before in
+    transfers-on _ _ (entry .pre .0) (at-if1 .if1 .left) (at-word-in .word-in .ensures) (c .before .if2 .left) (c .cycles-message .ensures)
 
 pub transfers-message-spec : {M : Type 1} → statement M
 transfers-message-spec =

@@ -25,7 +25,12 @@ loop-less : tie.Need-loop-less Inv-loop μ-loop
 loop-less c = omega arith
 
 loop-again : tie.Need-loop-again Inv-loop μ-loop
-loop-again c = lines-more _ _ _ _ _ _ _ _ (c .before .before .before .before .before .loop .inv) (c .before .before .before .before .loop-test .taken) (c .before .before .put-landing .ensures .0) (c .before .before .put-landing .ensures .1)
+loop-again c =
+    let at-put-landing = c .before .before in
+    let at-loop-test = at-put-landing .before .before in
+    let at-loop = at-loop-test .before in
+    lines-more _ _ _ _ _ _ _ _ (at-loop .loop .inv) (at-loop-test .loop-test .taken) (at-put-landing .put-landing .ensures .0)
+    (at-put-landing .put-landing .ensures .1)
 
 same-length : tie.Need-same-length Inv-loop μ-loop
 same-length c = c .before .loop .inv .long

@@ -17,7 +17,11 @@ reg-requires-2 c κs = search needs
 
 returns-2 : tie.Need-returns-2
 unfolding _=?_
-returns-2 c = due-rest _ _ (c .before .before .before .before .before .pre .0) (c .before .before .before .if1 .taken) _ (c .before .before .reg .ensures) _ _ (c .before .if2 .left) (c .reg2 .ensures) (c .before .before .before .before .before .pre .1)
+returns-2 c =
+    let at-reg = c .before .before in
+    let at-if1 = at-reg .before in
+    let entry = at-if1 .before .before in
+    due-rest _ _ (entry .pre .0) (at-if1 .if1 .taken) _ (at-reg .reg .ensures) _ _ (c .before .if2 .left) (c .reg2 .ensures) (entry .pre .1)
 
 returns-3 : tie.Need-returns-3
 returns-3 c = due-within _ _ (c .before .before .pre .0) (c .if1 .left)

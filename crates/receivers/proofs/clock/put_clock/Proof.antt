@@ -21,7 +21,13 @@ same-length : tie.Need-same-length
 same-length c = search needs
 
 returns : tie.Need-returns
-returns c = clock-is _ _ _ _ _ (c .before .before .before .before .before .before .before .before .before .before .before .before .before .before .put-reg .ensures) (c .before .before .before .before .before .before .before .before .before .before .put-reg2 .ensures) (c .before .before .before .before .before .before .put-reg3 .ensures) (c .before .before .put-reg4 .ensures)
+returns c =
+    let at-put-reg4 = c .before .before in
+    let at-put-reg3 = at-put-reg4 .before .before .before .before in
+    let at-put-reg2 = at-put-reg3 .before .before .before .before in
+    let at-put-reg = at-put-reg2 .before .before .before .before in
+    clock-is _ _ _ _ _ (at-put-reg .put-reg .ensures) (at-put-reg2 .put-reg2 .ensures) (at-put-reg3 .put-reg3 .ensures)
+    (at-put-reg4 .put-reg4 .ensures)
 
 pub put-clock-spec : {M : Type 1} → statement M
 put-clock-spec =

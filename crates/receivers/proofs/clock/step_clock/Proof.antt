@@ -25,7 +25,14 @@ wrapping-add-u32-requires c κs = search needs
 
 is-due-requires : tie.Need-is-due-requires
 unfolding _=?_
-is-due-requires c κs = (turns-is _ _ _ (c .before .before .before .before .reg .ensures) (c .before .before .before .before .before .before .period-now .ensures), c .before .wrapping-add-u32 .ensures ∙ ap nextNumber (c .before .before .reg2 .ensures))
+is-due-requires c κs =
+    let at-reg2 = c .before .before in
+    let at-reg = at-reg2 .before .before in
+    let at-period-now = at-reg .before .before in (
+      turns-is _ _ _ (at-reg .reg .ensures) (at-period-now .period-now .ensures),
+      c .before .wrapping-add-u32 .ensures ∙ ap nextNumber
+          (at-reg2 .reg2 .ensures),
+    )
 
 reg-requires-3 : tie.Need-reg-requires-3
 reg-requires-3 c κs = search needs
@@ -56,7 +63,25 @@ same-length c = search needs
 
 returns : tie.Need-returns
 unfolding _=?_
-returns c = clock-done _ (c .before .before .before .before .before .before .before .before .before .before .before .before .before .before .before .before .before .before .before .before .before .before .before .before .pre) _ _ (turns-is _ _ _ (c .before .before .before .before .before .before .before .before .before .before .before .before .before .before .before .before .before .before .before .reg .ensures) (c .before .before .before .before .before .before .before .before .before .before .before .before .before .before .before .before .before .before .before .before .before .period-now .ensures)) (c .before .before .before .before .before .before .before .before .before .before .before .before .before .before .is-due .ensures) _ _ _ _ _ _ (c .before .before .before .before .before .before .before .before .before .before .before .before .before .before .before .before .before .before .before .reg .ensures) (c .before .before .before .before .before .before .before .before .before .before .before .before .before .before .before .before .before .reg2 .ensures) (c .before .before .before .before .before .before .before .before .before .before .before .before .before .before .before .before .wrapping-add-u32 .ensures) (c .before .before .before .before .before .before .before .before .before .before .before .before .reg3 .ensures) (c .before .before .before .before .before .before .before .before .before .before .reg4 .ensures) (c .before .before .before .before .before .before .before .reg5 .ensures) (c .before .before .before .before .picked3 .ensures) (c .before .before .before .picked4 .ensures) (c .before .before .before .before .before .before .before .before .before .picked .ensures) (c .before .before .before .before .before .before .picked2 .ensures) (c .before .before .put-clock .ensures)
+returns c =
+    let at-put-clock = c .before .before in
+    let at-picked4 = at-put-clock .before in
+    let at-picked3 = at-picked4 .before in
+    let at-picked2 = at-picked3 .before .before in
+    let at-reg5 = at-picked2 .before in
+    let at-picked = at-reg5 .before .before in
+    let at-reg4 = at-picked .before in
+    let at-reg3 = at-reg4 .before .before in
+    let at-is-due = at-reg3 .before .before in
+    let at-wrapping-add-u32 = at-is-due .before .before in
+    let at-reg2 = at-wrapping-add-u32 .before in
+    let at-reg = at-reg2 .before .before in
+    let at-period-now = at-reg .before .before in
+    let entry = at-period-now .before .before .before in
+    clock-done _ (entry .pre) _ _ (turns-is _ _ _ (at-reg .reg .ensures) (at-period-now .period-now .ensures)) (at-is-due .is-due .ensures)
+    _ _ _ _ _ _ (at-reg .reg .ensures) (at-reg2 .reg2 .ensures) (at-wrapping-add-u32 .wrapping-add-u32 .ensures) (at-reg3 .reg3 .ensures)
+    (at-reg4 .reg4 .ensures) (at-reg5 .reg5 .ensures) (at-picked3 .picked3 .ensures) (at-picked4 .picked4 .ensures)
+    (at-picked .picked .ensures) (at-picked2 .picked2 .ensures) (at-put-clock .put-clock .ensures)
 
 pub step-clock-spec : {M : Type 1} → statement M
 step-clock-spec =

@@ -24,7 +24,12 @@ reg-requires-2 c κs = search needs
 
 returns-3 : tie.Need-returns-3
 unfolding _≤?_
-returns-3 c = stray-past _ _ _ (c .before .before .before .before .memory-mark .ensures) (omega arith) _ _ _ (c .before .before .reg .ensures) (c .before .if2 .left) (c .reg2 .ensures) (c .before .before .before .before .before .before .pre .1)
+returns-3 c =
+    let at-reg = c .before .before in
+    let at-memory-mark = at-reg .before .before in
+    let entry = at-memory-mark .before .before in
+    stray-past _ _ _ (at-memory-mark .memory-mark .ensures) (omega arith) _ _ _ (at-reg .reg .ensures) (c .before .if2 .left)
+    (c .reg2 .ensures) (entry .pre .1)
 
 pub does-stray-spec : {M : Type 1} → statement M
 does-stray-spec =

@@ -2,12 +2,12 @@
 -- Assumes nothing.
 use Prim.Native.Nat.{_-_}
 use native.Mathlib.Omega.{arith}
-use Rattle.receivers.proofs.StrayLaws.{Passing, pass-start, pass-more, pass-found, pass-over}
+use Rattle.receivers.proofs.StrayLaws.{StrayFree, pass-start, pass-more, pass-found, pass-over}
 use Rattle.receivers.proofs.receiving.has_stray.Statement.{statement}
 use Rattle.receivers.proofs.receiving.has_stray.Tie as tie
 
 abbrev Inv-loop : tie.InvT-loop
-Inv-loop s nodes room node₀ node = Passing s nodes node
+Inv-loop s nodes room node₀ node = StrayFree s nodes node
 
 abbrev μ-loop : tie.MeasureT-loop
 μ-loop s nodes room node₀ node = nodes - node
@@ -19,7 +19,11 @@ does-stray-requires : tie.Need-does-stray-requires Inv-loop μ-loop
 does-stray-requires c κs = (omega arith, c .before .before .before .pre .own-room)
 
 returns : tie.Need-returns Inv-loop μ-loop
-returns c = pass-found _ _ _ (c .before .before .before .before .before .pre) _ (c .before .before .before .loop .inv) (c .before .before .loop-test .taken) _ (c .before .does-stray .ensures) (c .if1 .taken)
+returns c =
+    let at-loop-test = c .before .before in
+    let at-loop = at-loop-test .before in
+    let entry = at-loop .before .before in
+    pass-found _ _ _ (entry .pre) _ (at-loop .loop .inv) (at-loop-test .loop-test .taken) _ (c .before .does-stray .ensures) (c .if1 .taken)
 
 add-node : tie.Need-add-node Inv-loop μ-loop
 add-node c = omega arith
@@ -28,7 +32,11 @@ loop-less : tie.Need-loop-less Inv-loop μ-loop
 loop-less c = omega arith
 
 loop-again : tie.Need-loop-again Inv-loop μ-loop
-loop-again c = pass-more _ _ _ (c .before .before .before .before .before .pre) _ (c .before .before .before .loop .inv) (c .before .before .loop-test .taken) _ (c .before .does-stray .ensures) (c .if1 .left)
+loop-again c =
+    let at-loop-test = c .before .before in
+    let at-loop = at-loop-test .before in
+    let entry = at-loop .before .before in
+    pass-more _ _ _ (entry .pre) _ (at-loop .loop .inv) (at-loop-test .loop-test .taken) _ (c .before .does-stray .ensures) (c .if1 .left)
 
 returns-2 : tie.Need-returns-2 Inv-loop μ-loop
 returns-2 c = pass-over _ _ _ (c .before .before .before .pre) _ (c .before .loop .inv) (c .loop-test .left)

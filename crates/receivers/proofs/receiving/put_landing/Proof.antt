@@ -33,7 +33,18 @@ same-length : tie.Need-same-length
 same-length c = search needs
 
 returns : tie.Need-returns
-returns c = landing-is _ _ (c .before .before .before .before .before .before .before .before .before .before .before .before .before .before .before .before .before .before .before .before .before .before .next-landing-mark .ensures) (c .before .before .before .before .before .before .before .before .before .before .before .before .before .before .before .before .before .before .before .before .reg .ensures) (c .before .before .before .before .before .before .before .before .before .before .before .before .before .before .before .before .before .before .reg2 .ensures) (c .before .before .before .before .before .before .before .before .before .before .before .before .before .before .before .before .memory-word .ensures) (c .before .before .before .before .before .before .before .before .before .before .before .before .before .before .put-reg .ensures) (c .before .before .before .before .before .before .before .before .before .before .put-reg2 .ensures) (c .before .before .before .before .before .before .put-reg3 .ensures) (c .before .before .put-reg4 .ensures)
+returns c =
+    let at-put-reg4 = c .before .before in
+    let at-put-reg3 = at-put-reg4 .before .before .before .before in
+    let at-put-reg2 = at-put-reg3 .before .before .before .before in
+    let at-put-reg = at-put-reg2 .before .before .before .before in
+    let at-memory-word = at-put-reg .before .before in
+    let at-reg2 = at-memory-word .before .before in
+    let at-reg = at-reg2 .before .before in
+    let at-next-landing-mark = at-reg .before .before in
+    landing-is _ _ (at-next-landing-mark .next-landing-mark .ensures) (at-reg .reg .ensures) (at-reg2 .reg2 .ensures)
+    (at-memory-word .memory-word .ensures) (at-put-reg .put-reg .ensures) (at-put-reg2 .put-reg2 .ensures) (at-put-reg3 .put-reg3 .ensures)
+    (at-put-reg4 .put-reg4 .ensures)
 
 pub put-landing-spec : {M : Type 1} → statement M
 put-landing-spec =

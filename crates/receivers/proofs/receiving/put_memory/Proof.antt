@@ -19,10 +19,14 @@ cast-address : tie.Need-cast-address
 cast-address c = search needs
 
 mul-put : tie.Need-mul-put
-mul-put c = omega (arith, place-small (c .before .before .before .before .before .before .args .node) (c .before .before .before .before .before .before .args .room) (c .before .before .before .before .before .before .pre) (omega arith))
+mul-put c =
+    let entry = c .before .before .before .before .before .before in
+    omega (arith, place-small (entry .args .node) (entry .args .room) (entry .pre) (omega arith))
 
 add-put : tie.Need-add-put
-add-put c = omega (arith, place-small (c .before .before .before .before .before .before .args .node) (c .before .before .before .before .before .before .args .room) (c .before .before .before .before .before .before .pre) (omega arith))
+add-put c =
+    let entry = c .before .before .before .before .before .before in
+    omega (arith, place-small (entry .args .node) (entry .args .room) (entry .pre) (omega arith))
 
 memory-word-requires : tie.Need-memory-word-requires
 memory-word-requires c κs = search needs
@@ -34,7 +38,13 @@ same-length : tie.Need-same-length
 same-length c = search needs
 
 returns-2 : tie.Need-returns-2
-returns-2 c = memory-stored _ _ _ (c .before .before .before .before .before .before .before .memory-mark .ensures) _ _ _ _ (c .before .before .before .before .before .reg .ensures) (c .before .before .before .memory-word .ensures) (omega arith) (c .before .before .put .ensures)
+returns-2 c =
+    let at-put = c .before .before in
+    let at-memory-word = at-put .before in
+    let at-reg = at-memory-word .before .before in
+    let at-memory-mark = at-reg .before .before in
+    memory-stored _ _ _ (at-memory-mark .memory-mark .ensures) _ _ _ _ (at-reg .reg .ensures) (at-memory-word .memory-word .ensures)
+    (omega arith) (at-put .put .ensures)
 
 pub put-memory-spec : {M : Type 1} → statement M
 put-memory-spec =

@@ -27,7 +27,16 @@ same-length : tie.Need-same-length
 same-length c = search needs
 
 returns : tie.Need-returns
-returns c = receive-is _ _ (c .before .before .before .before .before .before .before .before .before .before .before .before .before .before .before .before .next-receive-mark .ensures) (c .before .before .before .before .before .before .before .before .before .before .before .before .before .before .next-receive-kind .ensures) (c .before .before .before .before .before .before .before .before .before .before .before .before .next-receive-address .ensures) (c .before .before .before .before .before .before .before .before .before .before .put-reg .ensures) (c .before .before .before .before .before .before .put-reg2 .ensures) (c .before .before .put-reg3 .ensures)
+returns c =
+    let at-put-reg3 = c .before .before in
+    let at-put-reg2 = at-put-reg3 .before .before .before .before in
+    let at-put-reg = at-put-reg2 .before .before .before .before in
+    let at-next-receive-address = at-put-reg .before .before in
+    let at-next-receive-kind = at-next-receive-address .before .before in
+    let at-next-receive-mark = at-next-receive-kind .before .before in
+    receive-is _ _ (at-next-receive-mark .next-receive-mark .ensures) (at-next-receive-kind .next-receive-kind .ensures)
+    (at-next-receive-address .next-receive-address .ensures) (at-put-reg .put-reg .ensures) (at-put-reg2 .put-reg2 .ensures)
+    (at-put-reg3 .put-reg3 .ensures)
 
 pub put-receive-spec : {M : Type 1} → statement M
 put-receive-spec =

@@ -12,7 +12,10 @@ put-landing-requires : tie.Need-put-landing-requires
 put-landing-requires c κs = search needs
 
 put-receive-requires : tie.Need-put-receive-requires
-put-receive-requires c κs = landing-kept _ _ _ _ (c .before .before .before .before .before .before .before .before .before .before .before .before .pre) (c .before .before .before .put-landing .ensures)
+put-receive-requires c κs =
+    let at-put-landing = c .before .before .before in
+    let entry = at-put-landing .before .before .before .before .before .before .before .before .before in
+    landing-kept _ _ _ _ (entry .pre) (at-put-landing .put-landing .ensures)
 
 same-length : tie.Need-same-length
 same-length c = search needs
@@ -21,7 +24,11 @@ same-length-2 : tie.Need-same-length-2
 same-length-2 c = search needs
 
 returns : tie.Need-returns
-returns c = (node-is _ _ (c .before .before .before .before .before .before .put-landing .ensures) (c .before .before .put-receive .ensures), c .before .before .before .before .before .before .before .before .before .before .put-memory .ensures)
+returns c =
+    let at-put-receive = c .before .before in
+    let at-put-landing = at-put-receive .before .before .before .before in
+    let at-put-memory = at-put-landing .before .before .before .before in
+    (node-is _ _ (at-put-landing .put-landing .ensures) (at-put-receive .put-receive .ensures), at-put-memory .put-memory .ensures)
 
 pub step-receiver-spec : {M : Type 1} → statement M
 step-receiver-spec =

@@ -25,7 +25,15 @@ loop-less : tie.Need-loop-less Inv-loop μ-loop
 loop-less c = omega arith
 
 loop-again : tie.Need-loop-again Inv-loop μ-loop
-loop-again c = (omega arith, receiving-more _ _ _ _ (c .before .before .before .before .before .before .before .before .before .before .before .pre) _ _ _ (c .before .before .before .before .before .before .before .before .loop .inv .1) (c .before .before .before .before .before .before .before .loop-test .taken) _ _ (c .before .before .before .before .step-receiver .ensures .0) (c .before .before .before .before .step-receiver .ensures .1))
+loop-again c =
+    let at-step-receiver = c .before .before .before .before in
+    let at-loop-test = at-step-receiver .before .before .before in
+    let at-loop = at-loop-test .before in
+    let entry = at-loop .before .before .before in (
+      omega arith,
+      receiving-more _ _ _ _ (entry .pre) _ _ _ (at-loop .loop .inv .1) (at-loop-test .loop-test .taken) _ _
+          (at-step-receiver .step-receiver .ensures .0) (at-step-receiver .step-receiver .ensures .1),
+    )
 
 same-length : tie.Need-same-length Inv-loop μ-loop
 same-length c = c .before .loop .inv .1 .staged .same-length
@@ -34,7 +42,12 @@ same-length-2 : tie.Need-same-length-2 Inv-loop μ-loop
 same-length-2 c = c .before .loop .inv .1 .same-length
 
 returns : tie.Need-returns Inv-loop μ-loop
-returns c = (rows-done _ _ _ _ (c .before .before .before .before .pre) _ _ _ (c .before .loop .inv .1) (c .before .loop .inv .0) (c .loop-test .left), memory-done _ _ _ _ (c .before .before .before .before .pre) _ _ _ (c .before .loop .inv .1) (c .before .loop .inv .0) (c .loop-test .left))
+returns c =
+    let entry = c .before .before .before .before in (
+      rows-done _ _ _ _ (entry .pre) _ _ _ (c .before .loop .inv .1) (c .before .loop .inv .0) (c .loop-test .left),
+      memory-done _ _ _ _
+          (entry .pre) _ _ _ (c .before .loop .inv .1) (c .before .loop .inv .0) (c .loop-test .left),
+    )
 
 pub step-receivers-spec : {M : Type 1} → statement M
 step-receivers-spec =

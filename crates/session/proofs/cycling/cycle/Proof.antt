@@ -3,7 +3,7 @@
 use native.Mathlib.Omega.{arith}
 use mathlib.Core.Path.{_≡_}
 use Rattle.session.proofs.CyclingLaws.{cycle-early}
-use Rattle.session.proofs.WritingLaws.{answer-refused, words-kept}
+use Rattle.session.proofs.WritingLaws.{answer-refused, state-kept, memory-kept}
 use borrow.Author.Needs.{needs}
 use Rattle.session.proofs.cycling.cycle.Statement.{statement}
 use Rattle.session.proofs.cycling.cycle.Tie as tie
@@ -21,7 +21,7 @@ returns : tie.Need-returns
 returns c =
     let some : c .before .memory-number .result ≡ 0 → ⊥ = λ z. omega arith in
     let e = cycle-early _ _ (c .before .memory-number .ensures) some in
-    (answer-refused _ e some, (words-kept _ _ _ e some, words-kept _ _ _ e some))
+    (answer-refused _ e some, (state-kept _ _ e some, memory-kept _ _ e some))
 
 cycle-sound-requires : tie.Need-cycle-sound-requires
 cycle-sound-requires c κs = omega (arith, c .before .before .before .memory-number .ensures)

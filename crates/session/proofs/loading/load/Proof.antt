@@ -1,6 +1,6 @@
 -- `session::loading::load` meets its contract: the number decides between the state with the sheet and nothing.
 -- Assumes nothing.
-use Rattle.session.proofs.WritingLaws.{answer-done, answer-refused, words-kept, words-written}
+use Rattle.session.proofs.WritingLaws.{answer-done, answer-refused, state-kept, state-written}
 use Rattle.session.proofs.LoadingLaws.{sheet-fits}
 use borrow.Author.Needs.{needs}
 use Rattle.session.proofs.loading.load.Statement.{statement}
@@ -13,7 +13,7 @@ same-length : tie.Need-same-length
 same-length c = search needs
 
 returns : tie.Need-returns
-returns c = (answer-refused _ (c .before .load-number .ensures) (c .if1 .taken), words-kept _ _ _ (c .before .load-number .ensures) (c .if1 .taken))
+returns c = (answer-refused _ (c .before .load-number .ensures) (c .if1 .taken), state-kept _ _ (c .before .load-number .ensures) (c .if1 .taken))
 
 put-sheet-requires : tie.Need-put-sheet-requires
 put-sheet-requires c κs = sheet-fits _ _ _ (c .before .before .load-number .ensures) (c .before .if1 .left)
@@ -22,7 +22,14 @@ same-length-2 : tie.Need-same-length-2
 same-length-2 c = search needs
 
 returns-2 : tie.Need-returns-2
-returns-2 c = (answer-done _ (c .before .before .before .before .before .load-number .ensures) (c .before .before .before .before .if1 .left), words-written _ _ _ (c .before .before .before .before .before .load-number .ensures) (c .before .before .before .before .if1 .left) (c .before .before .put-sheet .ensures))
+returns-2 c =
+    let at-put-sheet = c .before .before in
+    let at-if1 = at-put-sheet .before .before in
+    let at-load-number = at-if1 .before in (
+      answer-done _ (at-load-number .load-number .ensures) (at-if1 .if1 .left),
+      state-written _ _ (at-load-number .load-number .ensures)
+          (at-if1 .if1 .left) (at-put-sheet .put-sheet .ensures),
+    )
 
 pub load-spec : {M : Type 1} → statement M
 load-spec =

@@ -3,6 +3,7 @@
 use native.Mathlib.Omega.{arith}
 use mathlib.Core.Path.{sym, _∙_}
 use Rattle.words.proofs.TestLaws.{yes=, no=, yes≤, no≤}
+use Rattle.sheet.proofs.VerdictLaws.{passed-framed}
 use Rattle.session.specs.Calls.{loadNumber}
 use Rattle.session.proofs.ReadingLaws.{then-first, then-next, unless-no, unless-yes}
 use Rattle.session.proofs.WritingLaws.{then-stop, then-on}
@@ -21,19 +22,27 @@ returns-2 : tie.Need-returns-2
 unfolding loadNumber
 returns-2 c = then-next (sym (c .before .before .verdict-number .ensures) ∙ c .before .if1 .left) (then-stop 12 _ (omega arith) (no≤ (omega arith)))
 
-words-wanted-requires : tie.Need-words-wanted-requires
-words-wanted-requires c κs = sym (c .before .before .verdict-number .ensures) ∙ c .before .if1 .left
+whole-memory-of-requires : tie.Need-whole-memory-of-requires
+whole-memory-of-requires c κs = passed-framed _ (sym (c .before .before .verdict-number .ensures) ∙ c .before .if1 .left) .headed
 
 cast-if3 : tie.Need-cast-if3
 cast-if3 c = search needs
 
 returns-3 : tie.Need-returns-3
 unfolding loadNumber
-returns-3 c = then-next (sym (c .before .before .before .before .verdict-number .ensures) ∙ c .before .before .before .if1 .left) (then-on 12 (yes≤ (omega arith)) (unless-yes 14 (yes= (omega (arith, c .before .words-wanted .ensures)))))
+returns-3 c =
+    let at-if1 = c .before .before .before in
+    let at-verdict-number = at-if1 .before in
+    then-next (sym (at-verdict-number .verdict-number .ensures) ∙ at-if1 .if1 .left)
+    (then-on 12 (yes≤ (omega arith)) (unless-yes 14 (yes= (omega (arith, c .before .whole-memory-of .ensures)))))
 
 returns-4 : tie.Need-returns-4
 unfolding loadNumber
-returns-4 c = then-next (sym (c .before .before .before .before .verdict-number .ensures) ∙ c .before .before .before .if1 .left) (then-on 12 (yes≤ (omega arith)) (unless-no 14 (no= (λ e. (let z : ⊥ = omega (arith, e, c .before .words-wanted .ensures) in z)))))
+returns-4 c =
+    let at-if1 = c .before .before .before in
+    let at-verdict-number = at-if1 .before in
+    then-next (sym (at-verdict-number .verdict-number .ensures) ∙ at-if1 .if1 .left)
+    (then-on 12 (yes≤ (omega arith)) (unless-no 14 (no= (λ e. (let z : ⊥ = omega (arith, e, c .before .whole-memory-of .ensures) in z)))))
 
 pub load-number-spec : {M : Type 1} → statement M
 load-number-spec =
@@ -42,7 +51,7 @@ load-number-spec =
     verdict-number-requires
     returns
     returns-2
-    words-wanted-requires
+    whole-memory-of-requires
     cast-if3
     returns-3
     returns-4)

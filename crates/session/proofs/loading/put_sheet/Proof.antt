@@ -24,7 +24,12 @@ same-length : tie.Need-same-length
 same-length c = search needs
 
 returns : tie.Need-returns
-returns c = loaded-is _ _ (c .before .before .before .before .before .before .before .before .before .before .before .before .before .before .pre .1) (c .before .before .before .before .before .before .before .before .before .before .clear-words .ensures) (c .before .before .before .before .before .before .put .ensures) (c .before .before .copy-words .ensures)
+returns c =
+    let at-copy-words = c .before .before in
+    let at-put = at-copy-words .before .before .before .before in
+    let at-clear-words = at-put .before .before .before .before in
+    let entry = at-clear-words .before .before .before .before in
+    loaded-is _ _ (entry .pre .1) (at-clear-words .clear-words .ensures) (at-put .put .ensures) (at-copy-words .copy-words .ensures)
 
 pub put-sheet-spec : {M : Type 1} → statement M
 put-sheet-spec =

@@ -3,7 +3,8 @@
 use native.Mathlib.Omega.{arith}
 use mathlib.Core.Path.{_∙_, ap₂}
 use Rattle.session.specs.Answers.{foundOf}
-use Rattle.session.proofs.ReadingLaws.{product-small, fetched-is}
+use Rattle.session.proofs.ReadingLaws.{fetched-is}
+use Rattle.words.proofs.WordLaws.{product-small}
 use borrow.Author.Needs.{needs}
 use Rattle.session.proofs.reading.fetch.Statement.{statement}
 use Rattle.session.proofs.reading.fetch.Tie as tie

@@ -25,7 +25,12 @@ reg-requires-4 c κs = search needs
 
 returns-2 : tie.Need-returns-2
 unfolding lastLanding
-returns-2 c = landing-word _ _ _ _ (λ e. c .before .before .before .if1 .left (c .before .before .before .before .reg .ensures ∙ e)) (c .before .before .reg2 .ensures) (c .before .reg3 .ensures) (c .reg4 .ensures)
+returns-2 c =
+    let at-reg2 = c .before .before in
+    let at-if1 = at-reg2 .before in
+    let at-reg = at-if1 .before in
+    landing-word _ _ _ _ (λ e. at-if1 .if1 .left (at-reg .reg .ensures ∙ e)) (at-reg2 .reg2 .ensures) (c .before .reg3 .ensures)
+    (c .reg4 .ensures)
 
 pub landing-at-spec : {M : Type 1} → statement M
 landing-at-spec =

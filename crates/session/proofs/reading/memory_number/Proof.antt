@@ -28,7 +28,11 @@ returns-2 c = then-next (sym (c .before .before .before .state-number .ensures) 
 
 returns-3 : tie.Need-returns-3
 unfolding memoryNumber
-returns-3 c = then-next (sym (c .before .before .before .state-number .ensures) ∙ c .before .before .if1 .left) (unless-no 14 (no= (λ e. (let z : ⊥ = omega (arith, e, c .before .memory-words .ensures) in z))))
+returns-3 c =
+    let at-if1 = c .before .before in
+    let at-state-number = at-if1 .before in
+    then-next (sym (at-state-number .state-number .ensures) ∙ at-if1 .if1 .left)
+    (unless-no 14 (no= (λ e. (let z : ⊥ = omega (arith, e, c .before .memory-words .ensures) in z))))
 
 pub memory-number-spec : {M : Type 1} → statement M
 memory-number-spec =

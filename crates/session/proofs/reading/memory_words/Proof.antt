@@ -1,24 +1,22 @@
--- `session::reading::memory_words` meets its contract: nodes times room, which are few where the sheet passes.
+-- `session::reading::memory_words` meets its contract: the memory words of the state's sheet, which are few where the sheet passes.
 -- Assumes nothing.
-use native.Mathlib.Omega.{arith}
-use mathlib.Core.Path.{ap₂}
-use Prim.Native.Nat.{_*_}
-use Rattle.session.proofs.ReadingLaws.{state-bounds, few-words}
-use borrow.Author.Needs.{needs}
+use Prim.Native.Nat.{ℕ, _*_}
+use mathlib.Core.List.{List}
+use mathlib.Core.Path.{sym, _∙_, ap, subst}
+use Rattle.sheet.specs.Sheet.{memoryWords, nodes}
+use Rattle.sheet.specs.Inner.Passed.{Headed}
+use Rattle.session.proofs.ReadingLaws.{state-headed}
 use Rattle.session.proofs.reading.memory_words.Statement.{statement}
 use Rattle.session.proofs.reading.memory_words.Tie as tie
 
-nodes-of-requires : tie.Need-nodes-of-requires
-nodes-of-requires c κs = search needs
+sheet-of-requires : tie.Need-sheet-of-requires
+sheet-of-requires c κs = tt
 
-room-of-requires : tie.Need-room-of-requires
-room-of-requires c κs = search needs
-
-mul-result : tie.Need-mul-result
-mul-result c = omega (arith, few-words _ (state-bounds _ (c .before .before .before .pre)), ap₂ _*_ (c .before .nodes-of .ensures) (c .room-of .ensures))
+whole-memory-of-requires : tie.Need-whole-memory-of-requires
+whole-memory-of-requires c κs = subst Headed (sym (c .sheet-of .ensures)) (state-headed _ (c .before .before .pre))
 
 returns : tie.Need-returns
-returns c = ap₂ _*_ (c .before .nodes-of .ensures) (c .room-of .ensures)
+returns c = c .whole-memory-of .ensures ∙ ap (λ (z : List ℕ). nodes z * memoryWords z) (c .before .sheet-of .ensures)
 
 pub memory-words-spec : {M : Type 1} → statement M
-memory-words-spec = tie.close (tie.spec nodes-of-requires room-of-requires mul-result returns)
+memory-words-spec = tie.close (tie.spec sheet-of-requires whole-memory-of-requires returns)

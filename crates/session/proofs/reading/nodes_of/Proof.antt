@@ -1,26 +1,21 @@
--- `session::reading::nodes_of` meets its contract: columns times rows, which are few where the sheet passes.
+-- `session::reading::nodes_of` meets its contract: the nodes of the state's sheet, which are few where the sheet passes.
 -- Assumes nothing.
-use native.Mathlib.Omega.{arith}
-use Rattle.session.proofs.ReadingLaws.{state-bounds, nodes-are}
-use borrow.Author.Needs.{needs}
+use mathlib.Core.Path.{sym, _∙_, ap, subst}
+use Rattle.sheet.specs.Sheet.{nodes}
+use Rattle.sheet.specs.Inner.Passed.{Headed}
+use Rattle.session.proofs.ReadingLaws.{state-headed}
+use Rattle.sheet.proofs.PassedLaws.{nodes-are}
 use Rattle.session.proofs.reading.nodes_of.Statement.{statement}
 use Rattle.session.proofs.reading.nodes_of.Tie as tie
 
 sheet-of-requires : tie.Need-sheet-of-requires
-sheet-of-requires c κs = search needs
+sheet-of-requires c κs = tt
 
-get-requires : tie.Need-get-requires
-get-requires c κs = search needs
-
-get-requires-2 : tie.Need-get-requires-2
-get-requires-2 c κs = search needs
-
-mul-result : tie.Need-mul-result
-mul-result c = omega (arith, state-bounds _ (c .before .before .before .before .pre) .few-nodes, nodes-are (c .before .get .ensures) (c .get2 .ensures) (c .before .before .sheet-of .ensures))
+nodes-of-requires : tie.Need-nodes-of-requires
+nodes-of-requires c κs = subst Headed (sym (c .sheet-of .ensures)) (state-headed _ (c .before .before .pre))
 
 returns : tie.Need-returns
-returns c = nodes-are (c .before .get .ensures) (c .get2 .ensures) (c .before .before .sheet-of .ensures)
+returns c = c .nodes-of .ensures .0 ∙ ap nodes (c .before .sheet-of .ensures)
 
 pub nodes-of-spec : {M : Type 1} → statement M
-nodes-of-spec =
-    tie.close (tie.spec sheet-of-requires get-requires get-requires-2 mul-result returns)
+nodes-of-spec = tie.close (tie.spec sheet-of-requires nodes-of-requires returns)

@@ -28,11 +28,20 @@ room-of-requires c κs = search needs
 
 returns-3 : tie.Need-returns-3
 unfolding placeNumber
-returns-3 c = then-next (sym (c .before .before .before .before .before .memory-number .ensures) ∙ c .before .before .before .before .if1 .left) (unless-yes 15 (and-both (yes< (omega (arith, c .before .before .before .nodes-of .ensures))) (yes< (omega (arith, c .before .room-of .ensures)))))
+returns-3 c =
+    let at-nodes-of = c .before .before .before in
+    let at-if1 = at-nodes-of .before in
+    let at-memory-number = at-if1 .before in
+    then-next (sym (at-memory-number .memory-number .ensures) ∙ at-if1 .if1 .left)
+    (unless-yes 15 (and-both (yes< (omega (arith, at-nodes-of .nodes-of .ensures))) (yes< (omega (arith, c .before .room-of .ensures)))))
 
 returns-4 : tie.Need-returns-4
 unfolding placeNumber
-returns-4 c = then-next (sym (c .before .before .before .before .before .memory-number .ensures) ∙ c .before .before .before .before .if1 .left) (unless-no 15 (and-no-right _ _ (no< (omega (arith, c .before .room-of .ensures)))))
+returns-4 c =
+    let at-if1 = c .before .before .before .before in
+    let at-memory-number = at-if1 .before in
+    then-next (sym (at-memory-number .memory-number .ensures) ∙ at-if1 .if1 .left)
+    (unless-no 15 (and-no-right _ _ (no< (omega (arith, c .before .room-of .ensures)))))
 
 pub place-number-spec : {M : Type 1} → statement M
 place-number-spec =

@@ -21,19 +21,31 @@ returns c = then-first _ (c .before .state-number .ensures) (c .if1 .taken)
 sheet-of-requires : tie.Need-sheet-of-requires
 sheet-of-requires c κs = search needs
 
-get-requires : tie.Need-get-requires
-get-requires c κs = search needs
+schedules-of-requires : tie.Need-schedules-of-requires
+schedules-of-requires c κs = search needs
 
 returns-2 : tie.Need-returns-2
 unfolding orderNumber isPending
-returns-2 c = then-next (sym (c .before .before .before .before .state-number .ensures) ∙ c .before .before .before .if1 .left) (then-stop 15 _ (omega arith) (no< (omega (arith, c .before .get .ensures ∙ ap schedules (c .before .before .sheet-of .ensures)))))
+returns-2 c =
+    let at-sheet-of = c .before .before in
+    let at-if1 = at-sheet-of .before in
+    let at-state-number = at-if1 .before in
+    then-next (sym (at-state-number .state-number .ensures) ∙ at-if1 .if1 .left)
+    (then-stop 15 _ (omega arith) (no< (omega (arith, c .before .schedules-of .ensures ∙ ap schedules (at-sheet-of .sheet-of .ensures)))))
 
 reg-requires : tie.Need-reg-requires
 reg-requires c κs = search needs
 
 returns-3 : tie.Need-returns-3
 unfolding orderNumber isPending
-returns-3 c = then-next (sym (c .before .before .before .before .before .before .state-number .ensures) ∙ c .before .before .before .before .before .if1 .left) (then-on 15 (yes< (omega (arith, c .before .before .before .get .ensures ∙ ap schedules (c .before .before .before .before .sheet-of .ensures)))) (then-stop 18 _ (omega arith) (some-there (c .before .reg .ensures) (c .if3 .taken))))
+returns-3 c =
+    let at-schedules-of = c .before .before .before in
+    let at-sheet-of = at-schedules-of .before in
+    let at-if1 = at-sheet-of .before in
+    let at-state-number = at-if1 .before in
+    then-next (sym (at-state-number .state-number .ensures) ∙ at-if1 .if1 .left)
+    (then-on 15 (yes< (omega (arith, at-schedules-of .schedules-of .ensures ∙ ap schedules (at-sheet-of .sheet-of .ensures))))
+    (then-stop 18 _ (omega arith) (some-there (c .before .reg .ensures) (c .if3 .taken))))
 
 reg-requires-2 : tie.Need-reg-requires-2
 reg-requires-2 c κs = search needs
@@ -43,15 +55,50 @@ wrapping-sub-u32-requires c κs = search needs
 
 returns-4 : tie.Need-returns-4
 unfolding orderNumber isPending
-returns-4 c = then-next (sym (c .before .before .before .before .before .before .before .before .before .state-number .ensures) ∙ c .before .before .before .before .before .before .before .before .if1 .left) (then-on 15 (yes< (omega (arith, c .before .before .before .before .before .before .get .ensures ∙ ap schedules (c .before .before .before .before .before .before .before .sheet-of .ensures)))) (then-on 18 (none-there (c .before .before .before .before .reg .ensures) (omega arith)) (unless-no 19 (too-near (ahead-is _ _ (omega arith) (omega arith) (c .before .wrapping-sub-u32 .ensures) (c .before .before .reg2 .ensures)) (omega arith)))))
+returns-4 c =
+    let at-reg2 = c .before .before in
+    let at-reg = at-reg2 .before .before in
+    let at-schedules-of = at-reg .before .before in
+    let at-sheet-of = at-schedules-of .before in
+    let at-if1 = at-sheet-of .before in
+    let at-state-number = at-if1 .before in
+    then-next (sym (at-state-number .state-number .ensures) ∙ at-if1 .if1 .left)
+    (then-on 15 (yes< (omega (arith, at-schedules-of .schedules-of .ensures ∙ ap schedules (at-sheet-of .sheet-of .ensures))))
+    (then-on 18 (none-there (at-reg .reg .ensures) (omega arith))
+    (unless-no 19 (too-near (ahead-is _ _ (omega arith) (omega arith) (c .before .wrapping-sub-u32 .ensures) (at-reg2 .reg2 .ensures))
+    (omega arith)))))
 
 returns-5 : tie.Need-returns-5
 unfolding orderNumber isPending
-returns-5 c = then-next (sym (c .before .before .before .before .before .before .before .before .before .before .state-number .ensures) ∙ c .before .before .before .before .before .before .before .before .before .if1 .left) (then-on 15 (yes< (omega (arith, c .before .before .before .before .before .before .before .get .ensures ∙ ap schedules (c .before .before .before .before .before .before .before .before .sheet-of .ensures)))) (then-on 18 (none-there (c .before .before .before .before .before .reg .ensures) (omega arith)) (unless-yes 19 (in-reach (ahead-is _ _ (omega arith) (omega arith) (c .before .before .wrapping-sub-u32 .ensures) (c .before .before .before .reg2 .ensures)) (omega arith) (omega arith)))))
+returns-5 c =
+    let at-wrapping-sub-u32 = c .before .before in
+    let at-reg2 = at-wrapping-sub-u32 .before in
+    let at-reg = at-reg2 .before .before in
+    let at-schedules-of = at-reg .before .before in
+    let at-sheet-of = at-schedules-of .before in
+    let at-if1 = at-sheet-of .before in
+    let at-state-number = at-if1 .before in
+    then-next (sym (at-state-number .state-number .ensures) ∙ at-if1 .if1 .left)
+    (then-on 15 (yes< (omega (arith, at-schedules-of .schedules-of .ensures ∙ ap schedules (at-sheet-of .sheet-of .ensures))))
+    (then-on 18 (none-there (at-reg .reg .ensures) (omega arith))
+    (unless-yes 19 (in-reach (ahead-is _ _ (omega arith) (omega arith) (at-wrapping-sub-u32 .wrapping-sub-u32 .ensures)
+    (at-reg2 .reg2 .ensures)) (omega arith) (omega arith)))))
 
 returns-6 : tie.Need-returns-6
 unfolding orderNumber isPending
-returns-6 c = then-next (sym (c .before .before .before .before .before .before .before .before .before .before .state-number .ensures) ∙ c .before .before .before .before .before .before .before .before .before .if1 .left) (then-on 15 (yes< (omega (arith, c .before .before .before .before .before .before .before .get .ensures ∙ ap schedules (c .before .before .before .before .before .before .before .before .sheet-of .ensures)))) (then-on 18 (none-there (c .before .before .before .before .before .reg .ensures) (omega arith)) (unless-no 19 (is-behind (ahead-is _ _ (omega arith) (omega arith) (c .before .before .wrapping-sub-u32 .ensures) (c .before .before .before .reg2 .ensures)) (omega arith)))))
+returns-6 c =
+    let at-wrapping-sub-u32 = c .before .before in
+    let at-reg2 = at-wrapping-sub-u32 .before in
+    let at-reg = at-reg2 .before .before in
+    let at-schedules-of = at-reg .before .before in
+    let at-sheet-of = at-schedules-of .before in
+    let at-if1 = at-sheet-of .before in
+    let at-state-number = at-if1 .before in
+    then-next (sym (at-state-number .state-number .ensures) ∙ at-if1 .if1 .left)
+    (then-on 15 (yes< (omega (arith, at-schedules-of .schedules-of .ensures ∙ ap schedules (at-sheet-of .sheet-of .ensures))))
+    (then-on 18 (none-there (at-reg .reg .ensures) (omega arith))
+    (unless-no 19 (is-behind (ahead-is _ _ (omega arith) (omega arith) (at-wrapping-sub-u32 .wrapping-sub-u32 .ensures)
+    (at-reg2 .reg2 .ensures)) (omega arith)))))
 
 pub order-number-spec : {M : Type 1} → statement M
 order-number-spec =
@@ -60,7 +107,7 @@ order-number-spec =
     state-number-requires
     returns
     sheet-of-requires
-    get-requires
+    schedules-of-requires
     returns-2
     reg-requires
     returns-3

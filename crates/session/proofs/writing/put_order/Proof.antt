@@ -18,7 +18,11 @@ same-length : tie.Need-same-length
 same-length c = search needs
 
 returns : tie.Need-returns
-returns c = ordered-is _ _ _ (c .before .before .before .before .before .before .before .before .before .before .put-reg .ensures) (c .before .before .before .before .before .before .put-reg2 .ensures) (c .before .before .put-reg3 .ensures)
+returns c =
+    let at-put-reg3 = c .before .before in
+    let at-put-reg2 = at-put-reg3 .before .before .before .before in
+    let at-put-reg = at-put-reg2 .before .before .before .before in
+    ordered-is _ _ _ (at-put-reg .put-reg .ensures) (at-put-reg2 .put-reg2 .ensures) (at-put-reg3 .put-reg3 .ensures)
 
 pub put-order-spec : {M : Type 1} → statement M
 put-order-spec =

@@ -22,8 +22,14 @@ same-length c = search needs
 
 returns : tie.Need-returns
 returns c =
-    let a = c .before .before .before .before .before .before .before .before .before .before .before .before .before .before .before .before .before .args in
-    started-is (a .s .now) (a .circuit) (a .read) (a .write) (a .count) (a .kind) (c .before .before .before .before .before .before .before .before .before .before .before .before .before .before .put-reg .ensures) (c .before .before .before .before .before .before .before .before .before .before .put-reg2 .ensures) (c .before .before .before .before .before .before .put-reg3 .ensures) (c .before .before .put-reg4 .ensures)
+    let at-put-reg4 = c .before .before in
+    let at-put-reg3 = at-put-reg4 .before .before .before .before in
+    let at-put-reg2 = at-put-reg3 .before .before .before .before in
+    let at-put-reg = at-put-reg2 .before .before .before .before in
+    let entry = at-put-reg .before .before .before in
+    let a = entry .args in
+    started-is (a .s .now) (a .circuit) (a .read) (a .write) (a .count) (a .kind) (at-put-reg .put-reg .ensures)
+    (at-put-reg2 .put-reg2 .ensures) (at-put-reg3 .put-reg3 .ensures) (at-put-reg4 .put-reg4 .ensures)
 
 pub put-start-spec : {M : Type 1} → statement M
 put-start-spec =

@@ -31,11 +31,25 @@ lies-in-requires-2 c κs = search needs
 
 returns-2 : tie.Need-returns-2
 unfolding startFits _=?_
-returns-2 c = and-on (yes≤ (omega arith)) (and-on (sym (c .before .before .before .before .unless-data .ensures) ∙ c .before .before .before .if2 .taken) (and-on (sym (reads-in _ _ _ _ (c .before .before .before .before .before .before .before .at .ensures) (c .before .before .before .before .before .before .before .before .sheet-of .ensures) (c .before .before .lies-in .ensures)) ∙ c .before .if3 .taken) (writes-in _ _ _ _ (c .before .before .before .before .before .before .before .at .ensures) (c .before .before .before .before .before .before .before .before .sheet-of .ensures) (c .lies-in2 .ensures))))
+returns-2 c =
+    let at-lies-in = c .before .before in
+    let at-if2 = at-lies-in .before in
+    let at-unless-data = at-if2 .before in
+    let at-at = at-unless-data .before .before .before in
+    let at-sheet-of = at-at .before in
+    and-on (yes≤ (omega arith)) (and-on (sym (at-unless-data .unless-data .ensures) ∙ at-if2 .if2 .taken)
+    (and-on (sym (reads-in _ _ _ _ (at-at .at .ensures) (at-sheet-of .sheet-of .ensures) (at-lies-in .lies-in .ensures)) ∙ c .before .if3
+    .taken) (writes-in _ _ _ _ (at-at .at .ensures) (at-sheet-of .sheet-of .ensures) (c .lies-in2 .ensures))))
 
 returns-3 : tie.Need-returns-3
 unfolding startFits _=?_
-returns-3 c = and-on (yes≤ (omega arith)) (and-on (sym (c .before .before .before .unless-data .ensures) ∙ c .before .before .if2 .taken) (and-no _ (sym (reads-in _ _ _ _ (c .before .before .before .before .before .before .at .ensures) (c .before .before .before .before .before .before .before .sheet-of .ensures) (c .before .lies-in .ensures)) ∙ c .if3 .left)))
+returns-3 c =
+    let at-if2 = c .before .before in
+    let at-unless-data = at-if2 .before in
+    let at-at = at-unless-data .before .before .before in
+    let at-sheet-of = at-at .before in
+    and-on (yes≤ (omega arith)) (and-on (sym (at-unless-data .unless-data .ensures) ∙ at-if2 .if2 .taken)
+    (and-no _ (sym (reads-in _ _ _ _ (at-at .at .ensures) (at-sheet-of .sheet-of .ensures) (c .before .lies-in .ensures)) ∙ c .if3 .left)))
 
 returns-4 : tie.Need-returns-4
 unfolding startFits _=?_

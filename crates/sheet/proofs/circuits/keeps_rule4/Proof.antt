@@ -1,14 +1,15 @@
 -- `sheet::circuits::keeps_rule4` meets its contract. Number 4: in the loop every circuit before `k` fits.
 -- Assumes nothing.
-use Prim.Native.Nat.{_≤_, _*_, _-_}
+use Prim.Native.Nat.{_≤_, _-_}
 use mathlib.Core.Bool.{true}
-use mathlib.Core.Path.{_≡_, sym, ap₂}
+use mathlib.Core.Path.{_≡_, sym}
 use native.Mathlib.Omega.{arith}
 use Rattle.words.specs.Tests.{all}
 use Rattle.words.proofs.AllLaws.{all-none, all-more, all-done, all-fails}
 use Rattle.sheet.specs.Sheet.{circuits, nodes as nodesOf, memoryWords, circuitAt}
 use Rattle.sheet.specs.Rules.{circuitFits, rule4}
-use Rattle.sheet.proofs.CircuitLaws.{nodes-few, fits-read}
+use Rattle.sheet.proofs.CircuitLaws.{fits-read}
+use Rattle.sheet.proofs.PassedLaws.{nodes-few}
 use Rattle.sheet.proofs.circuits.keeps_rule4.Statement.{statement}
 use Rattle.sheet.proofs.circuits.keeps_rule4.Tie as tie
 
@@ -23,27 +24,20 @@ Inv-loop z nodes memory count k₀ k =
 abbrev μ-loop : tie.MeasureT-loop
 μ-loop z nodes memory count k₀ k = count - k
 
-get-requires : tie.Need-get-requires Inv-loop μ-loop
-get-requires c κs = tt
+nodes-of-requires : tie.Need-nodes-of-requires Inv-loop μ-loop
+nodes-of-requires c κs = c .before .pre .headed
 
-get-requires-2 : tie.Need-get-requires-2 Inv-loop μ-loop
-get-requires-2 c κs = tt
+memory-of-requires : tie.Need-memory-of-requires Inv-loop μ-loop
+memory-of-requires c κs = tt
 
-mul-nodes : tie.Need-mul-nodes Inv-loop μ-loop
-mul-nodes c =
-    omega (arith, nodes-few _ (c .before .before .before .pre .headed) _ _ (c .before .get .ensures) (c .get2 .ensures))
-
-get-requires-3 : tie.Need-get-requires-3 Inv-loop μ-loop
-get-requires-3 c κs = tt
-
-get-requires-4 : tie.Need-get-requires-4 Inv-loop μ-loop
-get-requires-4 c κs = tt
+circuits-of-requires : tie.Need-circuits-of-requires Inv-loop μ-loop
+circuits-of-requires c κs = tt
 
 loop-holds : tie.Need-loop-holds Inv-loop μ-loop
 loop-holds c = (
-  c .get4 .ensures,
-  ap₂ _*_ (c .before .before .before .get .ensures) (c .before .before .get2 .ensures),
-  c .before .get3 .ensures,
+  c .circuits-of .ensures,
+  c .before .before .nodes-of .ensures .0,
+  c .before .memory-of .ensures,
   omega arith,
   sym (all-none _),
 )
@@ -83,11 +77,9 @@ keeps-rule4-spec =
     (tie.spec
     Inv-loop
     μ-loop
-    get-requires
-    get-requires-2
-    mul-nodes
-    get-requires-3
-    get-requires-4
+    nodes-of-requires
+    memory-of-requires
+    circuits-of-requires
     loop-holds
     at-requires
     fits-requires

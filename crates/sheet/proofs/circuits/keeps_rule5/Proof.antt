@@ -20,11 +20,11 @@ Inv-loop z count k₀ k =
 abbrev μ-loop : tie.MeasureT-loop
 μ-loop z count k₀ k = count - k
 
-get-requires : tie.Need-get-requires Inv-loop μ-loop
-get-requires c κs = tt
+circuits-of-requires : tie.Need-circuits-of-requires Inv-loop μ-loop
+circuits-of-requires c κs = tt
 
 loop-holds : tie.Need-loop-holds Inv-loop μ-loop
-loop-holds c = (c .get .ensures, omega arith, sym (all-none _))
+loop-holds c = (c .circuits-of .ensures, omega arith, sym (all-none _))
 
 add-loop : tie.Need-add-loop Inv-loop μ-loop
 add-loop c = omega arith
@@ -70,7 +70,7 @@ keeps-rule5-spec =
     (tie.spec
     Inv-loop
     μ-loop
-    get-requires
+    circuits-of-requires
     loop-holds
     add-loop
     at-requires

@@ -18,11 +18,11 @@ Inv-loop z count j₀ j = (count ≡ circuits z) × (j ≤ count) × (all j (λ 
 abbrev μ-loop : tie.MeasureT-loop
 μ-loop z count j₀ j = count - j
 
-get-requires : tie.Need-get-requires Inv-loop μ-loop
-get-requires c κs = tt
+circuits-of-requires : tie.Need-circuits-of-requires Inv-loop μ-loop
+circuits-of-requires c κs = tt
 
 loop-holds : tie.Need-loop-holds Inv-loop μ-loop
-loop-holds c = (c .get .ensures, omega arith, sym (all-none _))
+loop-holds c = (c .circuits-of .ensures, omega arith, sym (all-none _))
 
 receive-apart-requires : tie.Need-receive-apart-requires Inv-loop μ-loop
 receive-apart-requires c κs = search needs
@@ -52,7 +52,7 @@ keeps-rule6-spec =
     (tie.spec
     Inv-loop
     μ-loop
-    get-requires
+    circuits-of-requires
     loop-holds
     receive-apart-requires
     add-j

@@ -18,14 +18,14 @@ Inv-loop z j count receive k₀ k = (count ≡ circuits z) × (k ≤ count) × (
 abbrev μ-loop : tie.MeasureT-loop
 μ-loop z j count receive k₀ k = count - k
 
-get-requires : tie.Need-get-requires Inv-loop μ-loop
-get-requires c κs = tt
+circuits-of-requires : tie.Need-circuits-of-requires Inv-loop μ-loop
+circuits-of-requires c κs = tt
 
 at-requires : tie.Need-at-requires Inv-loop μ-loop
 at-requires c κs = tt
 
 loop-holds : tie.Need-loop-holds Inv-loop μ-loop
-loop-holds c = (c .before .before .get .ensures, omega arith, sym (all-none _))
+loop-holds c = (c .before .before .circuits-of .ensures, omega arith, sym (all-none _))
 
 pair-apart-requires : tie.Need-pair-apart-requires Inv-loop μ-loop
 pair-apart-requires c κs =
@@ -55,7 +55,7 @@ receive-apart-spec =
     (tie.spec
     Inv-loop
     μ-loop
-    get-requires
+    circuits-of-requires
     at-requires
     loop-holds
     pair-apart-requires

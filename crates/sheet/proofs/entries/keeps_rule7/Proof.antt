@@ -18,11 +18,11 @@ Inv-loop z count j₀ j = (count ≡ schedules z) × (j ≤ count) × (all j (ru
 abbrev μ-loop : tie.MeasureT-loop
 μ-loop z count j₀ j = count - j
 
-get-requires : tie.Need-get-requires Inv-loop μ-loop
-get-requires c κs = tt
+schedules-of-requires : tie.Need-schedules-of-requires Inv-loop μ-loop
+schedules-of-requires c κs = tt
 
 loop-holds : tie.Need-loop-holds Inv-loop μ-loop
-loop-holds c = (c .get .ensures, omega arith, sym (all-none _))
+loop-holds c = (c .schedules-of .ensures, omega arith, sym (all-none _))
 
 schedule-fits-requires : tie.Need-schedule-fits-requires Inv-loop μ-loop
 schedule-fits-requires c κs = search needs
@@ -52,7 +52,7 @@ keeps-rule7-spec =
     (tie.spec
     Inv-loop
     μ-loop
-    get-requires
+    schedules-of-requires
     loop-holds
     schedule-fits-requires
     add-j

@@ -19,11 +19,11 @@ Inv-loop z count j₀ j = (count ≡ schedules z) × (j ≤ count) × (all j (ru
 abbrev μ-loop : tie.MeasureT-loop
 μ-loop z count j₀ j = count - j
 
-get-requires : tie.Need-get-requires Inv-loop μ-loop
-get-requires c κs = tt
+schedules-of-requires : tie.Need-schedules-of-requires Inv-loop μ-loop
+schedules-of-requires c κs = tt
 
 loop-holds : tie.Need-loop-holds Inv-loop μ-loop
-loop-holds c = (c .get .ensures, omega arith, sym (all-none _))
+loop-holds c = (c .schedules-of .ensures, omega arith, sym (all-none _))
 
 entries-of-requires : tie.Need-entries-of-requires Inv-loop μ-loop
 entries-of-requires c κs = search needs
@@ -59,7 +59,7 @@ keeps-rule8-spec =
     (tie.spec
     Inv-loop
     μ-loop
-    get-requires
+    schedules-of-requires
     loop-holds
     entries-of-requires
     entries-ascend-requires

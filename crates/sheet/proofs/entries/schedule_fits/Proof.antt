@@ -14,8 +14,8 @@ is-between-requires c κs = tt
 entries-of-requires : tie.Need-entries-of-requires
 entries-of-requires c κs = search needs
 
-get-requires : tie.Need-get-requires
-get-requires c κs = tt
+circuits-of-requires : tie.Need-circuits-of-requires
+circuits-of-requires c κs = tt
 
 entries-fit-requires : tie.Need-entries-fit-requires
 entries-fit-requires c κs = tt
@@ -25,7 +25,7 @@ returns c =
     let period = c .before .before .before .before .before .schedule-period .ensures in
     let range = c .before .before .before .before .is-between .ensures in
     let entries = c .before .before .entries-of .ensures in
-    schedule-rest _ _ _ period _ _ range (c .before .before .before .if1 .taken) entries (c .before .get .ensures) (c .entries-fit .ensures)
+    schedule-rest _ _ _ period _ _ range (c .before .before .before .if1 .taken) entries (c .before .circuits-of .ensures) (c .entries-fit .ensures)
 
 returns-2 : tie.Need-returns-2
 returns-2 c = schedule-no _ _ _ (c .before .before .schedule-period .ensures) (c .before .is-between .ensures) (c .if1 .left)
@@ -37,7 +37,7 @@ schedule-fits-spec =
     schedule-period-requires
     is-between-requires
     entries-of-requires
-    get-requires
+    circuits-of-requires
     entries-fit-requires
     returns
     returns-2)

@@ -8,32 +8,32 @@ use Rattle.sheet.proofs.FrameLaws.{range-read}
 use Rattle.sheet.proofs.frame.keeps_rule2.Statement.{statement}
 use Rattle.sheet.proofs.frame.keeps_rule2.Tie as tie
 
-get-requires : tie.Need-get-requires
-get-requires c κs = tt
+columns-of-requires : tie.Need-columns-of-requires
+columns-of-requires c κs = tt
 
 is-between-requires : tie.Need-is-between-requires
 is-between-requires c κs = tt
 
-get-requires-2 : tie.Need-get-requires-2
-get-requires-2 c κs = tt
+rows-of-requires : tie.Need-rows-of-requires
+rows-of-requires c κs = tt
 
 is-between-requires-2 : tie.Need-is-between-requires-2
 is-between-requires-2 c κs = tt
 
-get-requires-3 : tie.Need-get-requires-3
-get-requires-3 c κs = tt
+memory-of-requires : tie.Need-memory-of-requires
+memory-of-requires c κs = tt
 
 is-between-requires-3 : tie.Need-is-between-requires-3
 is-between-requires-3 c κs = tt
 
-get-requires-4 : tie.Need-get-requires-4
-get-requires-4 c κs = tt
+circuits-of-requires : tie.Need-circuits-of-requires
+circuits-of-requires c κs = tt
 
 is-between-requires-4 : tie.Need-is-between-requires-4
 is-between-requires-4 c κs = tt
 
-get-requires-5 : tie.Need-get-requires-5
-get-requires-5 c κs = tt
+schedules-of-requires : tie.Need-schedules-of-requires
+schedules-of-requires c κs = tt
 
 is-between-requires-5 : tie.Need-is-between-requires-5
 is-between-requires-5 c κs = tt
@@ -45,11 +45,11 @@ returns c =
     let third = fourth .before .before .before in
     let second = third .before .before .before in
     let first = second .before .before .before in
-    and-on (range-read 2 4 (first .before .before .get .ensures) (first .before .is-between .ensures) (first .if1 .taken))
-    (and-on (range-read 2 4 (second .before .before .get2 .ensures) (second .before .is-between2 .ensures) (second .if2 .taken))
-    (and-on (range-read 1 16384 (third .before .before .get3 .ensures) (third .before .is-between3 .ensures) (third .if3 .taken))
-    (and-on (range-read 0 64 (fourth .before .before .get4 .ensures) (fourth .before .is-between4 .ensures) (fourth .if4 .taken))
-    (c .is-between5 .ensures ∙ ap (between 1 8) (c .before .get5 .ensures)))))
+    and-on (range-read 2 4 (first .before .before .columns-of .ensures) (first .before .is-between .ensures) (first .if1 .taken))
+    (and-on (range-read 2 4 (second .before .before .rows-of .ensures) (second .before .is-between2 .ensures) (second .if2 .taken))
+    (and-on (range-read 1 16384 (third .before .before .memory-of .ensures) (third .before .is-between3 .ensures) (third .if3 .taken))
+    (and-on (range-read 0 64 (fourth .before .before .circuits-of .ensures) (fourth .before .is-between4 .ensures) (fourth .if4 .taken))
+    (c .is-between5 .ensures ∙ ap (between 1 8) (c .before .schedules-of .ensures)))))
 
 returns-2 : tie.Need-returns-2
 unfolding rule2
@@ -57,45 +57,45 @@ returns-2 c =
     let third = c .before .before .before in
     let second = third .before .before .before in
     let first = second .before .before .before in
-    and-on (range-read 2 4 (first .before .before .get .ensures) (first .before .is-between .ensures) (first .if1 .taken))
-    (and-on (range-read 2 4 (second .before .before .get2 .ensures) (second .before .is-between2 .ensures) (second .if2 .taken))
-    (and-on (range-read 1 16384 (third .before .before .get3 .ensures) (third .before .is-between3 .ensures) (third .if3 .taken))
-    (and-no _ (range-read 0 64 (c .before .before .get4 .ensures) (c .before .is-between4 .ensures) (c .if4 .left)))))
+    and-on (range-read 2 4 (first .before .before .columns-of .ensures) (first .before .is-between .ensures) (first .if1 .taken))
+    (and-on (range-read 2 4 (second .before .before .rows-of .ensures) (second .before .is-between2 .ensures) (second .if2 .taken))
+    (and-on (range-read 1 16384 (third .before .before .memory-of .ensures) (third .before .is-between3 .ensures) (third .if3 .taken))
+    (and-no _ (range-read 0 64 (c .before .before .circuits-of .ensures) (c .before .is-between4 .ensures) (c .if4 .left)))))
 
 returns-3 : tie.Need-returns-3
 unfolding rule2
 returns-3 c =
     let second = c .before .before .before in
     let first = second .before .before .before in
-    and-on (range-read 2 4 (first .before .before .get .ensures) (first .before .is-between .ensures) (first .if1 .taken))
-    (and-on (range-read 2 4 (second .before .before .get2 .ensures) (second .before .is-between2 .ensures) (second .if2 .taken))
-    (and-no _ (range-read 1 16384 (c .before .before .get3 .ensures) (c .before .is-between3 .ensures) (c .if3 .left))))
+    and-on (range-read 2 4 (first .before .before .columns-of .ensures) (first .before .is-between .ensures) (first .if1 .taken))
+    (and-on (range-read 2 4 (second .before .before .rows-of .ensures) (second .before .is-between2 .ensures) (second .if2 .taken))
+    (and-no _ (range-read 1 16384 (c .before .before .memory-of .ensures) (c .before .is-between3 .ensures) (c .if3 .left))))
 
 returns-4 : tie.Need-returns-4
 unfolding rule2
 returns-4 c =
     let first = c .before .before .before in
-    and-on (range-read 2 4 (first .before .before .get .ensures) (first .before .is-between .ensures) (first .if1 .taken))
-    (and-no _ (range-read 2 4 (c .before .before .get2 .ensures) (c .before .is-between2 .ensures) (c .if2 .left)))
+    and-on (range-read 2 4 (first .before .before .columns-of .ensures) (first .before .is-between .ensures) (first .if1 .taken))
+    (and-no _ (range-read 2 4 (c .before .before .rows-of .ensures) (c .before .is-between2 .ensures) (c .if2 .left)))
 
 returns-5 : tie.Need-returns-5
 unfolding rule2
 returns-5 c =
-    and-no _ (range-read 2 4 (c .before .before .get .ensures) (c .before .is-between .ensures) (c .if1 .left))
+    and-no _ (range-read 2 4 (c .before .before .columns-of .ensures) (c .before .is-between .ensures) (c .if1 .left))
 
 pub keeps-rule2-spec : {M : Type 1} → statement M
 keeps-rule2-spec =
     tie.close
     (tie.spec
-    get-requires
+    columns-of-requires
     is-between-requires
-    get-requires-2
+    rows-of-requires
     is-between-requires-2
-    get-requires-3
+    memory-of-requires
     is-between-requires-3
-    get-requires-4
+    circuits-of-requires
     is-between-requires-4
-    get-requires-5
+    schedules-of-requires
     is-between-requires-5
     returns
     returns-2

@@ -25,11 +25,11 @@ Inv-loop z count at₀ j₀ at j =
 abbrev μ-loop : tie.MeasureT-loop
 μ-loop z count at₀ j₀ at j = count - j
 
-get-requires : tie.Need-get-requires Inv-loop μ-loop
-get-requires c κs = tt
+schedules-of-requires : tie.Need-schedules-of-requires Inv-loop μ-loop
+schedules-of-requires c κs = tt
 
-get-requires-2 : tie.Need-get-requires-2 Inv-loop μ-loop
-get-requires-2 c κs = tt
+circuits-of-requires : tie.Need-circuits-of-requires Inv-loop μ-loop
+circuits-of-requires c κs = tt
 
 cast-at : tie.Need-cast-at Inv-loop μ-loop
 cast-at c = search needs
@@ -42,7 +42,7 @@ add-at c = omega arith
 
 loop-holds : tie.Need-loop-holds Inv-loop μ-loop
 loop-holds c =
-    (c .before .get .ensures, omega arith, first-place _ _ (c .get2 .ensures), sym (all-none _), omega arith)
+    (c .before .schedules-of .ensures, omega arith, first-place _ _ (c .circuits-of .ensures), sym (all-none _), omega arith)
 
 place-after-requires : tie.Need-place-after-requires Inv-loop μ-loop
 place-after-requires c κs = search needs
@@ -85,8 +85,8 @@ keeps-rule3-spec =
     (tie.spec
     Inv-loop
     μ-loop
-    get-requires
-    get-requires-2
+    schedules-of-requires
+    circuits-of-requires
     cast-at
     mul-at
     add-at

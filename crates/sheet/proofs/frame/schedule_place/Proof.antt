@@ -17,8 +17,8 @@ Inv-loop z j at₀ i₀ at i = (i ≤ j) × (at ≡ schedulePlace z i) × Placed
 abbrev μ-loop : tie.MeasureT-loop
 μ-loop z j at₀ i₀ at i = j - i
 
-get-requires : tie.Need-get-requires Inv-loop μ-loop
-get-requires c κs = tt
+circuits-of-requires : tie.Need-circuits-of-requires Inv-loop μ-loop
+circuits-of-requires c κs = tt
 
 cast-at : tie.Need-cast-at Inv-loop μ-loop
 cast-at c = search needs
@@ -32,8 +32,8 @@ add-at c = omega arith
 loop-holds : tie.Need-loop-holds Inv-loop μ-loop
 loop-holds c = (
   omega arith,
-  first-place _ _ (c .get .ensures),
-  placed-at _ (c .before .before .pre .0) _ _ (first-place _ _ (c .get .ensures)) (omega arith),
+  first-place _ _ (c .circuits-of .ensures),
+  placed-at _ (c .before .before .pre .0) _ _ (first-place _ _ (c .circuits-of .ensures)) (omega arith),
 )
 
 add-at-2 : tie.Need-add-at-2 Inv-loop μ-loop
@@ -42,8 +42,8 @@ add-at-2 c = omega arith
 add-get : tie.Need-add-get Inv-loop μ-loop
 add-get c = omega arith
 
-get-requires-2 : tie.Need-get-requires-2 Inv-loop μ-loop
-get-requires-2 c κs = tt
+get-requires : tie.Need-get-requires Inv-loop μ-loop
+get-requires c κs = tt
 
 cast-at-2 : tie.Need-cast-at-2 Inv-loop μ-loop
 cast-at-2 c = search needs
@@ -63,7 +63,7 @@ loop-less c = omega arith
 loop-again : tie.Need-loop-again Inv-loop μ-loop
 loop-again c =
     let l = c .before .before .loop in
-    let e = place-next _ (l .i) (l .at) (l .inv .1) _ (c .get2 .ensures) in
+    let e = place-next _ (l .i) (l .at) (l .inv .1) _ (c .get .ensures) in
     (omega arith, e, placed-at _ (c .before .before .before .before .before .pre .0) _ _ e (omega arith))
 
 returns : tie.Need-returns Inv-loop μ-loop
@@ -77,14 +77,14 @@ schedule-place-spec =
     (tie.spec
     Inv-loop
     μ-loop
-    get-requires
+    circuits-of-requires
     cast-at
     mul-at
     add-at
     loop-holds
     add-at-2
     add-get
-    get-requires-2
+    get-requires
     cast-at-2
     mul-at-2
     add-at-3

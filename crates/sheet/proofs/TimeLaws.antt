@@ -1,0 +1,37 @@
+-- Number 10 in delays: a packet's last word is on its route's last wire at most five cycles behind the period.
+-- Assumes nothing.
+use Prim.Native.Nat.{ℕ, _+_, _-_, _*_, _<_, _≤_}
+use mathlib.Core.Bool.{true}
+use mathlib.Core.List.{List}
+use mathlib.Core.Path.{_≡_, refl}
+use native.Mathlib.Omega.{arith}
+use Rattle.words.proofs.TestLaws.{is≤}
+use Rattle.words.proofs.AllLaws.{all-at}
+use Rattle.torus.specs.Route.{Route, leads, nowhere, routerCycles}
+use Rattle.torus.specs.Inner.Delays.{lastDelay}
+use Rattle.torus.proofs.TravelLaws.{last-delay-is}
+use Rattle.sheet.specs.declared.entries.Entry.{Entry}
+use Rattle.sheet.specs.Sheet.{columns, rows, schedules, period, circuitAt, entriesOf, entryCount, entryAt}
+use Rattle.sheet.specs.Rules.{eachEntry, entryRoute, routeHops, entryEnds, rule10}
+use Rattle.sheet.specs.Inner.Passed.{Routed}
+use Rattle.sheet.proofs.PassedLaws.{entry-small}
+
+-- number 10 speaks of hops: here they become the delay of the route's last wire
+ends-in-time : (z : List ℕ) (P : ℕ) (e : Entry) → 1 ≤ e .size → entryEnds z P e ≡ true → e .offset + lastDelay (entryRoute z e) + e .size ≤ P + 6
+unfolding entryRoute entryEnds
+ends-in-time z P e l h = go (entryRoute z e) refl (is≤ _ _ h)
+  where
+    go : (r : Route) → entryRoute z e ≡ r → e .offset + e .size - 1 + routerCycles * routeHops r ≤ P + 2
+        → e .offset + lastDelay r + e .size ≤ P + 6
+    go (leads uses node hops) q t =
+        omega (arith, last-delay-is (columns z) (rows z) (circuitAt z (e .circuit) .read .node) (e .route) uses node hops q)
+    go nowhere q t = omega arith
+
+-- so each entry of a sheet that keeps number 10 ends in time
+pub entry-in-time : (z : List ℕ) → Routed z → (j : ℕ) → j < schedules z → (i : ℕ) → i < entryCount (entriesOf z j)
+    → entryAt (entriesOf z j) i .offset + lastDelay (entryRoute z (entryAt (entriesOf z j) i)) + entryAt (entriesOf z j) i .size ≤ period z j + 6
+unfolding rule10 eachEntry
+entry-in-time z r j h i l =
+    ends-in-time z (period z j) (entryAt (entriesOf z j) i) (omega (arith, entry-small z (r .ranged) j h i l .size-low))
+    (all-at (λ i. entryEnds z (period z j) (entryAt (entriesOf z j) i)) (entryCount (entriesOf z j))
+    (all-at (λ j. eachEntry z j (entryEnds z (period z j))) (schedules z) (r .packets-end) j h) i l)

@@ -1,0 +1,3 @@
+pub mod Delays
+pub mod Paths
+pub mod Grid
