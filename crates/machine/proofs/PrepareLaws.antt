@@ -4,10 +4,11 @@ use Prim.Native.Nat.{ℕ, _*_, _/_, _%_, _≤_}
 use mathlib.Core.Bool.{Bool, true, false, false≢true, not}
 use mathlib.Core.List.{List}
 use mathlib.Core.Path.{_≡_, sym, _∙_, ap, subst, refl}
+use native.Mathlib.Omega.{arith}
 use lib.ListN.{replicate}
 use Rattle.words.specs.Tests.{_<?_, _=?_}
 use Rattle.words.specs.Words.{pick, tab}
-use Rattle.sheet.specs.Sheet.{memoryWords, nodes}
+use Rattle.sheet.specs.Sheet.{columns, rows, memoryWords, nodes}
 use Rattle.sheet.specs.Inner.Passed.{Headed}
 use Rattle.words.specs.Numbers.{unless}
 use Rattle.sheet.specs.Rules.{rule8}
@@ -25,6 +26,12 @@ use Rattle.machine.specs.Inner.Tables.{Tables, Empty}
 -- the number of nodes, and the memory words of a node, read off the state's sheet
 pub own-head : {s m z : List ℕ} → Ready s m → z ≡ sheetIn s → Headed z
 own-head R own = subst Headed (sym own) (R .steppable .framed .headed)
+
+-- the product of the two words that were read
+pub node-count : {z : List ℕ} {a b : ℕ} → Headed z → a ≡ columns z → b ≡ rows z → (a * b ≡ nodes z) × (a * b ≤ 16)
+node-count {z} h p q =
+    let e = nodes-are {y = z} p q refl in
+    (e, omega (arith, nodes-few z h, e))
 
 module _ {s m z : List ℕ} {count : ℕ} (R : Ready s m) (own : z ≡ sheetIn s) (e : (count ≡ nodes z) × (count ≤ 16)) where
   pub count-is : count ≡ nodes (sheetIn s)

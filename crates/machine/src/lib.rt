@@ -29,7 +29,7 @@ fn prepare(
     ensures calm { λ r. ⌜ (r ≡ false → any (nodeCount (sheetIn (now (s .entry)))) (straysIn (now (s .entry))) ≡ false) ⌝ }
 {
     let z = network::sheet_of(s);
-    let nodes = sheet::nodes_of(z);
+    let nodes = sheet::columns_of(z) * sheet::rows_of(z);
     if routers::cross(s, nodes, outs, values) {
         return true;
     }

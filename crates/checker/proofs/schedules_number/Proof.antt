@@ -26,8 +26,7 @@ keeps-rule9-requires c κs =
       record {
         framed = entry .pre .0;
         circuits-fit = entry .pre .1;
-        entries-fit = sym (at-keeps-rule7 .keeps-rule7 .ensures) ∙ at-if1 .if1
-            .taken;
+        entries-fit = sym (at-keeps-rule7 .keeps-rule7 .ensures) ∙ at-if1 .if1 .taken;
       },
       c .before .circuit-distances .ensures,
     )
@@ -49,8 +48,7 @@ keeps-rule10-requires c κs =
           entries-fit = sym
               (at-keeps-rule7 .keeps-rule7 .ensures) ∙ at-if1 .if1 .taken;
         };
-        routes-lead = sym (at-keeps-rule9 .keeps-rule9 .ensures) ∙ c .before .if3
-            .taken;
+        routes-lead = sym (at-keeps-rule9 .keeps-rule9 .ensures) ∙ c .before .if3 .taken;
       },
       at-circuit-distances .circuit-distances .ensures,
     )
@@ -69,8 +67,7 @@ keeps-rule11-requires c κs =
         entries-fit = sym
             (at-keeps-rule7 .keeps-rule7 .ensures) ∙ at-if1 .if1 .taken;
       };
-      routes-lead = sym (at-keeps-rule9 .keeps-rule9 .ensures) ∙ at-if3 .if3
-          .taken;
+      routes-lead = sym (at-keeps-rule9 .keeps-rule9 .ensures) ∙ at-if3 .if3 .taken;
       packets-end = sym (c .before .keeps-rule10 .ensures) ∙ c .if4 .taken;
     }
 

@@ -56,8 +56,7 @@ put-field-requires-5 c κs =
       field-short (entry .args .node) 32,
       at-put-field3 .put-field3 .ensures .0,
       field-short (entry .args .address) 32,
-      at-put-field4
-          .put-field4 .ensures .0,
+      at-put-field4 .put-field4 .ensures .0,
       field-short (entry .args .word) 32,
     )
 

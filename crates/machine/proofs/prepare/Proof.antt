@@ -1,6 +1,6 @@
 -- `machine::prepare` meets its contract: each kind of fault is looked for, and where there is none all tables are those of the cycle.
 -- Assumes nothing.
-use Rattle.machine.proofs.PrepareLaws.{own-head, count-is, counted, own-paired, own-sendable, own-ascending, faulty-answer, tables}
+use Rattle.machine.proofs.PrepareLaws.{own-head, node-count, count-is, counted, own-paired, own-sendable, own-ascending, faulty-answer, tables}
 use mathlib.Core.Path.{sym, _∙_}
 use native.Mathlib.Omega.{arith}
 use Rattle.machine.proofs.FaultLaws.{fault-crossed, fault-unheld, fault-wires, fault-last}
@@ -11,18 +11,28 @@ use Rattle.machine.proofs.prepare.Tie as tie
 sheet-of-requires : tie.Need-sheet-of-requires
 sheet-of-requires c κs = search needs
 
-nodes-of-requires : tie.Need-nodes-of-requires
-nodes-of-requires c κs = own-head (c .before .before .before .before .before .before .before .before .pre .0) (c .sheet-of .ensures)
+columns-of-requires : tie.Need-columns-of-requires
+columns-of-requires c κs = tt
+
+rows-of-requires : tie.Need-rows-of-requires
+rows-of-requires c κs = tt
+
+mul-nodes : tie.Need-mul-nodes
+mul-nodes c =
+    let at-sheet-of = c .before .before in
+    let entry = at-sheet-of .before .before .before .before .before .before .before .before in
+    omega (arith, node-count (own-head (entry .pre .0) (at-sheet-of .sheet-of .ensures)) (c .before .columns-of .ensures) (c .rows-of .ensures) .1)
 
 cross-requires : tie.Need-cross-requires
 cross-requires c κs =
-    let at-nodes-of = c .before .before in
-    let at-sheet-of = at-nodes-of .before in
-    let entry = at-sheet-of .before .before .before .before .before .before .before .before in (
-      count-is (entry .pre .0) (at-sheet-of .sheet-of .ensures) (at-nodes-of .nodes-of .ensures),
-      at-nodes-of .nodes-of .ensures .1,
-      entry
-          .pre .1 .out-mark,
+    let at-rows-of = c .before .before in
+    let at-columns-of = at-rows-of .before in
+    let at-sheet-of = at-columns-of .before in
+    let entry = at-sheet-of .before .before .before .before .before .before .before .before in
+    let count = node-count (own-head (entry .pre .0) (at-sheet-of .sheet-of .ensures)) (at-columns-of .columns-of .ensures) (at-rows-of .rows-of .ensures) in (
+      count-is (entry .pre .0) (at-sheet-of .sheet-of .ensures) count,
+      count .1,
+      entry .pre .1 .out-mark,
       entry .pre .1 .out-word,
     )
 
@@ -36,15 +46,22 @@ returns : tie.Need-returns
 returns c = faulty-answer _ _ (fault-crossed _ (sym (c .before .before .before .before .before .cross .ensures .0) ∙ c .if1 .taken))
 
 mul-has-unheld : tie.Need-mul-has-unheld
-mul-has-unheld c = omega (arith, c .before .before .before .before .before .before .before .before .nodes-of .ensures .1)
+mul-has-unheld c =
+    let at-rows-of = c .before .before .before .before .before .before .before .before in
+    let at-columns-of = at-rows-of .before in
+    let at-sheet-of = at-columns-of .before in
+    let entry = at-sheet-of .before .before .before .before .before .before .before .before in
+    omega (arith, (node-count (own-head (entry .pre .0) (at-sheet-of .sheet-of .ensures)) (at-columns-of .columns-of .ensures) (at-rows-of .rows-of .ensures)) .1)
 
 has-unheld-requires : tie.Need-has-unheld-requires
 has-unheld-requires c κs =
-    let at-nodes-of = c .before .before .before .before .before .before .before .before in
-    let at-sheet-of = at-nodes-of .before in
+    let at-rows-of = c .before .before .before .before .before .before .before .before in
+    let at-columns-of = at-rows-of .before in
+    let at-sheet-of = at-columns-of .before in
     let entry = at-sheet-of .before .before .before .before .before .before .before .before in
-    let few = at-nodes-of .nodes-of .ensures .1 in
-    (omega (arith, count-is (entry .pre .0) (at-sheet-of .sheet-of .ensures) (at-nodes-of .nodes-of .ensures)), omega (arith, few))
+    let count = node-count (own-head (entry .pre .0) (at-sheet-of .sheet-of .ensures)) (at-columns-of .columns-of .ensures) (at-rows-of .rows-of .ensures) in
+    let few = count .1 in
+    (omega (arith, count-is (entry .pre .0) (at-sheet-of .sheet-of .ensures) count), omega (arith, few))
 
 same-length-3 : tie.Need-same-length-3
 same-length-3 c = search needs
@@ -61,25 +78,23 @@ returns-2 c =
 
 slots-now-requires : tie.Need-slots-now-requires
 slots-now-requires c κs =
-    let at-sheet-of = c .before .before .before .before .before .before .before .before .before .before .before .before in
+    let at-sheet-of = c .before .before .before .before .before .before .before .before .before .before .before .before .before in
     let entry = at-sheet-of .before .before .before .before .before .before .before .before in (
       own-paired (entry .pre .0) (at-sheet-of .sheet-of .ensures),
       own-ascending (entry .pre .0) (at-sheet-of .sheet-of .ensures),
-      entry .pre
-          .1 .slot,
+      entry .pre .1 .slot,
     )
 
 source-wires-requires : tie.Need-source-wires-requires
 source-wires-requires c κs =
     let at-slots-now = c .before .before .before .before .before in
     let at-sheet-of = at-slots-now .before .before .before .before .before .before .before .before .before .before .before .before
-    .before in
+    .before .before in
     let entry = at-sheet-of .before .before .before .before .before .before .before .before in (
       own-sendable (entry .pre .0) (at-sheet-of .sheet-of .ensures),
       entry .pre .0 .steppable,
       at-slots-now .slots-now .ensures,
-      entry .pre
-          .1 .source-mark,
+      entry .pre .1 .source-mark,
       entry .pre .1 .source-word,
     )
 
@@ -113,11 +128,13 @@ memory-of-requires c κs = search needs
 
 has-stray-requires : tie.Need-has-stray-requires
 has-stray-requires c κs =
-    let at-nodes-of = c .before .before .before .before .before .before .before .before .before .before .before .before .before .before
+    let at-rows-of = c .before .before .before .before .before .before .before .before .before .before .before .before .before .before
     .before .before .before .before .before .before .before .before .before .before in
-    let at-sheet-of = at-nodes-of .before in
+    let at-columns-of = at-rows-of .before in
+    let at-sheet-of = at-columns-of .before in
     let entry = at-sheet-of .before .before .before .before .before .before .before .before in
-    counted (entry .pre .0) (at-sheet-of .sheet-of .ensures) (at-nodes-of .nodes-of .ensures) (c .memory-of .ensures)
+    let count = node-count (own-head (entry .pre .0) (at-sheet-of .sheet-of .ensures)) (at-columns-of .columns-of .ensures) (at-rows-of .rows-of .ensures) in
+    counted (entry .pre .0) (at-sheet-of .sheet-of .ensures) count (c .memory-of .ensures)
 
 same-length-10 : tie.Need-same-length-10
 same-length-10 c = search needs
@@ -158,7 +175,9 @@ prepare-spec =
     tie.close
     (tie.spec
     sheet-of-requires
-    nodes-of-requires
+    columns-of-requires
+    rows-of-requires
+    mul-nodes
     cross-requires
     same-length
     same-length-2
