@@ -4,7 +4,7 @@
 export const STATEMENTS = [
   ['verdict', 'crates/sheet/specs/Rules.antt', 'the rules 1 to 11, and the first of them that a sheet does not keep'],
   ['argo_verdict', 'crates/exports/src/lib.rt', 'the call that judged this sheet: by its contract, proved, its answer is just this number'],
-  ['demand3', 'crates/isolation/proofs/Whole.antt', 'the theorem, proved: demand 3 holds'],
+  ['demand3', 'crates/isolation/proofs/DemandProved.antt', 'the theorem, proved: demand 3 holds'],
   ['Demand3', 'crates/isolation/specs/Demand.antt', 'what it states, one claim about lists of calls on a sheet that passes; of its parts:'],
   ['undisturbed', 'crates/isolation/specs/Demand.antt', 'two runs that are alike for a circuit are the same in all that it delivers'],
   ['as-reckoned', 'crates/isolation/specs/Demand.antt', 'what the calls answer for a circuit is reckoned from the sheet and its own calls'],

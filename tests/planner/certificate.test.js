@@ -110,7 +110,7 @@ test('every statement is in the file that is named, and the tests are there', ()
     assert.match(text, declared, `${name} in ${file}`);
   }
   const named = STATEMENTS.map(([name, file]) => `${name} ${file}`);
-  assert.ok(named.includes('demand3 crates/isolation/proofs/Whole.antt') && named.includes('argo_verdict crates/exports/src/lib.rt'));
+  assert.ok(named.includes('demand3 crates/isolation/proofs/DemandProved.antt') && named.includes('argo_verdict crates/exports/src/lib.rt'));
   const files = NOT_PROVED.flatMap((text) => text.match(/tests\/planner\/[\w.]+\.js/g) ?? []);
   assert.ok(files.length > 0);
   for (const file of files) assert.ok(existsSync(new URL(file, root)), file);
