@@ -15,7 +15,6 @@ use Rattle.torus.proofs.NeighbourLaws.{bounds, neighbour-inside}
 use Rattle.sheet.specs.Sheet.{columns, rows, nodes}
 use Rattle.sheet.specs.Inner.Passed.{Headed}
 use Rattle.network.specs.Registers.{reg, put, sheetIn, movingWords, linkMark, linkWord, outMark, outWord, at, rowWords}
-use Rattle.sheet.proofs.PassedLaws.{nodes-few}
 use Rattle.network.specs.View.{sourceInput}
 use Rattle.network.specs.Inner.Machine.{neighbourPlace}
 use Rattle.network.specs.Inner.Stages.{stage, linkFrom}

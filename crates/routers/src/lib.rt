@@ -143,7 +143,8 @@ fn step_head(s: &mut [u32], k: u32)
     put_reg(s, network::CHOICE_ROW, k, 0);
 }
 
-// The header stages of so many inputs.
+// The header stages of so many inputs. The test of each turn is never met either; with it the compiler lays the cycle out better
+// (docs/DECISIONS.md, 37).
 pub fn step_heads(s: &mut [u32], count: u32)
     requires { ⌜ (movingWords ≤ length (now s)) × (count ≤ rowWords) ⌝ }
     ensures { λ _. ⌜ now (s .exit) ≡ stage headMark latchRow count (nextInRow (now (s .entry)) []) (now (s .entry)) ⌝ }
@@ -153,6 +154,9 @@ pub fn step_heads(s: &mut [u32], count: u32)
     }
     let mut k: u32 = 0;
     while k < count {
+        if network::ROW_WORDS <= k as usize {
+            return;
+        }
         step_head(s, k);
         k += 1;
     }
