@@ -71,7 +71,7 @@ returns-2 c =
     let at-loop = at-loop-test .before in
     fill-refused _ _ _ _ _ _ _ _ _ _ (at-loop .loop .inv)
     (cycle-after _ _ (at-cycle-sound .cycle-sound .ensures .1 .0) (at-cycle-sound .cycle-sound .ensures .1 .1))
-    (number-is _ (at-cycle-sound .cycle-sound .ensures .0) (c .before .number-of .ensures)) (c .if2 .taken) (at-loop-test .loop-test .taken)
+    (number-is _ (at-cycle-sound .cycle-sound .ensures .0) (c .before .number-of .ensures)) (λ e. omega (arith, e, c .if2 .taken)) (at-loop-test .loop-test .taken)
 
 put-cycle-requires : tie.Need-put-cycle-requires Inv-loop μ-loop
 put-cycle-requires c κs = (c .before .before .before .before .before .before .before .before .before .before .before .before .before .before .before .before .before .pre .1, omega arith)
@@ -94,7 +94,7 @@ loop-again c =
     fill-more _ _ _ _ _ _ _ _ _ _ (at-loop .loop .inv)
     (cycle-after _ _ (at-cycle-sound .cycle-sound .ensures .1 .0) (at-cycle-sound .cycle-sound .ensures .1 .1))
     (at-loop-test .loop-test .taken) (entry .pre .1) (omega arith)
-    (sym (number-is _ (at-cycle-sound .cycle-sound .ensures .0) (at-number-of .number-of .ensures)) ∙ at-if2 .if2 .left)
+    (sym (number-is _ (at-cycle-sound .cycle-sound .ensures .0) (at-number-of .number-of .ensures)) ∙ omega (arith, at-if2 .if2 .left))
     (at-put-cycle .put-cycle .ensures .0) (at-put-cycle .put-cycle .ensures .1)
 
 sub-t24 : tie.Need-sub-t24 Inv-loop μ-loop
