@@ -1,21 +1,19 @@
 -- The verdict from the numbers of its three groups of rules, and the answers from their numbers.
 -- Assumes nothing.
 use Prim.Native.Nat.{ℕ, zero, suc, _<_, _≤_}
-use mathlib.Core.Bool.{Bool, true, false, false≢true}
-use mathlib.Core.List.{List, [], _∷_, _++_}
-use mathlib.Core.Path.{_≡_, refl, sym, _∙_, ap, ap₂, subst}
+use mathlib.Core.Bool.{Bool, true}
+use mathlib.Core.List.{List, [], _++_}
+use mathlib.Core.Path.{_≡_, refl, sym, _∙_, ap}
 use native.Mathlib.Omega.{arith}
-use Rattle.words.specs.Tests.{_<?_, _=?_}
 use Rattle.words.specs.Words.{pick}
-use Rattle.words.specs.Numbers.{unless, _then_}
-use Rattle.words.proofs.TestLaws.{yes=, no=, yes<, no<, is=, is<}
+use Rattle.words.proofs.TestLaws.{yes=, no=, yes<, no<, is<}
+use Rattle.words.proofs.NumberLaws.{then-zero, unless-zero, then-first, then-next, unless-no, unless-yes}
 use Rattle.sheet.specs.Sheet.{schedules, entriesOf}
 use Rattle.sheet.specs.Rules.{rule4, frameRules, circuitRules, entryRules, firstBroken, verdict}
 use Rattle.sheet.specs.Inner.Passed.{Framed}
 use Rattle.sheet.proofs.PassedLaws.{headed, framed}
 use Rattle.sheet.proofs.VerdictLaws.{kept, append-kept, append-broken}
-use Rattle.checker.specs.declared.Outcome.{Outcome}
-use Rattle.checker.specs.declared.Outcome.the-variants.{Passes, Refused}
+use Rattle.checker.specs.declared.Outcome.the-variants.{Refused}
 use Rattle.checker.specs.Answers.{outcomeOf, entriesNumber, entriesPart}
 
 module _ (z : List ℕ) where
@@ -55,18 +53,16 @@ refused-is (suc n) ne = refl
 -- the number of handing back entries
 module _ (z : List ℕ) (j n : ℕ) (e : n ≡ verdict z) where
   pub sheet-refused : (n ≡ 0 → ⊥) → n ≡ entriesNumber z j
-  unfolding entriesNumber unless _then_
-  sheet-refused ne = e ∙ sym (ap (λ (b : Bool). pick b (pick (j <? schedules z) 0 15) (verdict z)) (no= (λ e₀. ne (e ∙ e₀))))
-
-  passes-on : n ≡ 0 → pick (j <? schedules z) 0 15 ≡ entriesNumber z j
-  unfolding entriesNumber unless _then_
-  passes-on e₀ = sym (ap (λ (b : Bool). pick b (pick (j <? schedules z) 0 15) (verdict z)) (yes= (sym e ∙ e₀)))
+  unfolding entriesNumber
+  sheet-refused ne = then-first _ e ne
 
   pub schedule-there : n ≡ 0 → j < schedules z → 0 ≡ entriesNumber z j
-  schedule-there e₀ h = sym (ap (λ (b : Bool). pick {A = ℕ} b 0 15) (yes< h)) ∙ passes-on e₀
+  unfolding entriesNumber
+  schedule-there e₀ h = then-next (sym e ∙ e₀) (unless-yes 15 (yes< h))
 
   pub schedule-absent : n ≡ 0 → schedules z ≤ j → 15 ≡ entriesNumber z j
-  schedule-absent e₀ h = sym (ap (λ (b : Bool). pick {A = ℕ} b 0 15) (no< h)) ∙ passes-on e₀
+  unfolding entriesNumber
+  schedule-absent e₀ h = then-next (sym e ∙ e₀) (unless-no 15 (no< h))
 
 -- where the number is 0, the sheet passes and the schedule exists
 pub record Handed (z : List ℕ) (j : ℕ) : Type 0 where
@@ -74,13 +70,10 @@ pub record Handed (z : List ℕ) (j : ℕ) : Type 0 where
   pub there : j < schedules z
 
 pub handed : (z : List ℕ) (j : ℕ) → entriesNumber z j ≡ 0 → Handed z j
-unfolding entriesNumber unless _then_ _<?_ _=?_
-handed z j h = go (verdict z =? 0) refl (j <? schedules z) refl h
-  where
-    go : (a : Bool) → (verdict z =? 0) ≡ a → (b : Bool) → (j <? schedules z) ≡ b → pick a (pick b 0 15) (verdict z) ≡ 0 → Handed z j
-    go true p true q r = record { passes = is= _ _ p; there = is< _ _ q }
-    go true p false q r = absurd (let e₀ : ⊥ = omega arith in e₀)
-    go false p b q r = record { passes = r; there = absurd (false≢true (sym p ∙ yes= r)) }
+unfolding entriesNumber
+handed z j h =
+    let passed = then-zero _ _ h in
+    record { passes = passed .0; there = is< _ _ (unless-zero 15 _ (omega arith) (passed .1)) }
 
 -- the part: the entries where the number is 0, else nothing
 module _ (z : List ℕ) (j n : ℕ) (e : n ≡ entriesNumber z j) where

@@ -1,8 +1,7 @@
 // The checker: the verdict upon a sheet, and one schedule's entries handed back.
 ghost use mathlib.Core.Path.{_≡_};
 ghost use mathlib.Core.Bool.{true};
-ghost use Prim.Native.Nat.{ℕ, _<_};
-ghost use Rattle.sheet.specs.Sheet.{schedules};
+ghost use Prim.Native.Nat.{_<_};
 ghost use Rattle.sheet.specs.Rules.{frameRules, circuitRules, entryRules, firstBroken, rule4, verdict as sheetVerdict};
 ghost use Rattle.sheet.specs.Inner.Passed.{Framed};
 ghost use Rattle.checker.specs.Answers.{outcomeOf, entriesNumber, entriesPart};

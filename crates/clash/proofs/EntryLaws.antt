@@ -1,7 +1,7 @@
 -- An entry that has passed the rules 9 and 10: its wires lie in the table, its places are those of its route, and two entries meet
 -- exactly where their places share one.
 -- Assumes nothing.
-use Prim.Native.Nat.{ℕ, zero, suc, _+_, _-_, _*_, _<_, _≤_}
+use Prim.Native.Nat.{ℕ, _+_, _-_, _*_, _<_, _≤_}
 use mathlib.Core.Bool.{Bool, true, false, not, false≢true}
 use mathlib.Core.List.{List, map}
 use mathlib.Core.Path.{_≡_, refl, sym, _∙_, ap, ap₂, subst}
@@ -15,18 +15,18 @@ use Rattle.words.proofs.AllLaws.{all-none, all-more, all-done, all-fails, all-a
 use Rattle.words.proofs.WordLaws.{putAll-at}
 use Rattle.torus.specs.Inner.Grid.{InGrid}
 use Rattle.torus.specs.Route.{Use, Route, leads, nowhere, routeFrom}
-use Rattle.torus.specs.Inner.Paths.{pathOf, wiresPerNode}
+use Rattle.torus.specs.Inner.Paths.{pathOf}
 use Rattle.torus.specs.Inner.Delays.{lastDelay}
 use Rattle.torus.specs.declared.Path.{Path}
 use Rattle.torus.proofs.RouteLaws.{SmallUses, wiresOf, delaysOf, uses-small, uses-length, hops-high, wires-small, delays-small}
 use Rattle.sheet.specs.declared.entries.Entry.{Entry}
 use Rattle.sheet.specs.declared.circuits.Circuit.{Circuit}
 use Rattle.sheet.specs.Sheet.{columns, rows, nodes, schedules, circuitAt, period, entriesOf, entryCount, entryAt}
-use Rattle.sheet.specs.Wires.{WireCycle, occupied, meet}
+use Rattle.sheet.specs.Wires.{occupied, meet}
 use Rattle.sheet.specs.Slots.{destinationOf}
 use Rattle.sheet.specs.Flight.{hopsOf}
 use Rattle.sheet.specs.Rules.{entryRoute, entryLeads, entryOccupied, reaches, usesOf, eachEntry, rule9, rule11At}
-use Rattle.sheet.specs.Inner.Passed.{Ranged, Routed}
+use Rattle.sheet.specs.Inner.Passed.{Routed}
 use Rattle.sheet.proofs.PassedLaws.{entry-small, period-range}
 use Rattle.sheet.proofs.TimeLaws.{entry-in-time}
 use Rattle.occupancy.specs.Inner.Occupancy.{anyTaken, Takes}

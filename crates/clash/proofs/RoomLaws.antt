@@ -2,14 +2,13 @@
 -- Assumes nothing.
 use Prim.Native.Nat.{ℕ, _+_, _*_, _<_, _≤_}
 use mathlib.Core.List.{List}
-use mathlib.Core.Path.{_≡_, ap, sym, subst, refl}
+use mathlib.Core.Path.{_≡_, ap, sym, subst}
 use native.Mathlib.Omega.{arith}
 use native.Mathlib.Nat.{mul-le-mul}
 use lib.ListN.{length, replicate, length-replicate}
-use Rattle.torus.specs.Inner.Paths.{wiresPerNode}
 use Rattle.sheet.specs.Sheet.{nodes, schedules, period}
 use Rattle.sheet.specs.Inner.Passed.{Routed}
-use Rattle.sheet.proofs.PassedLaws.{nodes-are, nodes-few, period-range}
+use Rattle.sheet.proofs.PassedLaws.{period-range}
 use Rattle.occupancy.proofs.TakeLaws.{none-taken}
 use Rattle.clash.specs.Inner.Table.{HoldsAllWires, Free}
 

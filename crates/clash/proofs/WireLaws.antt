@@ -2,9 +2,9 @@
 -- where their places share a number.
 -- Assumes nothing.
 use Prim.Native.Nat.{ℕ, zero, suc, _+_, _-_, _*_, _<_, _≤_}
-use mathlib.Core.Bool.{Bool, true, false, not}
+use mathlib.Core.Bool.{Bool}
 use mathlib.Core.List.{List, [], _∷_, _++_, map}
-use mathlib.Core.Path.{_≡_, refl, sym, _∙_, ap, ap₂, subst}
+use mathlib.Core.Path.{_≡_, refl, sym, _∙_, ap, ap₂}
 use native.Mathlib.Omega.{arith}
 use native.Mathlib.Numerals.{one-add}
 use native.Mathlib.Nat.{mul-le-mul-right, add-mul, one-mul, add-assoc, add-zero}
@@ -12,11 +12,11 @@ use native.Mathlib.Decide.{ℕ-discrete}
 use lib.ListN.{length}
 use Rattle.words.specs.Tests.{_and_, _or_, _=?_}
 use Rattle.words.specs.Words.{word}
-use Rattle.words.proofs.TestLaws.{yes=, no=, is=, and-no, and-both, and-no-right}
+use Rattle.words.proofs.TestLaws.{yes=, no=, and-no, and-both, and-no-right}
 use Rattle.words.proofs.WordLaws.{row-and-place}
 use Rattle.torus.specs.Route.{Wire, source, side, memory, Use}
-use Rattle.torus.specs.Inner.Paths.{wireNumber, wiresPerNode}
-use Rattle.torus.proofs.RouteLaws.{Proper, SmallUse, SmallUses, wiresOf, delaysOf}
+use Rattle.torus.specs.Inner.Paths.{wireNumber}
+use Rattle.torus.proofs.RouteLaws.{Proper, SmallUses, wiresOf, delaysOf}
 use Rattle.sheet.specs.Wires.{WireCycle, sameWire, same, during, occupied, member, meet}
 use Rattle.occupancy.specs.Inner.Occupancy.{run, listed}
 use Rattle.clash.specs.Inner.Table.{placeOf, places}

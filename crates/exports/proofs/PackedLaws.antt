@@ -6,7 +6,6 @@ use mathlib.Core.Bool.{Bool}
 use mathlib.Core.List.{List}
 use native.Mathlib.Omega.{arith}
 use lib.ListN.{length}
-use Rattle.words.specs.Tests.{_=?_}
 use Rattle.words.specs.Words.{pick}
 use Rattle.words.proofs.TestLaws.{yes=, no=}
 use Rattle.sheet.specs.Sheet.{schedulePlace}

@@ -1,7 +1,7 @@
 // Exported calls for tests, benchmarks and hosts in C or Rust: a slice is a pointer and then a length. They have the session's answers as
 // numbers (specs/Packed.antt) and its contracts.
 ghost use mathlib.Core.Path.{_≡_};
-ghost use Prim.Native.Nat.{_*_, _<_};
+ghost use Prim.Native.Nat.{_*_};
 ghost use Rattle.sheet.specs.Rules.{verdict};
 ghost use Rattle.checker.specs.Answers.{entriesNumber};
 ghost use Rattle.network.specs.Registers.{stateWords};

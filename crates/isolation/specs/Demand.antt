@@ -17,7 +17,7 @@ use Rattle.session.specs.declared.Found.the-variants.{Word as FoundWord}
 use Rattle.session.specs.declared.Landed.{Landed}
 use Rattle.session.specs.declared.Landed.the-variants.{Nothing, Word as LandedWord, Refused}
 use Rattle.session.specs.Answers.{leftAnswer, fetchAnswer, periodAnswer, landedAnswer}
-use Rattle.session.specs.Calls.{landed, cycle, number, ask}
+use Rattle.session.specs.Calls.{whatLanded, cycle, number, ask}
 use Rattle.isolation.specs.Sessions.{Session, afterLoad, standing, Event, startDone, storeDone, orderDone, cycleDone, eventsBefore, events, Transfer}
 use Rattle.isolation.specs.Calendar.{Calendar, calendarAtLoad, calendarEvent, calendarAt, cyclesDone, pointAfter, scheduleIn}
 use Rattle.isolation.specs.Reckoning.{Item, none, item, Reckoned, owed, hopsOf, flightCycles, lastReckoned, reckon}
@@ -134,7 +134,7 @@ pub record Demand3 : Type 0 where
   pub period-number : (l : Session) (k : ℕ) → k ≤ length (l .calls) → periodAnswer (standing l k) ≡ FoundWord (calendarAt l k .number)
   -- at every node and point what landed is answered; nothing has at load, and only a cycle that is carried out changes the answer
   pub landed-answered : (l : Session) (k node : ℕ) → k ≤ length (l .calls) → node < nodes (l .sheet)
-      → number (ask (landed node)) (standing l k) ≡ 0
+      → number (ask (whatLanded node)) (standing l k) ≡ 0
   pub landed-at-load : (l : Session) (node : ℕ) → node < nodes (l .sheet) → landedAnswer (afterLoad l) node ≡ Nothing
   pub landed-kept : (l : Session) (k node : ℕ) → k < length (l .calls) → node < nodes (l .sheet)
       → (CycleAt l k → ⊥) → landedAnswer (standing l (suc k)) node ≡ landedAnswer (standing l k) node

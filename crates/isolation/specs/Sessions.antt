@@ -10,9 +10,9 @@ use Rattle.words.specs.Words.{pick}
 use Rattle.session.specs.Calls.{Lent, Call, load, start, store, order, cycle, isLoad, number, does, after, ask}
 
 -- the lent words after some calls
-abbrev pub run : List Call → Lent → Lent
-run [] w = w
-run (x ∷ calls) w = run calls (after x w)
+abbrev pub afterAll : List Call → Lent → Lent
+afterAll [] w = w
+afterAll (x ∷ calls) w = afterAll calls (after x w)
 
 -- every load among the calls is refused where it stands
 abbrev pub LoadsRefused : List Call → Lent → Type 0
@@ -31,7 +31,7 @@ abbrev pub afterLoad : Session → Lent
 afterLoad l = does (load (l .sheet)) (l .lent)
 
 abbrev pub standing : Session → ℕ → Lent
-standing l k = run (take k (l .calls)) (afterLoad l)
+standing l k = afterAll (take k (l .calls)) (afterLoad l)
 
 -- a transfer as a start gives it: where its words are read and written, how many they are, and their kind
 pub record Transfer : Type 0 where

@@ -25,7 +25,6 @@ use Rattle.landings.specs.declared.input.Message.{Message}
 use Rattle.landings.specs.declared.input.Message.the-variants.{Runs}
 use Rattle.landings.specs.Input.{statedLength, sheetOf, memorySize, memoryOf, transfersPlace, transfers, transferPlace}
 use Rattle.landings.specs.Messages.{Called, called, inputMessage, startAt, startsOn, callsOn, calls, refusalOf, message, behind}
-use Rattle.landings.specs.Inner.Ended.{callsMessage}
 use Rattle.landings.proofs.MessageLaws.{whole}
 use Rattle.session.proofs.ReadyLaws.{ready-loaded, ready-after, passes-after}
 

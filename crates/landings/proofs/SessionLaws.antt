@@ -14,7 +14,7 @@ use Rattle.network.specs.Registers.{stateWords}
 use Rattle.session.specs.Calls.{loaded, Lent, lend, lendState, Call, load, cycle, isLoad, number, after}
 use Rattle.session.proofs.AloneLaws.{after-alone}
 use Rattle.session.proofs.WritingLaws.{state-written}
-use Rattle.isolation.specs.Sessions.{run, LoadsRefused, Session, standing}
+use Rattle.isolation.specs.Sessions.{afterAll, LoadsRefused, Session, standing}
 use Rattle.isolation.proofs.DemandProved.{demand3}
 use Rattle.landings.specs.declared.input.Message.the-variants.{Runs}
 use Rattle.landings.specs.Input.{sheetOf, memoryOf, transfers, transferPlace, cyclesAsked}
@@ -27,9 +27,9 @@ use Rattle.landings.proofs.CallLaws.{start-alone}
 use Rattle.landings.proofs.OutputLaws.{runs-called}
 
 -- calls one behind the other
-run-append : (xs ys : List Call) (w : Lent) → run (xs ++ ys) w ≡ run ys (run xs w)
-run-append [] ys w = refl
-run-append (x ∷ xs) ys w = run-append xs ys (after x w)
+after-all-append : (xs ys : List Call) (w : Lent) → afterAll (xs ++ ys) w ≡ afterAll ys (afterAll xs w)
+after-all-append [] ys w = refl
+after-all-append (x ∷ xs) ys w = after-all-append xs ys (after x w)
 
 -- calls among which there is no load
 abbrev NoLoads : List Call → Type 0
@@ -52,10 +52,10 @@ unfolding cyclesOn
 cycles-later zero w = refl
 cycles-later (suc n) w = ap (after cycle) (cycles-later n w)
 
-run-cycles : (n : ℕ) (w : Lent) → run (replicate n cycle) w ≡ cyclesOn n w
+after-all-cycles : (n : ℕ) (w : Lent) → afterAll (replicate n cycle) w ≡ cyclesOn n w
 unfolding cyclesOn
-run-cycles zero w = refl
-run-cycles (suc n) w = run-cycles n (after cycle w) ∙ cycles-later n w
+after-all-cycles zero w = refl
+after-all-cycles (suc n) w = after-all-cycles n (after cycle w) ∙ cycles-later n w
 
 -- the first k starts of an input
 startCall : List ℕ → ℕ → Call
@@ -71,19 +71,19 @@ no-load-starts bytes zero w = tt
 no-load-starts bytes (suc k) w =
     no-load-behind (startCalls bytes k) (startCall bytes k ∷ []) w (no-load-starts bytes k w) (no-load-one (startCall bytes k) refl)
 
-starts-run : (bytes s m : List ℕ) (k : ℕ) → startsOn bytes s k .refusal ≡ 0
-    → run (startCalls bytes k) (lend s m) ≡ lend (startsOn bytes s k .state) m
+after-all-starts : (bytes s m : List ℕ) (k : ℕ) → startsOn bytes s k .refusal ≡ 0
+    → afterAll (startCalls bytes k) (lend s m) ≡ lend (startsOn bytes s k .state) m
 unfolding startsOn startCalls startCall
-starts-run bytes s m zero e = refl
-starts-run bytes s m (suc k) e = go (startsOn bytes s k .refusal =? 0) refl e (starts-run bytes s m k)
+after-all-starts bytes s m zero e = refl
+after-all-starts bytes s m (suc k) e = go (startsOn bytes s k .refusal =? 0) refl e (after-all-starts bytes s m k)
   where
     go : (t : Bool) → (startsOn bytes s k .refusal =? 0) ≡ t
         → pick t (called (startCall bytes k) (lendState (startsOn bytes s k .state))) (startsOn bytes s k) .refusal ≡ 0
-        → (startsOn bytes s k .refusal ≡ 0 → run (startCalls bytes k) (lend s m) ≡ lend (startsOn bytes s k .state) m)
-        → run (startCalls bytes k ++ (startCall bytes k ∷ [])) (lend s m)
+        → (startsOn bytes s k .refusal ≡ 0 → afterAll (startCalls bytes k) (lend s m) ≡ lend (startsOn bytes s k .state) m)
+        → afterAll (startCalls bytes k ++ (startCall bytes k ∷ [])) (lend s m)
         ≡ lend (pick t (called (startCall bytes k) (lendState (startsOn bytes s k .state))) (startsOn bytes s k) .state) m
     go true q h before =
-        run-append (startCalls bytes k) (startCall bytes k ∷ []) (lend s m)
+        after-all-append (startCalls bytes k) (startCall bytes k ∷ []) (lend s m)
         ∙ ap (after (startCall bytes k)) (before (is= _ _ q))
         ∙ after-alone (startsOn bytes s k .state) m (startCall bytes k) (start-alone bytes (transferPlace bytes k))
     go false q h before = absurd (false≢true (sym q ∙ yes= h))
@@ -125,10 +125,10 @@ module _ (bytes s m : List ℕ) (n : ℕ) (e : callsOn bytes s m .refusal ≡ 0)
         (no-load-cycles n);
   }
 
-  started-is : run (startCalls bytes (transfers bytes)) (lend (loaded (sheetOf bytes) s) m) ≡ lend (callsOn bytes s m .state) m
+  started-is : afterAll (startCalls bytes (transfers bytes)) (lend (loaded (sheetOf bytes) s) m) ≡ lend (callsOn bytes s m .state) m
   started-is =
       let same = load-first bytes s m e .1 in
-      starts-run bytes (loaded (sheetOf bytes) s) m (transfers bytes) (sym (ap (λ (c : Called). c .refusal) same) ∙ e)
+      after-all-starts bytes (loaded (sheetOf bytes) s) m (transfers bytes) (sym (ap (λ (c : Called). c .refusal) same) ∙ e)
       ∙ ap (λ (c : Called). lend (c .state) m) (sym same)
 
   module _ (t : ℕ) (l : t < n) where
@@ -151,11 +151,11 @@ module _ (bytes s m : List ℕ) (n : ℕ) (e : callsOn bytes s m .refusal ≡ 0)
     stands-so =
         let starts = startCalls bytes (transfers bytes) in
         let loaded-words = lend (loaded (sheetOf bytes) s) m in
-        ap (λ (x : List Call). run x loaded-words) (take-append-add starts (replicate n cycle) t)
-        ∙ ap (λ (x : List Call). run (starts ++ x) loaded-words) (take-cycles t n (omega arith))
-        ∙ run-append starts (replicate t cycle) loaded-words
-        ∙ ap (run (replicate t cycle)) started-is
-        ∙ run-cycles t (lend (callsOn bytes s m .state) m)
+        ap (λ (x : List Call). afterAll x loaded-words) (take-append-add starts (replicate n cycle) t)
+        ∙ ap (λ (x : List Call). afterAll (starts ++ x) loaded-words) (take-cycles t n (omega arith))
+        ∙ after-all-append starts (replicate t cycle) loaded-words
+        ∙ ap (afterAll (replicate t cycle)) started-is
+        ∙ after-all-cycles t (lend (callsOn bytes s m .state) m)
 
     session-cycles : number cycle (cyclesOn t (lend (callsOn bytes s m .state) m)) ≡ 0
     session-cycles =

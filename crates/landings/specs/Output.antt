@@ -11,7 +11,7 @@ use Rattle.landings.specs.declared.input.Message.{Message}
 use Rattle.landings.specs.declared.input.Message.the-variants.{TooLarge, InputEnds, Refused, Runs}
 use Rattle.landings.specs.Input.{sheetOf, memoryOf, cyclesAsked}
 use Rattle.landings.specs.Messages.{calls, message}
-use Rattle.landings.specs.Lines.{cyclesOn, cyclesLines, carriedOut, refusedLine, lastLine}
+use Rattle.landings.specs.Lines.{cyclesLines, carriedOut, refusedLine, lastLine}
 
 -- `cycle node address word kind`, and a line end
 unfoldable pub heading : List ℕ

@@ -1,6 +1,6 @@
 // The calls before the cycles: the load, and the starts of the input's transfers, up to the first refusal.
 ghost use mathlib.Core.Path.{_≡_};
-ghost use Prim.Native.Nat.{ℕ, _+_, _*_, _≤_};
+ghost use Prim.Native.Nat.{_+_, _*_, _≤_};
 ghost use lib.ListN.{length};
 ghost use Rattle.session.specs.Calls.{stateNumber, lendState, number, after};
 ghost use Rattle.landings.specs.declared.input.Message.the-variants.{Runs};

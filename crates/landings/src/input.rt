@@ -1,6 +1,6 @@
 // What the input says before anything is run: the one line that it earns, or that its words are all there.
 ghost use mathlib.Core.Path.{_≡_};
-ghost use Prim.Native.Nat.{ℕ, _+_, _*_, _<_, _≤_};
+ghost use Prim.Native.Nat.{_+_, _*_, _<_, _≤_};
 ghost use lib.ListN.{length};
 ghost use Rattle.sheet.specs.Sheet.{nodes, memoryWords, sheetWords};
 ghost use Rattle.sheet.specs.Rules.{verdict};
@@ -57,7 +57,7 @@ fn transfers_message(bytes: &[u8], at: usize) -> Message
 
 // The memories' size, worked out by checked_message from a sheet that passes.
 fn memory_message(bytes: &[u8], at: usize, size: u32) -> Message
-    requires { ⌜ (at ≡ memoryPlace (now bytes)) × (at ≤ 8598) × (size ≡ memorySize (now bytes)) ⌝ }
+    requires { ⌜ (at ≡ memoryPlace (now bytes)) × (at ≤ 1 + sheetWords) × (size ≡ memorySize (now bytes)) ⌝ }
     ensures { λ r. ⌜ r ≡ memoryMessage (now (bytes .entry)) ⌝ }
 {
     if size > MOST_MEMORY {

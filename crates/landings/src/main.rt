@@ -5,7 +5,7 @@ mod output;
 mod pages;
 
 ghost use mathlib.Core.Path.{_≡_};
-ghost use Prim.Native.Nat.{ℕ, _+_, _≤_};
+ghost use Prim.Native.Nat.{_+_};
 ghost use lib.ListN.{length};
 ghost use Rattle.session.specs.Calls.{lend};
 ghost use Rattle.landings.specs.declared.input.Message.the-variants.{Runs};

@@ -1,7 +1,7 @@
 // The one place at which bytes are handed to a write call.
 ghost use mathlib.Core.Path.{_≡_};
-ghost use Prim.Native.Nat.{ℕ, _+_, _≤_};
-ghost use lib.ListN.{length, take, drop};
+ghost use Prim.Native.Nat.{_+_};
+ghost use lib.ListN.{length};
 ghost use Rattle.landings.specs.Output.{printout, HasAt};
 use libc::STDOUT_FILENO;
 

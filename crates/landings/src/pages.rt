@@ -1,6 +1,6 @@
 // The listing, page by page: cycles are run, and their lines put into a buffer, until it could overflow.
 ghost use mathlib.Core.Path.{_≡_};
-ghost use Prim.Native.Nat.{ℕ, _+_, _*_, _≤_};
+ghost use Prim.Native.Nat.{_+_, _*_, _≤_};
 ghost use lib.ListN.{length, take};
 ghost use Rattle.words.specs.Inner.Puts.{putAll};
 ghost use Rattle.session.specs.Calls.{memoryNumber, lastLanding, lend};

@@ -15,7 +15,7 @@ use Rattle.words.specs.Words.{word}
 use Rattle.words.specs.Inner.Puts.{putAll}
 use Rattle.words.proofs.TestLaws.{yes<, no<}
 use Rattle.words.proofs.WordLaws.{leastFrom-most, putAll-one, putAll-behind, leastFrom-is}
-use Rattle.listing.specs.Text.{places, field, landingLine, space, lineEnd}
+use Rattle.listing.specs.Text.{digitCount, field, landingLine, space, lineEnd}
 
 -- the loop that copies a text
 pub record Copying (text : List ℕ) (count : ℕ) (start buffer : List ℕ) (at k : ℕ) : Type 0 where
@@ -70,9 +70,9 @@ fewest-few n r l f = go (decLe r 10)
         absurd (omega arith)
 
 -- the digits that `io` counts are the fewest
-pub places-is : (n r : ℕ) → n < 4294967296 → Fewest 10 1 n r → r ≡ places n
-unfolding places
-places-is n r l f =
+pub digit-count-is : (n r : ℕ) → n < 4294967296 → Fewest 10 1 n r → r ≡ digitCount n
+unfolding digitCount
+digit-count-is n r l f =
     sym (leastFrom-is (λ k. n <? 10 ^ k) 10 1 r (f .0) (omega (arith, fewest-few n r l f)) (yes< (f .1))
     (λ j a b.
     let step : 10 ^ j ≤ 10 ^ (r - 1) = tens j (r - 1) (omega arith) in
@@ -84,22 +84,22 @@ length-digits : (k n : ℕ) → length (digits 10 k n) ≡ k
 length-digits zero n = refl
 length-digits (suc k) n = simp (length-append, length-digits k) (omega arith)
 
-pub field-length : (n end : ℕ) → length (field n end) ≡ places n + 1
+pub field-length : (n end : ℕ) → length (field n end) ≡ digitCount n + 1
 unfolding field
-field-length n end = simp (length-append, length-digits (places n) n) refl
+field-length n end = simp (length-append, length-digits (digitCount n) n) refl
 
 pub field-short : (n end : ℕ) → length (field n end) ≤ 12
-unfolding places
+unfolding digitCount
 field-short n end = omega (arith, field-length n end, leastFrom-most (λ k. n <? 10 ^ k) 10 1)
 
 -- a field, from the digits that `io` made of the word
 module _ (n end r : ℕ) (text : List ℕ) (l : n < 4294967296) (few : Fewest 10 1 n r) (e : take r text ≡ digits 10 r n) where
   pub field-is : take r text ++ (end ∷ []) ≡ field n end
   unfolding field
-  field-is = ap (λ (x : List ℕ). x ++ (end ∷ [])) (e ∙ ap (λ k. digits 10 k n) (places-is n r l few))
+  field-is = ap (λ (x : List ℕ). x ++ (end ∷ [])) (e ∙ ap (λ k. digits 10 k n) (digit-count-is n r l few))
 
   pub field-place : (at : ℕ) → at + r + 1 ≡ at + length (field n end)
-  field-place at = omega (arith, field-length n end, places-is n r l few)
+  field-place at = omega (arith, field-length n end, digit-count-is n r l few)
 
   pub field-bytes : (start copied : List ℕ) (at : ℕ)
       → copied ≡ putAll start at (take r text)

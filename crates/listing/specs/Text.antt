@@ -13,12 +13,12 @@ abbrev pub lineEnd : ℕ
 lineEnd = 10
 
 -- the fewest digits that a word takes in decimal, of which it takes 1 to 10
-unfoldable pub places : ℕ → ℕ
-places n = leastFrom 10 1 (λ k. n <? 10 ^ k)
+unfoldable pub digitCount : ℕ → ℕ
+digitCount n = leastFrom 10 1 (λ k. n <? 10 ^ k)
 
 -- a word in decimal, with what ends it
 unfoldable pub field : ℕ → ℕ → List ℕ
-field n end = digits 10 (places n) n ++ (end ∷ [])
+field n end = digits 10 (digitCount n) n ++ (end ∷ [])
 
 -- a landing's line
 unfoldable pub landingLine : ℕ → ℕ → ℕ → ℕ → ℕ → List ℕ

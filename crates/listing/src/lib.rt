@@ -1,6 +1,6 @@
 // The text of a listing of landings, put into a buffer of bytes from a place on.
 ghost use mathlib.Core.Path.{_≡_};
-ghost use Prim.Native.Nat.{ℕ, _+_, _≤_};
+ghost use Prim.Native.Nat.{_+_, _≤_};
 ghost use lib.ListN.{length, take};
 ghost use Rattle.words.specs.Inner.Puts.{putAll};
 ghost use Rattle.listing.specs.Text.{field, landingLine};

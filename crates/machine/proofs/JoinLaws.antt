@@ -10,7 +10,7 @@ use native.Mathlib.Nat.{div-lt-iff-lt-mul}
 use lib.ListN.{length, drop}
 use Rattle.words.specs.Tests.{any, _=?_}
 use Rattle.words.specs.Words.{word, pick}
-use Rattle.words.proofs.TestLaws.{yes<, or-false}
+use Rattle.words.proofs.TestLaws.{yes<}
 use Rattle.words.proofs.WordLaws.{length-tab, tab-at, tab-is}
 use Rattle.torus.specs.Torus.{neighbourOf, oppositeOf}
 use Rattle.torus.proofs.NeighbourLaws.{neighbour-inside, opposite-side}

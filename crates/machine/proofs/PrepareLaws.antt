@@ -10,7 +10,7 @@ use Rattle.words.specs.Tests.{_<?_, _=?_}
 use Rattle.words.specs.Words.{pick, tab}
 use Rattle.sheet.specs.Sheet.{columns, rows, memoryWords, nodes}
 use Rattle.sheet.specs.Inner.Passed.{Headed}
-use Rattle.words.specs.Numbers.{unless}
+use Rattle.words.proofs.NumberLaws.{unless-no, unless-yes}
 use Rattle.sheet.specs.Rules.{rule8}
 use Rattle.network.specs.Registers.{sheetIn, rowWords}
 use Rattle.network.specs.Inner.Machine.{sourceMark, sourceWord, nextOutMark, nextOutWord, faultyIn}
@@ -67,12 +67,12 @@ empty = record { slot = tab-zeros 64; source-mark = tab-zeros 16; source-word = 
 
 -- the number of a cycle that has a fault, or none, and the words after it
 pub fault-number : (s : List ℕ) {r : Bool} → r ≡ faultyIn s → r ≡ true → 20 ≡ cycleFault s
-unfolding cycleFault unless
-fault-number s e h = sym (ap (λ (t : Bool). pick (not t) 0 20) (sym e ∙ h))
+unfolding cycleFault
+fault-number s e h = unless-no 20 (ap not (sym e ∙ h))
 
 pub no-fault : (s : List ℕ) {r : Bool} → r ≡ faultyIn s → r ≡ false → 0 ≡ cycleFault s
-unfolding cycleFault unless
-no-fault s e h = sym (ap (λ (t : Bool). pick (not t) 0 20) (sym e ∙ h))
+unfolding cycleFault
+no-fault s e h = unless-yes 20 (ap not (sym e ∙ h))
 
 pub kept : (old new : List ℕ) → old ≡ pick (20 =? 0) new old
 unfolding _=?_

@@ -2,9 +2,8 @@
 // before anything is written, so that a cycle that is refused has changed nothing.
 ghost use mathlib.Core.Bool.{false};
 ghost use mathlib.Core.Path.{_≡_};
-ghost use Prim.Native.Nat.{ℕ};
 ghost use Rattle.words.specs.Tests.{any, _=?_};
-ghost use Rattle.words.specs.Words.{pick, tab};
+ghost use Rattle.words.specs.Words.{pick};
 ghost use Rattle.sheet.specs.Sheet.{nodes as nodeCount};
 ghost use Rattle.network.specs.Registers.{sheetIn};
 ghost use Rattle.network.specs.Inner.Machine.{straysIn, faultyIn, nextState, nextMemory};
@@ -80,8 +79,8 @@ pub fn step(s: &mut [u32], m: &mut [u32]) -> u32
     let mut slots = [0u32; 64];
     let mut marks = [0u32; 16];
     let mut cells = [0u32; 16];
-    let mut outs = [0u32; 80];
-    let mut values = [0u32; 80];
+    let mut outs = [0u32; network::ROW_WORDS];
+    let mut values = [0u32; network::ROW_WORDS];
     if prepare(
         s,
         m,

@@ -1,6 +1,6 @@
 // The clocked network over a session state that lies in lent words: the register map, and the header stage.
 ghost use mathlib.Core.Path.{_≡_};
-ghost use Prim.Native.Nat.{ℕ, _%_};
+ghost use Prim.Native.Nat.{_%_};
 ghost use Rattle.network.specs.Cycle.{outputFor};
 ghost use Rattle.network.specs.Registers.{reg as regOf, put, sheetIn, latchRow, linkMark, linkWord};
 ghost use Rattle.network.specs.Inner.Machine.{nextHeadWord, nextLatch};

@@ -1,7 +1,7 @@
 // A table of places that are taken or free: one bit a place, thirty-two places a word. Places in a row are tested and taken
 // in the two words that can hold them, together.
 ghost use mathlib.Core.Path.{_≡_};
-ghost use Prim.Native.Nat.{ℕ, _+_, _*_, _/_, _%_, _<_, _≤_};
+ghost use Prim.Native.Nat.{_+_, _*_, _/_, _%_, _<_, _≤_};
 ghost use lib.ListN.{length};
 ghost use Rattle.occupancy.specs.Inner.Occupancy.{run, anyTaken, window as windowOf, slotMask, takeRun};
 

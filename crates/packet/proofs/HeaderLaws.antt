@@ -8,6 +8,7 @@ use native.Mathlib.Omega.{arith}
 use Rattle.words.specs.Words.{pick, tab}
 use Rattle.words.proofs.TestLaws.{and-no, and-skip, and-both, and-left, and-right, yes<, no<, is<}
 use Rattle.words.specs.Numbers.{unless}
+use Rattle.words.proofs.NumberLaws.{unless-zero}
 use Rattle.packet.specs.Header.{dataKind, configurationKind, interruptKind, unusedKind, kindBits, addressBits, routeBits, headerWord, kindOf}
 use Rattle.packet.specs.Header.{addressOf, routeOf, kinds, addresses, routes, partsFit, headerNumber, builtOf, shiftedWord}
 use Rattle.packet.specs.declared.Built.{Built}
@@ -39,14 +40,11 @@ given-back kind address route f =
 
 -- a header that was built had parts that fit
 pub built-fits : (kind address route : ℕ) → headerNumber kind address route ≡ 0 → Fits kind address route
-unfolding headerNumber unless partsFit
-built-fits kind address route e = go (partsFit kind address route) refl e
-  where
-    go : (b : Bool) → partsFit kind address route ≡ b → _≡_ {A = ℕ} (pick b 0 15) 0 → Fits kind address route
-    go true h q =
-        let h₁ = and-right _ _ h in
-        record { kind-fits = is< _ _ (and-left _ _ h); address-fits = is< _ _ (and-left _ _ h₁); route-fits = is< _ _ (and-right _ _ h₁) }
-    go false h q = absurd (let z : ⊥ = omega arith in z)
+unfolding headerNumber partsFit
+built-fits kind address route e =
+    let h = unless-zero 15 (partsFit kind address route) (omega arith) e in
+    let h₁ = and-right _ _ h in
+    record { kind-fits = is< _ _ (and-left _ _ h); address-fits = is< _ _ (and-left _ _ h₁); route-fits = is< _ _ (and-right _ _ h₁) }
 
 -- so a header that was built gives its parts back
 pub built-gives-back : (kind address route : ℕ) → headerNumber kind address route ≡ 0 → GivenBack kind address route

@@ -1,9 +1,8 @@
 -- The header word (document 01, "The packet"): kind (2 bits), write address (14 bits), route (16 bits), top bit first.
 use Prim.Native.Nat.{ℕ, zero, suc, _+_, _*_, _/_, _%_, _^_}
-use mathlib.Core.Bool.{Bool, true, false}
+use mathlib.Core.Bool.{Bool}
 use Rattle.words.specs.Tests.{_and_, _<?_}
 use Rattle.words.specs.Numbers.{unless}
-use Rattle.packet.specs.declared.Header.{Header}
 use Rattle.packet.specs.declared.Built.{Built}
 use Rattle.packet.specs.declared.Built.the-variants.{Made, Refused}
 

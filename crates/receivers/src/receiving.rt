@@ -1,10 +1,10 @@
 // The nodes' receive units: whether a word strays (number 20), and their registers, landings and memories after a cycle.
 ghost use mathlib.Core.Path.{_≡_};
 ghost use mathlib.Core.List.{[]};
-ghost use Prim.Native.Nat.{ℕ, _+_, _*_, _<_, _≤_};
+ghost use Prim.Native.Nat.{_+_, _*_, _<_};
 ghost use Rattle.words.specs.Tests.{any};
 ghost use Rattle.sheet.specs.Sheet.{nodes as nodesOf};
-ghost use Rattle.network.specs.Registers.{reg as regOf, sheetIn, room as roomOf, receiveMark, landingWord};
+ghost use Rattle.network.specs.Registers.{sheetIn, room as roomOf, receiveMark, landingWord};
 ghost use Rattle.network.specs.Inner.Machine.{memoryMark, memoryWord, straysIn, nextReceiveMark, nextReceiveKind, nextReceiveAddress, nextLandingMark, nextInRow, nextMemory};
 ghost use Rattle.network.specs.Inner.Stages.{stage};
 ghost use Rattle.receivers.specs.Inner.Required.{Counted, Receivable, LandingFits};

@@ -1,6 +1,6 @@
 -- The rules 9 and 10 at one entry, in terms of what the code has read: the entry, its circuit, and where its route leads.
 -- Assumes nothing.
-use Prim.Native.Nat.{ℕ, _+_, _-_, _*_, _/_, _<_, _≤_}
+use Prim.Native.Nat.{ℕ, _+_, _-_, _*_, _<_, _≤_}
 use mathlib.Core.Bool.{Bool, true, false, false≢true}
 use mathlib.Core.List.{List}
 use mathlib.Core.Path.{_≡_, refl, sym, _∙_, ap, ap₂, subst}
@@ -8,14 +8,14 @@ use native.Mathlib.Omega.{arith}
 use lib.ListN.{length, set, replicate, length-set, length-replicate}
 use lib.Seq.{getD-set-other}
 use native.Mathlib.Decide.{decLt}
-use Rattle.words.specs.Tests.{all, _and_, _≤?_, _<?_, _=?_}
+use Rattle.words.specs.Tests.{all, _and_, _≤?_, _<?_}
 use Rattle.words.specs.Words.{word, pick}
 use Rattle.words.proofs.WordLaws.{tab-at, tab-is, fill-more, word-zeros}
 use Rattle.words.proofs.AllLaws.{all-at}
 use Rattle.words.proofs.TestLaws.{and-no, and-on, and-left, and-right, yes=, no=, is=, is≤, yes<, no<}
 use Rattle.torus.specs.Torus.{distanceOf}
 use Rattle.torus.specs.Inner.Grid.{InGrid}
-use Rattle.torus.specs.Route.{Use, Route, leads, nowhere, routeFrom, routerCycles}
+use Rattle.torus.specs.Route.{Route, leads, nowhere, routeFrom, routerCycles}
 use Rattle.torus.specs.Inner.Paths.{pathOf}
 use Rattle.torus.specs.declared.Path.{Path}
 use Rattle.torus.proofs.RouteLaws.{hops-high}
@@ -27,7 +27,7 @@ use Rattle.sheet.specs.Flight.{hopsOf}
 use Rattle.sheet.specs.Rules.{eachEntry, entryRoute, entryLeads, entryEnds, reaches, routeHops, rule4, rule9}
 use Rattle.sheet.specs.Inner.Passed.{Framed, Ranged}
 use Rattle.sheet.proofs.PassedLaws.{entry-small, period-range, circuit-small, in-grid}
-use Rattle.routes.specs.Inner.Joined.{Joined, Timed, Leading, circuitDistances}
+use Rattle.routes.specs.Inner.Joined.{Joined, Timed, circuitDistances}
 
 module _ (z : List ℕ) (e : Entry) (circuit : Circuit) (c : circuit ≡ circuitAt z (e .circuit)) (cols count : ℕ) (x : cols ≡ columns z) (y : count ≡ rows z) where
   -- both ends of the circuit are in the grid

@@ -1,7 +1,7 @@
 // The routes of a sheet's entries: the rules 9 and 10.
 ghost use mathlib.Core.Path.{_≡_};
 ghost use mathlib.Core.Bool.{true};
-ghost use Prim.Native.Nat.{ℕ, _+_, _*_, _<_, _≤_};
+ghost use Prim.Native.Nat.{_+_, _*_, _<_};
 ghost use Rattle.sheet.specs.Sheet.{circuits, schedules, period};
 ghost use Rattle.sheet.specs.Flight.{hopsOf};
 ghost use Rattle.sheet.specs.Rules.{eachEntry, entryLeads, entryEnds, rule4, rule9, rule10};

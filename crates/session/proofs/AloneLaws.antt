@@ -4,10 +4,10 @@
 use Prim.Native.Nat.{ℕ}
 use mathlib.Core.Bool.{Bool, true, false, false≢true}
 use mathlib.Core.List.{List}
-use mathlib.Core.Path.{_≡_, refl, sym, _∙_, ap}
+use mathlib.Core.Path.{_≡_, refl, _∙_, ap}
 use Rattle.words.specs.Tests.{_=?_}
 use Rattle.words.specs.Words.{pick}
-use Rattle.session.specs.Calls.{Question, fetch, left, periodNumber, landed, questionNumber, Call, load, start, store, order, cycle, ask, lend, lendState, number, does, after}
+use Rattle.session.specs.Calls.{fetch, left, periodNumber, whatLanded, Call, load, start, store, order, cycle, ask, lend, lendState, number, does, after}
 
 -- start, order, words left, the period number and what landed
 abbrev pub isAlone : Call → Bool
@@ -19,7 +19,7 @@ isAlone cycle = false
 isAlone (ask (fetch node address)) = false
 isAlone (ask (left circuit)) = true
 isAlone (ask periodNumber) = true
-isAlone (ask (landed node)) = true
+isAlone (ask (whatLanded node)) = true
 
 module _ (s m : List ℕ) where
   pub number-alone : (x : Call) → isAlone x ≡ true → number x (lend s m) ≡ number x (lendState s)
@@ -31,7 +31,7 @@ module _ (s m : List ℕ) where
   number-alone (ask (fetch node address)) e = absurd (false≢true e)
   number-alone (ask (left circuit)) e = refl
   number-alone (ask periodNumber) e = refl
-  number-alone (ask (landed node)) e = refl
+  number-alone (ask (whatLanded node)) e = refl
 
   does-alone : (x : Call) → isAlone x ≡ true → does x (lend s m) ≡ lend (does x (lendState s) .state) m
   does-alone (load z) e = absurd (false≢true e)

@@ -15,7 +15,7 @@ use Rattle.soundness.proofs.SoundLaws.{SoundParts, sound-parts}
 use Rattle.soundness.proofs.PairedLaws.{sound-sendable}
 use Rattle.session.specs.Calls.{memoryNumber, cycleNumber}
 use Rattle.session.proofs.NumberLaws.{MemoryPassed, memory-passed}
-use Rattle.session.proofs.ReadingLaws.{then-first, then-next}
+use Rattle.words.proofs.NumberLaws.{then-first, then-next}
 
 module _ (s m : List ℕ) (e : memoryNumber s m ≡ 0) where
   passed : MemoryPassed s m

@@ -16,14 +16,14 @@ use Rattle.sheet.specs.Sheet.{circuits, nodes, circuitAt}
 use Rattle.sheet.specs.Rules.{verdict}
 use Rattle.network.specs.Registers.{reg, sheetIn, clockRow, cyclePlace, inForcePlace, orderMarkPlace, orderSchedulePlace, linkMark, linkWord}
 use Rattle.network.specs.Registers.{headMark, headWord, choiceRow, latchRow, outMark, outWord, receiveMark, receiveKind, landingMark, leftRow}
-use Rattle.network.specs.Registers.{readRow, writeRow, kindRow, toGoRow, rowCount, rowWords, landingWord, stateWords}
+use Rattle.network.specs.Registers.{readRow, writeRow, kindRow, toGoRow, rowWords, landingWord, stateWords}
 use Rattle.network.specs.Seen.{seenSender}
 use Rattle.network.specs.Inner.Machine.{nextState}
 use Rattle.network.proofs.RowLaws.{sender-same, sheet-kept}
 use Rattle.network.proofs.StepLaws.{state-length, memory-length}
 use Rattle.soundness.specs.Sound.{sound}
 use Rattle.session.specs.Calls.{stateNumber, loadNumber, startNumber, orderNumber, cycleNumber, loaded, started, ordered, stored, Lent, Call}
-use Rattle.session.specs.Calls.{load, start, store, fetch, left, periodNumber, landed, order, cycle, number, does, after, isLoad, Question, ask}
+use Rattle.session.specs.Calls.{load, start, store, fetch, left, periodNumber, whatLanded, order, cycle, number, does, after, isLoad, Question, ask}
 use Rattle.session.specs.Calls.{questionNumber}
 use Rattle.session.proofs.NumberLaws.{state-passed, load-passed, StartPassed, start-passed, place-passed, left-passed, landed-passed, OrderPassed, order-passed, cycle-passed}
 use Rattle.soundness.proofs.SoundLaws.{beside, cell-none, TransferParts, RouterParts, NodeParts, SoundParts, sound-parts, sound-on}
@@ -233,7 +233,7 @@ asked-sound : (question : Question) (w : Lent) → questionNumber question w ≡
 asked-sound (fetch node address) w e = place-passed (w .state) (w .memory) node address e .memory .state .is-sound
 asked-sound (left circuit) w e = left-passed (w .state) circuit e .state .is-sound
 asked-sound periodNumber w e = state-passed (w .state) e .is-sound
-asked-sound (landed node) w e = landed-passed (w .state) node e .state .is-sound
+asked-sound (whatLanded node) w e = landed-passed (w .state) node e .state .is-sound
 
 -- every call that is carried out leaves a sound state
 pub sound-kept : (x : Call) (w : Lent) → number x w ≡ 0 → sound (does x w .state) ≡ true

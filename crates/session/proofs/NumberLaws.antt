@@ -8,7 +8,6 @@ use native.Mathlib.Omega.{arith}
 use native.Mathlib.Decide.{ℕ-discrete}
 use lib.ListN.{length}
 use Rattle.words.specs.Tests.{_or_, _≤?_, _=?_}
-use Rattle.words.specs.Words.{pick}
 use Rattle.words.proofs.TestLaws.{and-left, and-right, is≤, is<, is=, yes=, yes≤}
 use Rattle.packet.specs.Header.{dataKind}
 use Rattle.sheet.specs.Sheet.{memoryWords, circuits, schedules, nodes, circuitAt}
@@ -18,7 +17,7 @@ use Rattle.network.specs.Inner.Machine.{faultyIn}
 use Rattle.network.specs.OneMachine.{cycleFault}
 use Rattle.soundness.specs.Sound.{sound, kindTravels}
 use Rattle.soundness.proofs.SoundLaws.{Lies, lies}
-use Rattle.words.specs.Numbers.{unless, _then_}
+use Rattle.words.specs.Numbers.{_then_}
 use Rattle.words.proofs.NumberLaws.{then-zero, unless-zero, zero-then, zero-unless}
 use Rattle.session.specs.Calls.{stateNumber, memoryNumber, loadNumber, startNamed, startFits, isBusy, startNumber, placeNumber, leftNumber}
 use Rattle.session.specs.Calls.{landedNumber, isPending, ahead, orderNumber, cycleNumber}

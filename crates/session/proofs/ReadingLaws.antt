@@ -1,13 +1,10 @@
 -- The numbers of the calls from the tests that the code makes in turn, and the answers from their numbers.
 -- Assumes nothing.
-use Prim.Native.Nat.{ℕ, zero, suc, _+_, _*_, _≤_}
-use mathlib.Core.Bool.{Bool, true, false}
+use Prim.Native.Nat.{ℕ, zero, suc, _+_, _*_}
 use mathlib.Core.List.{List}
 use mathlib.Core.Path.{_≡_, refl, sym, _∙_, ap}
 use native.Mathlib.Omega.{arith}
-use native.Mathlib.Nat.{mul-le-mul}
-use Rattle.words.specs.Words.{word, pick}
-use Rattle.words.proofs.TestLaws.{yes=, no=}
+use Rattle.words.specs.Words.{word}
 use Rattle.sheet.specs.Inner.Passed.{Headed}
 use Rattle.network.specs.Registers.{sheetIn, room}
 use Rattle.network.specs.Seen.{seenLanding}
@@ -15,32 +12,13 @@ use Rattle.network.specs.View.{Landing}
 use Rattle.session.specs.declared.Found.the-variants.{Word as FoundWord, Refused as FoundRefused}
 use Rattle.session.specs.declared.Landed.{Landed}
 use Rattle.session.specs.declared.Landed.the-variants.{Nothing, Word as LandedWord, Refused as LandedRefused}
-use Rattle.words.specs.Numbers.{unless, _then_}
+use Rattle.words.specs.Numbers.{_then_}
 use Rattle.session.specs.Calls.{stateNumber, memoryNumber, fetched}
 use Rattle.session.specs.Answers.{foundOf, landedOf}
-use Rattle.words.proofs.NumberLaws.{then-zero, zero-unless}
+use Rattle.words.proofs.NumberLaws.{then-zero}
 use Rattle.session.proofs.NumberLaws.{state-passed}
 use Rattle.soundness.proofs.SoundLaws.{sound-parts}
 use Rattle.soundness.proofs.SheetLaws.{SheetBounds, sheet-bounds}
-
--- the first number applies
-pub then-first : {n a : ℕ} (b : ℕ) → n ≡ a → (n ≡ 0 → ⊥) → n ≡ (a then b)
-unfolding _then_
-then-first {n} {a} b e ne = e ∙ sym (ap (λ (t : Bool). pick t b a) (no= (λ z. ne (e ∙ z))))
-
--- it does not, and the rest decides
-pub then-next : {a b v : ℕ} → a ≡ 0 → v ≡ b → v ≡ (a then b)
-unfolding _then_
-then-next {a} {b} e r = r ∙ sym (ap (λ (t : Bool). pick t b a) (yes= e))
-
--- a number whose test does not hold
-pub unless-no : (number : ℕ) {test : Bool} → test ≡ false → number ≡ unless number test
-unfolding unless
-unless-no number e = sym (ap (λ (t : Bool). pick t 0 number) e)
-
--- one whose test holds
-pub unless-yes : (number : ℕ) {test : Bool} → test ≡ true → 0 ≡ unless number test
-unless-yes number e = sym (zero-unless number e)
 
 -- what the sheet of a state that passed 12 and 13 settles
 pub state-bounds : (s : List ℕ) → stateNumber s ≡ 0 → SheetBounds (sheetIn s)

@@ -10,7 +10,7 @@ use Rattle.words.specs.Words.{pick}
 use Rattle.words.proofs.TestLaws.{yes=, yes≤, is=}
 use Rattle.sheet.specs.Sheet.{nodes, memoryWords}
 use Rattle.session.specs.Calls.{lend, load, after}
-use Rattle.session.specs.Calls.{stateNumber, memoryNumber, loadNumber, loaded, Lent, Call, number, does, isLoad}
+use Rattle.session.specs.Calls.{stateNumber, memoryNumber, loaded, Lent, Call, number, does, isLoad}
 use Rattle.words.proofs.NumberLaws.{zero-then, zero-unless}
 use Rattle.session.proofs.KeptLaws.{state-passes}
 use Rattle.session.proofs.WritingLaws.{state-written}

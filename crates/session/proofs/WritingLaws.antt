@@ -14,11 +14,10 @@ use Rattle.sheet.specs.Sheet.{circuitAt}
 use Rattle.network.specs.Registers.{reg, put, sheetIn, room, clockRow, numberPlace, orderMarkPlace, orderSchedulePlace, orderPeriodPlace, leftRow, readRow, writeRow, kindRow}
 use Rattle.session.specs.declared.Answer.the-variants.{Done, Refused}
 use Rattle.soundness.specs.Sound.{liesIn}
-use Rattle.words.specs.Numbers.{unless, _then_}
+use Rattle.words.specs.Numbers.{_then_}
 use Rattle.session.specs.Calls.{stateNumber, startNumber, ahead, started, ordered, stored, Lent, Call, number, does, after}
 use Rattle.session.specs.Answers.{answerOf}
-use Rattle.words.proofs.NumberLaws.{zero-unless}
-use Rattle.session.proofs.ReadingLaws.{then-first, then-next, unless-no}
+use Rattle.words.proofs.NumberLaws.{then-first}
 
 -- the answers, from a number
 pub answer-done : {n : ℕ} (number : ℕ) → n ≡ number → n ≡ 0 → Done ≡ answerOf number
@@ -28,15 +27,22 @@ pub answer-refused : {n : ℕ} (number : ℕ) → n ≡ number → (n ≡ 0 → 
 answer-refused zero e ne = absurd (ne e)
 answer-refused (suc number) e ne = ap Refused e
 
+-- what a call leaves, by whether it is carried out
+pub after-done : (x : Call) (w : Lent) → number x w ≡ 0 → after x w ≡ does x w
+unfolding after
+after-done x w e = rw (yes= e) refl
+
+pub after-refused : (x : Call) (w : Lent) → (number x w ≡ 0 → ⊥) → after x w ≡ w
+unfolding after
+after-refused x w ne = rw (no= ne) refl
+
 -- the lent words afterwards: as they were, or as they were written
 module _ (x : Call) (w : Lent) {n : ℕ} (e : n ≡ number x w) where
   kept : (n ≡ 0 → ⊥) → w ≡ after x w
-  unfolding after
-  kept ne = sym (ap (λ (t : Bool). pick t (does x w) w) (no= (λ z. ne (e ∙ z))))
+  kept ne = sym (after-refused x w (λ z. ne (e ∙ z)))
 
   written : n ≡ 0 → does x w ≡ after x w
-  unfolding after
-  written z = sym (ap (λ (t : Bool). pick t (does x w) w) (yes= (sym e ∙ z)))
+  written z = sym (after-done x w (sym e ∙ z))
 
   pub state-kept : (n ≡ 0 → ⊥) → w .state ≡ after x w .state
   state-kept ne = ap (λ (y : Lent). y .state) (kept ne)
@@ -99,13 +105,6 @@ started-is s circuit read write count kind e f g h =
     h
     ∙ ap (λ (x : List ℕ). put x kindRow circuit kind)
     (g ∙ ap (λ (x : List ℕ). put x writeRow circuit write) (f ∙ ap (λ (x : List ℕ). put x readRow circuit read) e))
-
--- a number in the midst of others: its test does not hold, or it does and the rest decides
-pub then-stop : (number : ℕ) {test : Bool} (rest : ℕ) → 0 < number → test ≡ false → number ≡ (unless number test then rest)
-then-stop number rest l e = then-first rest (unless-no number e) (λ z. omega arith)
-
-pub then-on : (number : ℕ) {test : Bool} {rest v : ℕ} → test ≡ true → v ≡ rest → v ≡ (unless number test then rest)
-then-on number e r = then-next (zero-unless number e) r
 
 -- a number of 12 and 13 is the start's number
 pub start-early : {n : ℕ} (s : List ℕ) (circuit read write count kind : ℕ) → n ≡ stateNumber s → (n ≡ 0 → ⊥)

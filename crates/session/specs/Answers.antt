@@ -1,7 +1,7 @@
 -- The answers of the calls, one to one with their numbers and values.
 use Prim.Native.Nat.{ℕ, zero, suc}
 use Rattle.network.specs.View.{Landing, nothing, landed}
-use Rattle.session.specs.Calls.{Lent, ask, fetch, left, periodNumber, landed as whatLanded, number, fetched, wordsLeft, periodNumberIn, lastLanding}
+use Rattle.session.specs.Calls.{Lent, ask, fetch, left, periodNumber, whatLanded, number, fetched, wordsLeft, periodNumberIn, lastLanding}
 use Rattle.session.specs.declared.Answer.{Answer}
 use Rattle.session.specs.declared.Answer.the-variants.{Done, Refused}
 use Rattle.session.specs.declared.Found.{Found}

@@ -126,14 +126,14 @@ pub data Question : Type 0 where
   fetch : ℕ → ℕ → Question
   left : ℕ → Question
   periodNumber : Question
-  landed : ℕ → Question
+  whatLanded : ℕ → Question
 
 -- the number that a question answers
 abbrev pub questionNumber : Question → Lent → ℕ
 questionNumber (fetch node address) w = placeNumber (w .state) (w .memory) node address
 questionNumber (left circuit) w = leftNumber (w .state) circuit
 questionNumber periodNumber w = stateNumber (w .state)
-questionNumber (landed node) w = landedNumber (w .state) node
+questionNumber (whatLanded node) w = landedNumber (w .state) node
 
 pub data Call : Type 0 where
   load : List ℕ → Call

@@ -1,17 +1,21 @@
--- Number 10 in delays: a packet's last word is on its route's last wire at most five cycles behind the period.
+-- Number 10 in delays: a packet's last word is on its route's last wire at most five cycles behind the period. And a flight time comes of
+-- the grid and the circuit's nodes alone.
 -- Assumes nothing.
 use Prim.Native.Nat.{ℕ, _+_, _-_, _*_, _<_, _≤_}
 use mathlib.Core.Bool.{true}
 use mathlib.Core.List.{List}
-use mathlib.Core.Path.{_≡_, refl}
+use mathlib.Core.Path.{_≡_, refl, _∙_, ap, ap₂}
 use native.Mathlib.Omega.{arith}
 use Rattle.words.proofs.TestLaws.{is≤}
 use Rattle.words.proofs.AllLaws.{all-at}
+use Rattle.torus.specs.Torus.{distanceOf}
 use Rattle.torus.specs.Route.{Route, leads, nowhere, routerCycles}
 use Rattle.torus.specs.Inner.Delays.{lastDelay}
 use Rattle.torus.proofs.TravelLaws.{last-delay-is}
+use Rattle.sheet.specs.declared.circuits.Circuit.{Circuit}
 use Rattle.sheet.specs.declared.entries.Entry.{Entry}
 use Rattle.sheet.specs.Sheet.{columns, rows, schedules, period, circuitAt, entriesOf, entryCount, entryAt}
+use Rattle.sheet.specs.Flight.{hopsOf, flightCycles}
 use Rattle.sheet.specs.Rules.{eachEntry, entryRoute, routeHops, entryEnds, rule10}
 use Rattle.sheet.specs.Inner.Passed.{Routed}
 use Rattle.sheet.proofs.PassedLaws.{entry-small}
@@ -35,3 +39,13 @@ entry-in-time z r j h i l =
     ends-in-time z (period z j) (entryAt (entriesOf z j) i) (omega (arith, entry-small z (r .ranged) j h i l .size-low))
     (all-at (λ i. entryEnds z (period z j) (entryAt (entriesOf z j) i)) (entryCount (entriesOf z j))
     (all-at (λ j. eachEntry z j (entryEnds z (period z j))) (schedules z) (r .packets-end) j h) i l)
+
+-- circuits of two sheets with one grid and the same two nodes are as many hops apart, and fly as long
+module _ (z z′ : List ℕ) (c d : ℕ) (e : columns z ≡ columns z′) (f : rows z ≡ rows z′) (g : circuitAt z c ≡ circuitAt z′ d) where
+  hops-same : hopsOf z c ≡ hopsOf z′ d
+  hops-same =
+      ap (λ (m : Circuit). distanceOf (columns z) (rows z) (m .read .node) (m .receive .node)) g
+      ∙ ap₂ (λ (k l : ℕ). distanceOf k l (circuitAt z′ d .read .node) (circuitAt z′ d .receive .node)) e f
+
+  pub flight-same : flightCycles z c ≡ flightCycles z′ d
+  flight-same = ap (λ (h : ℕ). routerCycles * (h + 1)) hops-same

@@ -2,7 +2,7 @@
 -- period's start and not taken modulo the period.
 use Prim.Native.Nat.{ℕ, zero, suc, _+_}
 use mathlib.Core.List.{List, [], _∷_, _++_}
-use mathlib.Core.Bool.{Bool, true, false}
+use mathlib.Core.Bool.{Bool, false}
 use Rattle.words.specs.Tests.{_and_, _or_, _=?_}
 use Rattle.torus.specs.Route.{Wire, source, side, memory, Use}
 

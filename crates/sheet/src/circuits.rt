@@ -1,11 +1,11 @@
 // The circuits of a sheet, and the rules 4 to 6.
 ghost use mathlib.Core.Path.{_≡_};
 ghost use mathlib.Core.Bool.{true};
-ghost use Prim.Native.Nat.{ℕ, _+_, _-_, _*_, _<_, _≤_};
+ghost use Prim.Native.Nat.{_+_, _-_, _*_, _<_};
 ghost use Rattle.words.specs.Tests.{all};
 ghost use Rattle.sheet.specs.Sheet.{circuits, circuitAt};
 ghost use Rattle.sheet.specs.Rules.{regionFits, circuitFits, circuitPrecedes, precedes, apart, receiveApart, rule4, rule5, rule6};
-ghost use Rattle.sheet.specs.Inner.Passed.{Headed, Framed};
+ghost use Rattle.sheet.specs.Inner.Passed.{Framed};
 use super::head::circuits_of;
 use super::head::memory_of;
 use super::head::nodes_of;

@@ -1,11 +1,10 @@
 // The entries of a schedule, and the rules 7 and 8.
 ghost use mathlib.Core.Path.{_≡_};
-ghost use Prim.Native.Nat.{ℕ, _+_, _-_, _*_, _/_, _<_, _≤_};
-ghost use lib.ListN.{length};
+ghost use Prim.Native.Nat.{_+_, _-_, _*_, _/_, _<_};
 ghost use Rattle.words.specs.Tests.{all};
 ghost use Rattle.sheet.specs.Sheet.{schedules, entryCount, entryAt};
-ghost use Rattle.sheet.specs.Rules.{entryFits, entryPrecedes, rule7At, rule7, rule8At, rule8};
-ghost use Rattle.sheet.specs.Inner.Passed.{Headed, Framed};
+ghost use Rattle.sheet.specs.Rules.{entryFits, entryPrecedes, rule7At, rule7, rule8};
+ghost use Rattle.sheet.specs.Inner.Passed.{Framed};
 use super::circuits::is_ordered;
 use super::frame::entries_of;
 use super::frame::schedule_period;

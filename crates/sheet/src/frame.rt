@@ -1,7 +1,6 @@
 // The frame of a sheet: its head, where its schedules are, and the rules 1 to 3.
 ghost use mathlib.Core.Path.{_≡_};
-ghost use Prim.Native.Nat.{ℕ, _+_, _*_, _<_, _≤_};
-ghost use lib.ListN.{length};
+ghost use Prim.Native.Nat.{_+_, _*_, _<_};
 ghost use Rattle.sheet.specs.Sheet.{schedules, schedulePlace, period, entriesOf};
 ghost use Rattle.sheet.specs.Rules.{rule1, rule2, rule3};
 ghost use Rattle.sheet.specs.Inner.Passed.{Headed, Framed, Placed};

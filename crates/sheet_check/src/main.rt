@@ -3,7 +3,7 @@ use checker::Outcome;
 use libc::STDIN_FILENO;
 use libc::STDOUT_FILENO;
 ghost use mathlib.Core.Path.{_≡_};
-ghost use Prim.Native.Nat.{ℕ, _+_, _*_, _<_, _≤_};
+ghost use Prim.Native.Nat.{_+_, _*_, _<_, _≤_};
 ghost use lib.ListN.{length, take};
 ghost use Rattle.octets.specs.Octets.{wordIn};
 ghost use Rattle.sheet_check.specs.Line.{lineOf, sheetOf, verdictLine, textOf};

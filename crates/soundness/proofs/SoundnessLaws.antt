@@ -18,7 +18,6 @@ use Rattle.network.specs.Registers.{reg, sheetLength, sheetIn, clockRow, cycleP
 use Rattle.network.specs.Registers.{headMark, outMark, latchRow, receiveMark, receiveKind, landingMark, leftRow, readRow, writeRow, kindRow, toGoRow}
 use Rattle.network.specs.Registers.{movingWords, sheetWords}
 use Rattle.soundness.specs.Sound.{sheetSound, clockSound, orderSound, kindTravels, liesIn, kindAllowed, interruptSingle, toGoWithin, transferSound, cellSound, routerSound, nodeSound, sound}
-use Rattle.sheet.proofs.PassedLaws.{nodes-are}
 
 -- a test of three parts, with the first two taken together
 and-over : (a b d : Bool) → ((a and b) and d) ≡ (a and b and d)

@@ -1,6 +1,6 @@
 // Whether a state's words are sound (document 01, number 13), clause by clause as specs/Sound.antt has them.
 ghost use mathlib.Core.Path.{_≡_};
-ghost use Prim.Native.Nat.{ℕ, _*_};
+ghost use Prim.Native.Nat.{_*_};
 ghost use Rattle.words.specs.Tests.{all, _and_, _or_, _≤?_, _=?_};
 ghost use Rattle.packet.specs.Header.{dataKind};
 ghost use Rattle.sheet.specs.Sheet.{circuits, nodes as nodesOf};

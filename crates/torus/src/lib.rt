@@ -3,7 +3,7 @@ mod distances;
 
 ghost use mathlib.Core.Path.{_≡_};
 ghost use mathlib.Core.Bool.{true, false};
-ghost use Prim.Native.Nat.{ℕ, _+_, _*_, _%_, _<_, _≤_};
+ghost use Prim.Native.Nat.{_+_, _*_, _%_, _<_};
 ghost use Rattle.torus.specs.Torus.{neighbourOf, distanceOf};
 ghost use Rattle.torus.specs.Inner.Grid.{InGrid};
 ghost use Rattle.torus.specs.Route.{outputOf, hopCycles, routeFrom, nowhere};

@@ -1,4 +1,4 @@
--- Laws of the first number that applies: it is 0 exactly where every test holds.
+-- Laws of the first number that applies: it is 0 exactly where every test holds; and it is what tests made in turn find.
 -- Assumes nothing.
 use Prim.Native.Nat.{ℕ, suc, _<_}
 use mathlib.Core.Bool.{Bool, true, false, false≢true}
@@ -55,3 +55,29 @@ after-zero {a} b e = then-test a b ∙ ap (λ (t : Bool). t and b =? 0) (yes= e)
 -- a test, then a number
 pub test-then : (n : ℕ) (t : Bool) (b : ℕ) → ((unless (suc n) t then b) =? 0) ≡ (t and b =? 0)
 test-then n t b = then-test (unless (suc n) t) b ∙ ap (λ (u : Bool). u and b =? 0) (unless-test n t)
+
+-- the first number applies
+pub then-first : {n a : ℕ} (b : ℕ) → n ≡ a → (n ≡ 0 → ⊥) → n ≡ (a then b)
+unfolding _then_
+then-first {n} {a} b e ne = e ∙ sym (ap (λ (t : Bool). pick t b a) (no= (λ z. ne (e ∙ z))))
+
+-- it does not, and the rest decides
+pub then-next : {a b v : ℕ} → a ≡ 0 → v ≡ b → v ≡ (a then b)
+unfolding _then_
+then-next {a} {b} e r = r ∙ sym (ap (λ (t : Bool). pick t b a) (yes= e))
+
+-- a number whose test does not hold
+pub unless-no : (number : ℕ) {test : Bool} → test ≡ false → number ≡ unless number test
+unfolding unless
+unless-no number e = sym (ap (λ (t : Bool). pick t 0 number) e)
+
+-- one whose test holds
+pub unless-yes : (number : ℕ) {test : Bool} → test ≡ true → 0 ≡ unless number test
+unless-yes number e = sym (zero-unless number e)
+
+-- a number in the midst of others: its test does not hold, or it does and the rest decides
+pub then-stop : (number : ℕ) {test : Bool} (rest : ℕ) → 0 < number → test ≡ false → number ≡ (unless number test then rest)
+then-stop number rest l e = then-first rest (unless-no number e) (λ z. omega arith)
+
+pub then-on : (number : ℕ) {test : Bool} {rest v : ℕ} → test ≡ true → v ≡ rest → v ≡ (unless number test then rest)
+then-on number e r = then-next (zero-unless number e) r

@@ -8,8 +8,8 @@ use native.Mathlib.Numerals.{add-one}
 use native.Mathlib.Nat.{not-suc-le-zero, add-zero, zero-add, le-refl, mul-le-mul}
 use native.Mathlib.Omega.{arith}
 use native.Mathlib.Decide.{ℕ-discrete, decLt}
-use lib.ListN.{length, getD, take, drop, set, replicate, length-append, length-set, length-replicate, List·getD-append}
-use lib.Seq.{getD-at, ext-getD, drop-cons, set-at, length-take-le, append-snoc, take-suc, getD-take, getD-set-other, getD-set-same}
+use lib.ListN.{length, getD, take, set, replicate, length-append, length-set, length-replicate, List·getD-append}
+use lib.Seq.{getD-at, ext-getD, length-take-le, getD-take, getD-set-other, getD-set-same}
 use Rattle.words.specs.Words.{word, pick, tab, lastOf, countOf, leastFrom}
 use Rattle.words.specs.Inner.Puts.{putAll}
 

@@ -1,6 +1,6 @@
 -- `checker::frame_number` meets its contract: Numbers 1 to 3: each test decides where those before it are passed, and the first two give what the third asks.
 -- Assumes nothing.
-use mathlib.Core.Path.{_≡_, sym, _∙_}
+use mathlib.Core.Path.{sym, _∙_}
 use Rattle.sheet.proofs.PassedLaws.{headed}
 use Rattle.sheet.proofs.VerdictLaws.{here, on, done}
 use borrow.Author.Needs.{needs}

@@ -1,6 +1,6 @@
 -- The places of wires in cycles in a table: wire number × stride + cycle is the place of a wire in a cycle.
 use Prim.Native.Nat.{ℕ, zero, suc, _+_, _*_, _≤_, _<_}
-use mathlib.Core.List.{List, [], _∷_, _++_, map}
+use mathlib.Core.List.{List, [], _++_, map}
 use mathlib.Core.Bool.{Bool, true, false, not}
 use mathlib.Core.Path.{_≡_}
 use lib.ListN.{length}
@@ -9,7 +9,7 @@ use Rattle.torus.specs.Inner.Grid.{InGrid}
 use Rattle.torus.specs.Inner.Paths.{wireNumber, wiresPerNode}
 use Rattle.torus.specs.Inner.Delays.{lastDelay}
 use Rattle.sheet.specs.declared.entries.Entry.{Entry}
-use Rattle.sheet.specs.Sheet.{columns, rows, nodes, schedules, circuitAt, period}
+use Rattle.sheet.specs.Sheet.{columns, rows, nodes, circuitAt}
 use Rattle.sheet.specs.Wires.{WireCycle}
 use Rattle.sheet.specs.Rules.{entryRoute, entryLeads, entryOccupied}
 use Rattle.occupancy.specs.Inner.Occupancy.{run, taken, anyTaken, Takes}

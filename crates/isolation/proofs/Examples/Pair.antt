@@ -23,7 +23,7 @@ use Rattle.network.specs.Registers.{stateWords}
 use Rattle.session.specs.declared.Found.the-variants.{Word as FoundWord}
 use Rattle.soundness.specs.Sound.{kindTravels, liesIn}
 use Rattle.session.specs.Answers.{fetchAnswer}
-use Rattle.session.specs.Calls.{Call, load, start, store, fetch, left, periodNumber, landed, order, cycle, ask}
+use Rattle.session.specs.Calls.{Call, load, start, store, fetch, left, periodNumber, whatLanded, order, cycle, ask}
 use Rattle.isolation.specs.Sessions.{Session, afterLoad, Event, storeDone, orderDone, cycleDone}
 use Rattle.isolation.specs.Calendar.{calendarAfter, cyclesDone, pointAfter, scheduleIn}
 use Rattle.isolation.specs.Reckoning.{Item, item, reckonedLanding, leavesIn}
@@ -92,7 +92,7 @@ oneCalls =
 abbrev pub otherCalls : List Call
 otherCalls =
     (start 0 0 4 2 0 ∷ store 3 5 99 ∷ start 1 0 0 4 0 ∷ ask (fetch 0 5) ∷ replicate 3 cycle)
-    ++ (store 0 3 76 ∷ ask (landed 0) ∷ store 0 3 77 ∷ replicate 5 cycle)
+    ++ (store 0 3 76 ∷ ask (whatLanded 0) ∷ store 0 3 77 ∷ replicate 5 cycle)
     ++ (store 1 3 55 ∷ store 0 6 12 ∷ load (2 ∷ []) ∷ start 7 0 0 1 0 ∷ ask (left 1) ∷ cycle ∷ [])
     ++ (order 2 3 ∷ ask periodNumber ∷ replicate 16 cycle)
     ++ (start 1 1 2 1 2 ∷ start 0 0 4 1 2 ∷ replicate 15 cycle)

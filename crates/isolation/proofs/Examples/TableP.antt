@@ -9,7 +9,7 @@ use Rattle.words.specs.Words.{leastFrom, tab}
 use Rattle.words.specs.Tests.{all, any, between, _and_, _or_, _≤?_, _<?_, _=?_, _≠?_}
 use Rattle.torus.specs.Torus.{neighbourOf, walks, distanceOf}
 use Rattle.torus.specs.Route.{outputOf, hopCycles, follow, routeFrom}
-use Rattle.network.specs.Registers.{reg, sheetLength, sheetIn, stateWords, numberPlace, movingWords}
+use Rattle.network.specs.Registers.{reg, sheetLength, sheetIn, movingWords}
 use Rattle.soundness.specs.Sound.{sheetSound, clockSound, orderSound, kindTravels, liesIn, transferSound, cellSound, routerSound, nodeSound, sound}
 use Rattle.words.specs.Numbers.{unless, _then_}
 use Rattle.words.proofs.TableLaws.{tab-zeros}

@@ -18,13 +18,14 @@ use Rattle.network.specs.Cycle.{nextNumber, scheduleAfter, orderAfter, periodEn
 use Rattle.network.specs.Registers.{reg, clockRow, cyclePlace, numberPlace, inForcePlace, orderMarkPlace, orderSchedulePlace, orderPeriodPlace, rowWords}
 use Rattle.session.specs.Calls.{Lent, Call, load, start, store, order, cycle, isLoad, number, does, after, ordered, stored, ask}
 use Rattle.session.proofs.NumberLaws.{start-passed}
-use Rattle.session.proofs.RegisterLaws.{loaded-register, started-other, ordered-other, ordered-mark, ordered-schedule, ordered-period}
-use Rattle.isolation.specs.Sessions.{LoadsRefused, run, Session, afterLoad, standing, Event, orderDone, cycleDone, eventOf, events}
+use Rattle.session.proofs.RegisterLaws.{started-other, ordered-other, ordered-mark, ordered-schedule, ordered-period}
+use Rattle.isolation.specs.Sessions.{LoadsRefused, afterAll, Session, afterLoad, standing, Event, orderDone, cycleDone, eventOf, events}
 use Rattle.isolation.specs.Calendar.{Calendar, calendarAtLoad, spendOrder, nextCalendar, calendarEvent, calendarAll, calendarAt}
 use Rattle.isolation.proofs.Flights.Trajectory.{Trajectory}
 use Rattle.isolation.proofs.Flights.NeverFaulty.{never-faulty}
-use Rattle.isolation.proofs.Reckoning.Stream.{isCycle, seen, Fine, fine-bounds, fine-opened, fine-after, fine-cycle, after-done, after-refused}
-use Rattle.isolation.proofs.Reckoning.Stream.{is-cycle, idle, cycleThen, stream, cycle-seen, cycle-goes, machineAt, session-passes}
+use Rattle.session.proofs.WritingLaws.{after-done, after-refused}
+use Rattle.isolation.proofs.Reckoning.Stream.{isCycle, seen, Fine, fine-bounds, fine-opened, fine-after, fine-cycle}
+use Rattle.isolation.proofs.Reckoning.Stream.{is-cycle, idle, cycleThen, stream, cycle-seen, cycle-goes, machineAt, session-passes, zero-at}
 use Rattle.isolation.proofs.Reckoning.Stream.{session-trajectory}
 
 -- a calendar shows what the machine's clock shows
@@ -331,11 +332,11 @@ module _ (z : List ℕ) (passes : verdict z ≡ 0) (S : ℕ → View) (J : Traje
 
   -- every point of the calls
   pub points : (n : ℕ) (calls : List Call) (w : Lent) (k : Calendar) → Point z S calls w k
-      → Point z S (drop n calls) (run (take n calls) w) (calendarAll z (events (take n calls) w) k)
+      → Point z S (drop n calls) (afterAll (take n calls) w) (calendarAll z (events (take n calls) w) k)
   points zero calls w k p = p
   points (suc n) [] w k p = p
   points (suc n) (x ∷ calls) w k p =
-      subst (Point z S (drop n calls) (run (take n calls) (after x w)))
+      subst (Point z S (drop n calls) (afterAll (take n calls) (after x w)))
       (sym (calendar-append z (pick (number x w =? 0) (eventOf x) []) (events (take n calls) (after x w)) k))
       (points n calls (after x w) _ (point-next x calls w k p))
 
@@ -345,16 +346,13 @@ drop-at [] k l = absurd (not-suc-le-zero l)
 drop-at (x ∷ calls) zero l = refl
 drop-at (x ∷ calls) (suc k) l = drop-at calls k (omega arith)
 
-pub run-at : (calls : List Call) (k : ℕ) (w : Lent) → k < length calls
-    → run (take (suc k) calls) w ≡ after (getD calls k cycle) (run (take k calls) w)
-run-at [] k w l = absurd (not-suc-le-zero l)
-run-at (x ∷ calls) zero w l = refl
-run-at (x ∷ calls) (suc k) w l = run-at calls k (after x w) (omega arith)
+pub after-all-at : (calls : List Call) (k : ℕ) (w : Lent) → k < length calls
+    → afterAll (take (suc k) calls) w ≡ after (getD calls k cycle) (afterAll (take k calls) w)
+after-all-at [] k w l = absurd (not-suc-le-zero l)
+after-all-at (x ∷ calls) zero w l = refl
+after-all-at (x ∷ calls) (suc k) w l = after-all-at calls k (after x w) (omega arith)
 
 module _ (l : Session) where
-  zero-at : (place : ℕ) → place < rowWords → reg (afterLoad l .state) clockRow place ≡ 0
-  zero-at place p = loaded-register (l .sheet) (l .lent .state) clockRow place (omega arith) p
-
   -- directly after the load
   pub point-opened : Point (l .sheet) (machineAt l) (l .calls) (afterLoad l) calendarAtLoad
   point-opened = record {
@@ -362,8 +360,9 @@ module _ (l : Session) where
     refused = l .loads-refused;
     machine = λ T. ap (machineAt l) (let e : 0 + T ≡ T = omega arith in e);
     dated =
-        dated-load (seen (afterLoad l)) (zero-at cyclePlace (omega arith)) (zero-at numberPlace (omega arith))
-        (zero-at inForcePlace (omega arith)) (rw (zero-at orderMarkPlace (omega arith)) refl);
+        let clear : (place : ℕ) → place < rowWords → reg (afterLoad l .state) clockRow place ≡ 0 = λ place p. zero-at l clockRow place (omega arith) p in
+        dated-load (seen (afterLoad l)) (clear cyclePlace (omega arith)) (clear numberPlace (omega arith))
+        (clear inForcePlace (omega arith)) (rw (clear orderMarkPlace (omega arith)) refl);
   }
 
   -- every point of the session

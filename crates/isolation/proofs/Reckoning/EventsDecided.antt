@@ -17,7 +17,7 @@ use Rattle.network.specs.View.{Order, noOrder, pending}
 use Rattle.network.specs.Registers.{reg, clockRow, orderMarkPlace, orderSchedulePlace, orderPeriodPlace, leftRow}
 use Rattle.network.specs.Seen.{seenOrder}
 use Rattle.soundness.specs.Sound.{kindTravels, liesIn}
-use Rattle.session.specs.Calls.{Lent, Call, load, start, store, fetch, left, periodNumber, landed, order, cycle, isLoad, number, memoryNumber}
+use Rattle.session.specs.Calls.{Lent, Call, load, start, store, fetch, left, periodNumber, whatLanded, order, cycle, isLoad, number, memoryNumber}
 use Rattle.session.specs.Calls.{placeNumber, leftNumber, landedNumber, startNamed, startFits, isBusy, startNumber, isPending, ahead, orderNumber}
 use Rattle.session.specs.Calls.{Question, ask, questionNumber}
 use Rattle.words.proofs.NumberLaws.{zero-then, zero-unless, unless-test, after-zero, test-then}
@@ -52,7 +52,7 @@ abbrev askGoes : List ℕ → Question → Bool
 askGoes z (fetch node address) = node <? nodes z and address <? memoryWords z
 askGoes z (left circuit) = circuit <? circuits z
 askGoes z periodNumber = true
-askGoes z (landed node) = node <? nodes z
+askGoes z (whatLanded node) = node <? nodes z
 
 abbrev pub goes : List ℕ → List ℕ → List Event → Call → Bool
 goes z m es (load y) = false
@@ -160,7 +160,7 @@ module _ (l : Session) (k : ℕ) where
   question-test (fetch node address) = place-test node address
   question-test (left circuit) = left-test circuit
   question-test periodNumber = yes= (state-zero z w f)
-  question-test (landed node) = landed-test node
+  question-test (whatLanded node) = landed-test node
 
   -- the next call
   call-test : (x : Call) → (isCycle x ≡ true → number x w ≡ 0) → (isLoad x ≡ true → number x w ≡ 0 → ⊥)

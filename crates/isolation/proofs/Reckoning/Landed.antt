@@ -13,9 +13,10 @@ use Rattle.network.specs.Seen.{seenLanding}
 use Rattle.session.specs.Calls.{Lent, Call, load, start, store, order, cycle, isLoad, number, does, after, ask}
 use Rattle.session.proofs.NumberLaws.{start-passed}
 use Rattle.soundness.proofs.SheetLaws.{sheet-bounds}
-use Rattle.session.proofs.RegisterLaws.{loaded-register, started-other, ordered-other}
+use Rattle.session.proofs.RegisterLaws.{started-other, ordered-other}
 use Rattle.isolation.specs.Sessions.{Session, afterLoad}
-use Rattle.isolation.proofs.Reckoning.Stream.{isCycle, seen, Fine, fine-bounds, after-done, after-refused, session-passes}
+use Rattle.session.proofs.WritingLaws.{after-done, after-refused}
+use Rattle.isolation.proofs.Reckoning.Stream.{isCycle, seen, Fine, fine-bounds, session-passes, zero-at}
 
 -- words with the same landing registers
 landing-same : (w w′ : Lent) (node : ℕ) → ((row : ℕ) → 12 ≤ row → row ≤ 15 → reg (w′ .state) row node ≡ reg (w .state) row node)
@@ -62,5 +63,5 @@ pub landing-opened : (l : Session) (node : ℕ) → node < nodes (l .sheet) → 
 landing-opened l node inside =
     let s : List ℕ = afterLoad l .state in
     ap (λ (mark : ℕ). seenLanding mark (reg s landingKind node) (reg s landingAddress node) (reg s landingWord node))
-    (loaded-register (l .sheet) (l .lent .state) landingMark node (omega arith)
+    (zero-at l landingMark node (omega arith)
     (omega (arith, sheet-bounds (l .sheet) (session-passes l) .few-nodes)))

@@ -13,7 +13,7 @@ use Rattle.words.specs.Words.{pick, leastFrom}
 use Rattle.words.proofs.TestLaws.{is=, yes=}
 use Rattle.words.proofs.WordLaws.{leastFrom-most, leastFrom-least}
 use Rattle.session.specs.Calls.{Lent, Call, load, start, store, order, cycle, number, after, ask}
-use Rattle.isolation.specs.Sessions.{Session, run, afterLoad, standing, Event, startDone, storeDone, orderDone, cycleDone, eventOf, events, eventsBefore}
+use Rattle.isolation.specs.Sessions.{Session, afterAll, afterLoad, standing, Event, startDone, storeDone, orderDone, cycleDone, eventOf, events, eventsBefore}
 use Rattle.isolation.specs.Calendar.{Calendar, calendarAtLoad, nextCalendar, calendarEvent, calendarAll, cyclesDone, pointAfter}
 use Rattle.isolation.specs.Reckoning.{Reckoned, cycleOn, reckonEvent, reckonAll}
 use Rattle.isolation.specs.Demand.{CycleAt}
@@ -97,7 +97,7 @@ own-cycle cycle true e = (refl, refl)
 -- the events through one call more, and through a cycle that is carried out
 pub events-more : (calls : List Call) (w : Lent) (k : ℕ) → k < length calls
     → events (take (suc k) calls) w
-    ≡ events (take k calls) w ++ pick (number (getD calls k cycle) (run (take k calls) w) =? 0) (eventOf (getD calls k cycle)) []
+    ≡ events (take k calls) w ++ pick (number (getD calls k cycle) (afterAll (take k calls) w) =? 0) (eventOf (getD calls k cycle)) []
 events-more [] w k l = absurd (let z : ⊥ = omega arith in z)
 events-more (x ∷ calls) w zero l = append-nil (pick (number x w =? 0) (eventOf x) [])
 events-more (x ∷ calls) w (suc k) l =
@@ -106,15 +106,15 @@ events-more (x ∷ calls) w (suc k) l =
     ∙ sym (append-assoc own (events (take k calls) (after x w)) _)
 
 pub events-cycle : (calls : List Call) (w : Lent) (k : ℕ) → k < length calls → getD calls k cycle ≡ cycle
-    → number cycle (run (take k calls) w) ≡ 0 → events (take (suc k) calls) w ≡ events (take k calls) w ++ (cycleDone ∷ [])
+    → number cycle (afterAll (take k calls) w) ≡ 0 → events (take (suc k) calls) w ≡ events (take k calls) w ++ (cycleDone ∷ [])
 events-cycle calls w k l c e =
     events-more calls w k l
-    ∙ ap (λ (x : Call). events (take k calls) w ++ pick (number x (run (take k calls) w) =? 0) (eventOf x) []) c
+    ∙ ap (λ (x : Call). events (take k calls) w ++ pick (number x (afterAll (take k calls) w) =? 0) (eventOf x) []) c
     ∙ ap (λ (b : Bool). events (take k calls) w ++ pick b (cycleDone ∷ []) []) (yes= e)
 
 -- the events of the first calls, and of the others
 events-split : (calls : List Call) (w : Lent) (k : ℕ)
-    → events calls w ≡ events (take k calls) w ++ events (drop k calls) (run (take k calls) w)
+    → events calls w ≡ events (take k calls) w ++ events (drop k calls) (afterAll (take k calls) w)
 events-split calls w zero = refl
 events-split [] w (suc k) = refl
 events-split (x ∷ calls) w (suc k) =

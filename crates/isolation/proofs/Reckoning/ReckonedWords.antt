@@ -26,7 +26,7 @@ use Rattle.session.proofs.NumberLaws.{StartPassed, start-passed, place-passed}
 use Rattle.sheet.specs.Inner.Passed.{CircuitSmall}
 use Rattle.soundness.proofs.SheetLaws.{SheetBounds, sheet-bounds, circuit-bounds}
 use Rattle.session.proofs.RegisterLaws.{started-other, started-sender, ordered-other}
-use Rattle.isolation.specs.Sessions.{Transfer, Event, startDone, cycleDone, eventOf, events, run}
+use Rattle.isolation.specs.Sessions.{Transfer, Event, startDone, cycleDone, eventOf, events, afterAll}
 use Rattle.isolation.specs.Calendar.{Calendar, nextCalendar, calendarEvent, calendarAll}
 use Rattle.isolation.specs.Reckoning.{Item, none, Reckoned, reckonedLanding, lastReckoned, cycleOn, startOn, storeOn, reckonEvent, reckonAll, wordAfter, flightCycles}
 use Rattle.isolation.specs.Demand.{inRegion}
@@ -38,7 +38,8 @@ use Rattle.isolation.proofs.Reckoning.Dates.{next-cycles, cycles-kept, 
 use Rattle.isolation.proofs.Reckoning.Landed.{landing-kept}
 use Rattle.isolation.proofs.Reckoning.SenderFollowed.{Sends, Follows, sends-cycle, sends-start, sends-same, sends-store, itemOf, leaving-is, leaving-before}
 use Rattle.isolation.proofs.Reckoning.Regions.{in-high, in-region, itemIn, stored-inside, sentBefore, lands-inside, read-kept}
-use Rattle.isolation.proofs.Reckoning.Stream.{isCycle, seen, Fine, fine-parts, fine-bounds, after-done, after-refused, is-cycle, cycle-seen, fine-cycle}
+use Rattle.session.proofs.WritingLaws.{after-done, after-refused}
+use Rattle.isolation.proofs.Reckoning.Stream.{isCycle, seen, Fine, fine-parts, fine-bounds, is-cycle, cycle-seen, fine-cycle}
 
 -- the memory word at a node's address
 abbrev pub wordAt : List ℕ → List ℕ → ℕ → ℕ → ℕ
@@ -432,15 +433,15 @@ module _ (z : List ℕ) (passes : verdict z ≡ 0) (circuit : ℕ) (inside : cir
 
   -- every point of the calls
   pub points : (n : ℕ) (calls : List Call) (w : Lent) (k : Calendar) (r : Reckoned) → At z circuit S calls w k r
-      → At z circuit S (drop n calls) (run (take n calls) w) (calendarAll z (events (take n calls) w) k)
+      → At z circuit S (drop n calls) (afterAll (take n calls) w) (calendarAll z (events (take n calls) w) k)
       (reckonAll z circuit (events (take n calls) w) k r)
   points zero calls w k r a = a
   points (suc n) [] w k r a = a
   points (suc n) (x ∷ calls) w k r a =
       let own : List Event = pick (number x w =? 0) (eventOf x) [] in
       let later : List Event = events (take n calls) (after x w) in
-      subst (λ (d : Calendar). At z circuit S (drop n calls) (run (take n calls) (after x w)) d (reckonAll z circuit (own ++ later) k r))
+      subst (λ (d : Calendar). At z circuit S (drop n calls) (afterAll (take n calls) (after x w)) d (reckonAll z circuit (own ++ later) k r))
       (sym (calendar-append z own later k))
-      (subst (At z circuit S (drop n calls) (run (take n calls) (after x w)) (calendarAll z later (calendarAll z own k)))
+      (subst (At z circuit S (drop n calls) (afterAll (take n calls) (after x w)) (calendarAll z later (calendarAll z own k)))
       (sym (reckon-append z circuit own later k r))
       (points n calls (after x w) _ _ (step-at x calls w k r a)))

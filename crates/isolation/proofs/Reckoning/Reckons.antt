@@ -27,17 +27,16 @@ use Rattle.session.specs.Answers.{foundOf, landedOf, leftAnswer, fetchAnswer, p
 use Rattle.session.specs.Calls.{Lent, Call, cycle, isLoad, number, after, stateNumber, memoryNumber, placeNumber, leftNumber, landedNumber, fetched, wordsLeft, periodNumberIn, lastLanding}
 use Rattle.words.proofs.NumberLaws.{zero-then, zero-unless}
 use Rattle.soundness.proofs.SheetLaws.{SheetBounds, sheet-bounds, circuit-bounds}
-use Rattle.session.proofs.RegisterLaws.{loaded-register}
-use Rattle.isolation.specs.Sessions.{LoadsRefused, run, Session, afterLoad, standing, cycleDone, eventsBefore}
+use Rattle.isolation.specs.Sessions.{LoadsRefused, afterAll, Session, afterLoad, standing, cycleDone, eventsBefore}
 use Rattle.isolation.specs.Calendar.{Calendar, calendarAtLoad, nextCalendar, calendarAfter, calendarAt, cyclesDone}
 use Rattle.isolation.specs.Reckoning.{Item, none, item, Reckoned, hopsOf, flightCycles, reckonedLanding, lastReckoned, leavesIn, cycleOn, atLoad, reckon}
 use Rattle.isolation.specs.Demand.{inRegion, itemWithin, reckonedAt, CycleAt, answerAtDestination, circuitLanding, AsReckoned}
 use Rattle.isolation.proofs.Routes.Apart.{entry-way, entryHops}
-use Rattle.isolation.proofs.Reckoning.Dates.{Dated, next-cycles, calendar-append, run-at, point-opened, point-at, never-refused}
+use Rattle.isolation.proofs.Reckoning.Dates.{Dated, next-cycles, calendar-append, after-all-at, point-opened, point-at, never-refused}
 use Rattle.isolation.proofs.Reckoning.Landed.{landing-kept, landing-opened}
 use Rattle.isolation.proofs.Reckoning.SenderFollowed.{sends-load, leaves-no, leaving-before}
 use Rattle.isolation.proofs.Reckoning.Regions.{in-high, in-region, itemIn}
-use Rattle.isolation.proofs.Reckoning.Stream.{isCycle, is-cycle, seen, Fine, fine-parts, fine-opened, machineAt, session-passes, session-trajectory}
+use Rattle.isolation.proofs.Reckoning.Stream.{isCycle, is-cycle, seen, Fine, fine-parts, fine-opened, machineAt, session-passes, zero-at, session-trajectory}
 use Rattle.isolation.proofs.Reckoning.Points.{events-cycle, reckon-last}
 use Rattle.isolation.proofs.Reckoning.ReckonedWords.{wordAt, seen-memory, At, points}
 
@@ -111,7 +110,7 @@ landed-back r (LandedWord kind′ address′ w′) kind address w e = go (inRegi
 
 -- every load of a session's calls is refused where it stands
 pub refused-at : (calls : List Call) (w : Lent) → LoadsRefused calls w → (k : ℕ) → k < length calls
-    → isLoad (getD calls k cycle) ≡ true → number (getD calls k cycle) (run (take k calls) w) ≡ 0 → ⊥
+    → isLoad (getD calls k cycle) ≡ true → number (getD calls k cycle) (afterAll (take k calls) w) ≡ 0 → ⊥
 refused-at [] w h k l = absurd (not-suc-le-zero l)
 refused-at (x ∷ calls) w h zero l = h .0
 refused-at (x ∷ calls) w h (suc k) l = refused-at calls (after x w) (h .1) k (omega arith)
@@ -144,7 +143,7 @@ module _ (l : Session) where
       go false e =
           landed-is (l .sheet) (standing l (suc k)) (point-at l (suc k) .fine) node inside
           ∙ ap answered
-          (ap (λ (w : Lent). seen w .landing node) (run-at (l .calls) k (afterLoad l) p)
+          (ap (λ (w : Lent). seen w .landing node) (after-all-at (l .calls) k (afterLoad l) p)
           ∙ landing-kept (l .sheet) (standing l k) f node inside (getD (l .calls) k cycle)
           (refused-at (l .calls) (afterLoad l) (l .loads-refused) k p) e)
           ∙ sym (landed-is (l .sheet) (standing l k) f node inside)
@@ -166,8 +165,8 @@ module _ (l : Session) (circuit : ℕ) (inside : circuit < circuits (l .sheet)) 
   small : CircuitSmall (nodes z) (memoryWords z) (circuitAt z circuit)
   small = circuit-bounds z bounds circuit inside
 
-  zero-at : (row : ℕ) → row < rowCount → reg (afterLoad l .state) row circuit ≡ 0
-  zero-at row r = loaded-register z (l .lent .state) row circuit r (omega (arith, bounds .few-circuits))
+  clear : (row : ℕ) → row < rowCount → reg (afterLoad l .state) row circuit ≡ 0
+  clear row r = zero-at l row circuit r (omega (arith, bounds .few-circuits))
 
   opened-at : At z circuit S (l .calls) (afterLoad l) calendarAtLoad (atLoad z circuit (l .lent .memory))
   unfolding _≤?_
@@ -176,7 +175,7 @@ module _ (l : Session) (circuit : ℕ) (inside : circuit < circuits (l .sheet)) 
     left-then = λ t p. absurd (not-suc-le-zero p);
     now = record {
       sending =
-          sends-load z circuit (l .lent .memory) (seen (afterLoad l) .sender circuit) (zero-at leftRow (omega arith)) (zero-at toGoRow (omega arith));
+          sends-load z circuit (l .lent .memory) (seen (afterLoad l) .sender circuit) (clear leftRow (omega arith)) (clear toGoRow (omega arith));
       reads = λ address i. refl;
       receives = λ address i. refl;
     };

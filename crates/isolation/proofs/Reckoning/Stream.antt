@@ -9,7 +9,7 @@ use native.Mathlib.Decide.{ℕ-discrete}
 use lib.ListN.{length}
 use Rattle.words.specs.Tests.{_=?_}
 use Rattle.words.specs.Words.{pick}
-use Rattle.words.proofs.TestLaws.{is=, yes=, no=}
+use Rattle.words.proofs.TestLaws.{is=}
 use Rattle.sheet.specs.Sheet.{memoryWords, circuits, schedules, nodes, circuitAt}
 use Rattle.sheet.specs.Rules.{verdict}
 use Rattle.network.specs.View.{View, empty, Order, noOrder, pending}
@@ -27,6 +27,7 @@ use Rattle.session.specs.Calls.{Lent, Call, load, start, store, order, cycle, i
 use Rattle.session.proofs.NumberLaws.{start-passed, order-passed, load-passed, cycle-zero}
 use Rattle.soundness.proofs.SheetLaws.{SheetBounds, sheet-bounds}
 use Rattle.soundness.proofs.SoundLaws.{TransferParts, SoundParts, sound-parts}
+use Rattle.session.proofs.WritingLaws.{after-done, after-refused}
 use Rattle.session.proofs.RegisterLaws.{loaded-sheet, loaded-register, started-other, ordered-other, ordered-mark, ordered-schedule, ordered-period}
 use Rattle.session.proofs.KeptLaws.{sound-next, sound-kept, state-length-kept, memory-length-kept, sheet-same}
 use Rattle.isolation.proofs.Flights.Flight.{ports}
@@ -67,15 +68,6 @@ fine-cycle z w f = record {
   sheet-is = sheet-kept (w .state) (w .memory) ∙ f .sheet-is;
   whole = memory-length (w .state) (w .memory) ∙ f .whole;
 }
-
--- what a call leaves, by whether it is carried out
-pub after-done : (x : Call) (w : Lent) → number x w ≡ 0 → after x w ≡ does x w
-unfolding after
-after-done x w e = rw (yes= e) refl
-
-pub after-refused : (x : Call) (w : Lent) → (number x w ≡ 0 → ⊥) → after x w ≡ w
-unfolding after
-after-refused x w ne = rw (no= ne) refl
 
 -- a session's words after its load
 pub fine-opened : (l : Session) → Fine (l .sheet) (afterLoad l)
@@ -350,7 +342,8 @@ module _ (l : Session) where
   streaming : Streaming sheet (afterLoad l) (stream (l .calls) (afterLoad l))
   streaming = streams sheet (l .calls) (afterLoad l) (fine-opened l) (l .loads-refused)
 
-  zero-at : (row k : ℕ) → row < rowCount → k < rowWords → reg (afterLoad l .state) row k ≡ 0
+  -- every register is 0 directly after the load
+  pub zero-at : (row k : ℕ) → row < rowCount → k < rowWords → reg (afterLoad l .state) row k ≡ 0
   zero-at = loaded-register sheet (l .lent .state)
 
   pub session-passes : verdict sheet ≡ 0

@@ -1,17 +1,15 @@
 -- The second half of demand 3 from the first: two sessions alike for a circuit of each answer alike for it.
 -- Assumes nothing.
-use Prim.Native.Nat.{ℕ, zero, suc, _+_, _-_, _*_, _≤_, _<_}
+use Prim.Native.Nat.{ℕ, zero, suc, _+_, _-_, _≤_, _<_}
 use mathlib.Core.Bool.{true}
 use mathlib.Core.List.{[], _∷_}
 use mathlib.Core.Path.{_≡_, refl, sym, _∙_, ap, ap₂, subst}
 use native.Mathlib.Omega.{arith}
 use lib.ListN.{length}
-use lib.Seq.{take-length}
 use Rattle.sheet.specs.declared.circuits.Circuit.{Circuit}
 use Rattle.sheet.specs.Sheet.{period}
 use Rattle.sheet.specs.Slots.{slotLength}
-use Rattle.torus.specs.Torus.{distanceOf}
-use Rattle.torus.specs.Route.{routerCycles}
+use Rattle.sheet.proofs.TimeLaws.{flight-same}
 use Rattle.session.specs.declared.Found.{Found}
 use Rattle.session.specs.declared.Found.the-variants.{Word as FoundWord, Refused as FoundRefused}
 use Rattle.isolation.specs.Sessions.{Session, Transfer, cycleDone}
@@ -128,15 +126,8 @@ module _ (a b : Session) (c d n : ℕ) (ha : AsReckoned a c) (hb : AsReckoned b 
         same-cycle = ka .cycle-kept ∙ h .same-cycle ∙ sym (kb .cycle-kept);
       }
 
-  hops-equal : (m m′ : Circuit) (k l k′ l′ : ℕ) → k ≡ k′ → l ≡ l′ → m ≡ m′
-      → routerCycles * (distanceOf k l (m .read .node) (m .receive .node) + 1)
-      ≡ routerCycles * (distanceOf k′ l′ (m′ .read .node) (m′ .receive .node) + 1)
-  hops-equal m m′ k l k′ l′ e f g =
-      ap (λ (m : Circuit). routerCycles * (distanceOf k l (m .read .node) (m .receive .node) + 1)) g
-      ∙ ap₂ (λ (k l : ℕ). routerCycles * (distanceOf k l (m′ .read .node) (m′ .receive .node) + 1)) e f
-
   flight-equal : flightCycles (a .sheet) c ≡ flightCycles (b .sheet) d
-  flight-equal = hops-equal _ _ _ _ _ _ (x .same-columns) (x .same-rows) (x .same-record)
+  flight-equal = flight-same (a .sheet) (b .sheet) c d (x .same-columns) (x .same-rows) (x .same-record)
 
   -- the sheets in cycle t
   sheets-at : (t : ℕ) → t < n → Sheets (a .sheet) (b .sheet) c d (calendarBefore a t) (calendarBefore b t)

@@ -1,7 +1,6 @@
 -- The place behind a schedule, as an answer.
 use Prim.Native.Nat.{ℕ, _+_}
 use mathlib.Core.List.{List}
-use mathlib.Core.Bool.{Bool, true, false}
 use lib.ListN.{length}
 use Rattle.words.specs.Tests.{_and_, _≤?_}
 use Rattle.words.specs.Words.{pick}

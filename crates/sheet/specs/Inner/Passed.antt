@@ -1,7 +1,7 @@
 -- What the rules that a sheet has passed settle, in numbers: the inner functions require these records.
 use Prim.Native.Nat.{ℕ, _+_, _*_, _<_, _≤_}
 use mathlib.Core.List.{List}
-use mathlib.Core.Bool.{Bool, true}
+use mathlib.Core.Bool.{true}
 use mathlib.Core.Path.{_≡_}
 use lib.ListN.{length}
 use Rattle.torus.specs.Inner.Grid.{InGrid}

@@ -10,7 +10,6 @@ use Rattle.sheet.specs.Sheet.{nodes}
 use Rattle.network.specs.Registers.{sheetIn}
 use Rattle.soundness.specs.Sound.{nodeSound}
 use Rattle.soundness.proofs.SoundnessLaws.{count-nodes, tested-more, tested-fails, tested-all}
-use Rattle.sheet.proofs.PassedLaws.{nodes-few}
 use Rattle.soundness.proofs.nodes_sound.Statement.{statement}
 use Rattle.soundness.proofs.nodes_sound.Tie as tie
 

@@ -10,7 +10,6 @@ use Rattle.sheet.specs.Sheet.{nodes}
 use Rattle.network.specs.Registers.{sheetIn, rowWords}
 use Rattle.soundness.specs.Sound.{routerSound}
 use Rattle.soundness.proofs.SoundnessLaws.{count-inputs, tested-more, tested-fails, tested-all}
-use Rattle.sheet.proofs.PassedLaws.{nodes-few}
 use Rattle.soundness.proofs.routers_sound.Statement.{statement}
 use Rattle.soundness.proofs.routers_sound.Tie as tie
 

@@ -5,8 +5,7 @@ use mathlib.Core.Path.{sym, _∙_}
 use Rattle.words.proofs.TestLaws.{yes=, no=, yes≤, no≤}
 use Rattle.sheet.proofs.VerdictLaws.{passed-framed}
 use Rattle.session.specs.Calls.{loadNumber}
-use Rattle.session.proofs.ReadingLaws.{then-first, then-next, unless-no, unless-yes}
-use Rattle.session.proofs.WritingLaws.{then-stop, then-on}
+use Rattle.words.proofs.NumberLaws.{then-first, then-next, unless-no, unless-yes, then-stop, then-on}
 use borrow.Author.Needs.{needs}
 use Rattle.session.proofs.loading.load_number.Statement.{statement}
 use Rattle.session.proofs.loading.load_number.Tie as tie

@@ -5,7 +5,7 @@ use mathlib.Core.Path.{sym, _∙_, ap}
 use Rattle.words.proofs.TestLaws.{yes<, no<}
 use Rattle.sheet.specs.Sheet.{circuits}
 use Rattle.session.specs.Calls.{leftNumber}
-use Rattle.session.proofs.ReadingLaws.{then-first, then-next, unless-no, unless-yes}
+use Rattle.words.proofs.NumberLaws.{then-first, then-next, unless-no, unless-yes}
 use borrow.Author.Needs.{needs}
 use Rattle.session.proofs.reading.left_number.Statement.{statement}
 use Rattle.session.proofs.reading.left_number.Tie as tie

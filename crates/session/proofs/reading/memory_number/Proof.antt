@@ -4,7 +4,7 @@ use native.Mathlib.Omega.{arith}
 use mathlib.Core.Path.{sym, _∙_}
 use Rattle.words.proofs.TestLaws.{yes=, no=}
 use Rattle.session.specs.Calls.{memoryNumber}
-use Rattle.session.proofs.ReadingLaws.{then-first, then-next, unless-no, unless-yes}
+use Rattle.words.proofs.NumberLaws.{then-first, then-next, unless-no, unless-yes}
 use borrow.Author.Needs.{needs}
 use Rattle.session.proofs.reading.memory_number.Statement.{statement}
 use Rattle.session.proofs.reading.memory_number.Tie as tie

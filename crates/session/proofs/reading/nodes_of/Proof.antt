@@ -4,7 +4,6 @@ use mathlib.Core.Path.{sym, _∙_, ap, subst}
 use Rattle.sheet.specs.Sheet.{nodes}
 use Rattle.sheet.specs.Inner.Passed.{Headed}
 use Rattle.session.proofs.ReadingLaws.{state-headed}
-use Rattle.sheet.proofs.PassedLaws.{nodes-are}
 use Rattle.session.proofs.reading.nodes_of.Statement.{statement}
 use Rattle.session.proofs.reading.nodes_of.Tie as tie
 

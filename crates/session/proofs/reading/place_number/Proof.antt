@@ -4,7 +4,8 @@ use native.Mathlib.Omega.{arith}
 use mathlib.Core.Path.{sym, _∙_}
 use Rattle.words.proofs.TestLaws.{and-no, and-no-right, and-both, yes<, no<}
 use Rattle.session.specs.Calls.{placeNumber}
-use Rattle.session.proofs.ReadingLaws.{then-first, then-next, unless-no, unless-yes, memory-state}
+use Rattle.words.proofs.NumberLaws.{then-first, then-next, unless-no, unless-yes}
+use Rattle.session.proofs.ReadingLaws.{memory-state}
 use borrow.Author.Needs.{needs}
 use Rattle.session.proofs.reading.place_number.Statement.{statement}
 use Rattle.session.proofs.reading.place_number.Tie as tie

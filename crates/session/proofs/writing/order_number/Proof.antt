@@ -5,8 +5,8 @@ use mathlib.Core.Path.{sym, _∙_, ap}
 use Rattle.words.proofs.TestLaws.{yes<, no<}
 use Rattle.sheet.specs.Sheet.{schedules}
 use Rattle.session.specs.Calls.{orderNumber, isPending}
-use Rattle.session.proofs.ReadingLaws.{then-first, then-next, unless-no, unless-yes}
-use Rattle.session.proofs.WritingLaws.{then-stop, then-on, none-there, some-there, ahead-is, too-near, in-reach, is-behind}
+use Rattle.words.proofs.NumberLaws.{then-first, then-next, unless-no, unless-yes, then-stop, then-on}
+use Rattle.session.proofs.WritingLaws.{none-there, some-there, ahead-is, too-near, in-reach, is-behind}
 use borrow.Author.Needs.{needs}
 use Rattle.session.proofs.writing.order_number.Statement.{statement}
 use Rattle.session.proofs.writing.order_number.Tie as tie

@@ -3,8 +3,8 @@
 use native.Mathlib.Omega.{arith}
 use mathlib.Core.Path.{sym, _∙_}
 use Rattle.session.specs.Calls.{startNumber, isBusy}
-use Rattle.session.proofs.ReadingLaws.{then-next, unless-no, unless-yes}
-use Rattle.session.proofs.WritingLaws.{then-stop, then-on, none-there, some-there}
+use Rattle.words.proofs.NumberLaws.{then-next, unless-no, unless-yes, then-stop, then-on}
+use Rattle.session.proofs.WritingLaws.{none-there, some-there}
 use borrow.Author.Needs.{needs}
 use Rattle.session.proofs.writing.start_number.Statement.{statement}
 use Rattle.session.proofs.writing.start_number.Tie as tie

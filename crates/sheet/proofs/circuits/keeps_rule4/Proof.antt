@@ -9,7 +9,6 @@ use Rattle.words.proofs.AllLaws.{all-none, all-more, all-done, all-fails}
 use Rattle.sheet.specs.Sheet.{circuits, nodes as nodesOf, memoryWords, circuitAt}
 use Rattle.sheet.specs.Rules.{circuitFits, rule4}
 use Rattle.sheet.proofs.CircuitLaws.{fits-read}
-use Rattle.sheet.proofs.PassedLaws.{nodes-few}
 use Rattle.sheet.proofs.circuits.keeps_rule4.Statement.{statement}
 use Rattle.sheet.proofs.circuits.keeps_rule4.Tie as tie
 
