@@ -8,10 +8,7 @@ use std::path::{Path, PathBuf};
 use std::process::ExitCode;
 
 /// Statements that stand for themselves: proofs fill them.
-const STATEMENTS: [&str; 3] = ["Demand3", "OneMachine", "TableHolds"];
-
-/// Document 01's values that no rule reads: the two kinds that never travel (the law four-kinds has them).
-const VALUES: [&str; 2] = ["configurationKind", "unusedKind"];
+const STATEMENTS: [&str; 4] = ["Demand3", "OneMachine", "TableHolds", "FourKinds"];
 
 /// What the book may name of the inner definitions: the cycle in words, of which OneMachine says that it is the article's.
 const INNER_NAMES: [&str; 4] = ["faultyIn", "nextState", "nextMemory", "cycleFault"];
@@ -111,7 +108,7 @@ fn main() -> ExitCode {
                 .filter(|line| !is_comment(line) && !is_use(line))
                 .filter(|line| declared(line) == Some(name) || names(line).next() == Some(name) && !line.starts_with(' '))
                 .count();
-            let stands = STATEMENTS.contains(&name) || VALUES.contains(&name);
+            let stands = STATEMENTS.contains(&name);
             judge(stands || found > own, format!("{}: {name} is used by no definition and no contract", file.path));
         }
         for line in file.text.lines().filter(|line| is_use(line) && line.contains(".Inner.")) {

@@ -62,19 +62,15 @@ stepRouters z wire r = record {
   out = λ node output. gather 5 (asks r node output);
 }
 
--- the senders. In a cycle a circuit's sender rests, opens a packet (a slot begins and words are left), or sends its packet's next word
+-- the senders. In a cycle a circuit's sender opens a packet where a slot begins and words are left; else it sends its packet's next word, or
+-- rests
 pub data Move : Type 0 where
   rests : Move
   opens : Move
   sends : Move
 
-abbrev pub moveOf : Bool → Bool → Bool → Move
-moveOf true true going = opens
-moveOf true false going = pick going sends rests
-moveOf false left going = pick going sends rests
-
 abbrev pub move : ℕ → Sender → Move
-move slot s = moveOf (1 ≤? slot) (1 ≤? s .left) (1 ≤? s .toGo)
+move slot s = pick (1 ≤? slot and 1 ≤? s .left) opens (pick (1 ≤? s .toGo) sends rests)
 
 -- a packet has min (length − 1) (words left) payload words, fixed in its header's cycle
 abbrev pub stepSender : Move → ℕ → Sender → Sender

@@ -2,20 +2,19 @@
 -- Assumes nothing.
 use Prim.Native.Nat.{ℕ, _+_, _*_, _/_, _%_, _<_, _≤_}
 use mathlib.Core.Bool.{Bool, true, false}
-use mathlib.Core.List.{[], _∷_}
 use mathlib.Core.Path.{_≡_, refl, sym, _∙_, ap}
 use native.Mathlib.Omega.{arith}
 use Rattle.words.specs.Words.{pick, tab}
 use Rattle.words.proofs.TestLaws.{and-no, and-skip, and-both, and-left, and-right, yes<, no<, is<}
 use Rattle.words.specs.Numbers.{unless}
 use Rattle.words.proofs.NumberLaws.{unless-zero}
-use Rattle.packet.specs.Header.{dataKind, configurationKind, interruptKind, unusedKind, kindBits, addressBits, routeBits, headerWord, kindOf}
+use Rattle.packet.specs.Header.{FourKinds, kindBits, addressBits, routeBits, headerWord, kindOf}
 use Rattle.packet.specs.Header.{addressOf, routeOf, kinds, addresses, routes, partsFit, headerNumber, builtOf, shiftedWord}
 use Rattle.packet.specs.declared.Built.{Built}
 use Rattle.packet.specs.declared.Built.the-variants.{Made, Refused}
 
 -- the four kinds are what the kind field can hold, in order
-pub four-kinds : tab kinds (λ k. k) ≡ dataKind ∷ configurationKind ∷ interruptKind ∷ unusedKind ∷ []
+pub four-kinds : FourKinds
 unfolding tab
 four-kinds = refl
 

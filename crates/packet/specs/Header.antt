@@ -1,7 +1,10 @@
 -- The header word (document 01, "The packet"): kind (2 bits), write address (14 bits), route (16 bits), top bit first.
 use Prim.Native.Nat.{ℕ, zero, suc, _+_, _*_, _/_, _%_, _^_}
 use mathlib.Core.Bool.{Bool}
+use mathlib.Core.List.{[], _∷_}
+use mathlib.Core.Path.{_≡_}
 use Rattle.words.specs.Tests.{_and_, _<?_}
+use Rattle.words.specs.Words.{tab}
 use Rattle.words.specs.Numbers.{unless}
 use Rattle.packet.specs.declared.Built.{Built}
 use Rattle.packet.specs.declared.Built.the-variants.{Made, Refused}
@@ -38,6 +41,10 @@ addresses = 2 ^ addressBits
 
 abbrev pub routes : ℕ
 routes = 2 ^ routeBits
+
+-- the claim that the four kinds are just what the kind field can hold, in order (proofs/HeaderLaws, `four-kinds`)
+abbrev pub FourKinds : Type 0
+FourKinds = tab kinds (λ k. k) ≡ dataKind ∷ configurationKind ∷ interruptKind ∷ unusedKind ∷ []
 
 -- the word that holds a kind, an address and a route
 abbrev pub headerWord : ℕ → ℕ → ℕ → ℕ

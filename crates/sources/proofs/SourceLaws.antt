@@ -12,7 +12,7 @@ use Rattle.words.proofs.TestLaws.{and-no, and-on, yes=, no=, yes≤, no≤}
 use Rattle.sheet.specs.declared.circuits.Circuit.{Circuit}
 use Rattle.sheet.specs.Sheet.{circuitAt}
 use Rattle.sheet.specs.Slots.{sourceOf}
-use Rattle.network.specs.Cycle.{Move, rests, opens, sends, moveOf}
+use Rattle.network.specs.Cycle.{Move, rests, opens, sends}
 use Rattle.network.specs.Registers.{reg, sheetIn, leftRow, toGoRow}
 use Rattle.network.specs.Inner.Machine.{slotIn, moveIn, markOf, sentMark}
 use Rattle.network.specs.Inner.Paired.{Paired}
@@ -41,14 +41,14 @@ none-to-go s c left a g h = go (ℕ-discrete (reg s toGoRow c) 0)
         absurd (omega arith)
 
 -- a circuit that opens no packet sends its present packet's next word, or rests
-closed : (left slot going : Bool) → left and slot ≡ false → moveOf slot left going ≡ pick going sends rests
+closed : (left slot going : Bool) → left and slot ≡ false → pick (slot and left) opens (pick going sends rests) ≡ pick going sends rests
 unfolding _and_
 closed true true going h = absurd (false≢true (sym h))
 closed true false going h = refl
 closed false true going h = refl
 closed false false going h = refl
 
-open-moves : (left slot going : Bool) → left and slot ≡ true → moveOf slot left going ≡ opens
+open-moves : (left slot going : Bool) → left and slot ≡ true → pick (slot and left) opens (pick going sends rests) ≡ opens
 unfolding _and_
 open-moves true true going h = refl
 open-moves true false going h = absurd (false≢true h)

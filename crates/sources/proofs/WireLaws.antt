@@ -17,7 +17,7 @@ use Rattle.sheet.specs.declared.circuits.Circuit.{Circuit}
 use Rattle.sheet.specs.Sheet.{circuits, nodes, circuitAt}
 use Rattle.sheet.specs.Slots.{sourceOf}
 use Rattle.sheet.proofs.PassedLaws.{nodes-few, circuit-small}
-use Rattle.network.specs.Cycle.{moveOf}
+use Rattle.network.specs.Cycle.{rests, opens, sends}
 use Rattle.network.specs.Registers.{reg, sheetIn, leftRow, toGoRow}
 use Rattle.network.specs.Inner.Machine.{slotIn, markOf, sentMark, sentWord, ownMark, firstMark, firstWord, sourceMark, sourceWord, crowdsIn, reopensIn}
 use Rattle.network.specs.Inner.Paired.{Sendable}
@@ -45,7 +45,8 @@ module _ (marks : List ℕ) (node v : ℕ) (e : v ≡ word marks node) where
     free-set w list t = t ∙ ap (λ (b : Bool). pick b (set list node w) list) (sym (yes= (sym e ∙ h)))
 
 -- a circuit reopens where its mark is a header's and words are to go
-reopens-by : (slot left going : Bool) (toGo : ℕ) → (markOf (moveOf slot left going) toGo =? 1 and going) ≡ (slot and left and going)
+reopens-by : (slot left going : Bool) (toGo : ℕ)
+    → (markOf (pick (slot and left) opens (pick going sends rests)) toGo =? 1 and going) ≡ (slot and left and going)
 unfolding _and_ _=?_
 reopens-by true true going toGo = refl
 reopens-by true false true toGo = sends-not (toGo =? 1)

@@ -14,12 +14,12 @@ use Rattle.words.proofs.AllLaws.{any-at, any-none}
 use Rattle.sheet.specs.Sheet.{circuitAt}
 use Rattle.sheet.specs.Slots.{slotLength}
 use Rattle.network.specs.View.{Sender, Landing, nothing, landed, View}
-use Rattle.network.specs.Cycle.{Move, rests, opens, sends, moveOf, move, stepSender, slotNow, moveNow, readNow, tick, reopens}
+use Rattle.network.specs.Cycle.{Move, rests, opens, sends, move, stepSender, slotNow, moveNow, readNow, tick, reopens}
 use Rattle.soundness.proofs.SoundLaws.{TransferParts}
 use Rattle.isolation.specs.Sessions.{Transfer}
 use Rattle.isolation.specs.Calendar.{Calendar, nextCalendar}
 use Rattle.isolation.specs.Reckoning.{Item, none, item, Reckoned, owed, leavesIn, nextItem, cycleOn, startOn, storeOn, atLoad}
-use Rattle.isolation.proofs.Flights.Trajectory.{move-opens, move-sends, move-rests}
+use Rattle.isolation.proofs.Flights.Trajectory.{opens-both, move-opens, move-sends, move-rests}
 use Rattle.isolation.proofs.Flights.Deliver.{leavingOf, leavingNow}
 use Rattle.isolation.proofs.Reckoning.Dates.{Dated, next-cycles}
 
@@ -51,10 +51,6 @@ leaves-yes n r x h going =
 pub leaves-no : (n : ℕ) (r : Reckoned) (x : Sender) → Sends n r x → x .toGo ≡ 0 → leavesIn r n ≡ false
 unfolding leavesIn
 leaves-no n r x h over = any-none n (λ s. n ≤? s + r .sent .packetWords s) (λ s l. no≤ (omega (arith, h .opened-before s l)))
-
--- a slot that begins with words left opens a packet
-opens-both : (slot : ℕ) (x : Sender) → 0 < slot → 0 < x .left → move slot x ≡ opens
-opens-both slot x p q = ap₂ (λ a b. moveOf a b (1 ≤? x .toGo)) (yes≤ p) (yes≤ q)
 
 -- in a cycle in which none is opened, the reckoning opens none: no slot begins, or no words are left
 opens-none : (slot : ℕ) (x : Sender) → (move slot x ≡ opens → ⊥) → min (slot - 1) (x .left) ≡ 0
