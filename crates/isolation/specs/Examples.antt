@@ -29,35 +29,35 @@ abbrev pub lastPeriod : List ℕ
 lastPeriod = set (loaded (sheetA 0 13 []) (replicate stateWords 0)) numberPlace 4294967295
 
 -- a number that the definitions give, and the number of document 01
-pub record Row : Type 0 where
+pub record Example : Type 0 where
   pub given : ℕ
   pub wanted : ℕ
 
-abbrev pub row : ℕ → ℕ → Row
-row number document = record { given = number; wanted = document }
+abbrev pub example : ℕ → ℕ → Example
+example number document = record { given = number; wanted = document }
 
 -- the table, with a state for the order calls of (m)
-abbrev pub tableOn : List ℕ → List Row
+abbrev pub tableOn : List ℕ → List Example
 tableOn state =
     -- (a) sheet A; (b) no words; (c) offset 6; (d) offset 7; (e) route 7, west; (f) route 0; (g) one word more
-    row (verdict (sheetA 0 13 [])) 0
-    ∷ row (verdict []) 1
-    ∷ row (verdict (sheetA 6 13 [])) 0
-    ∷ row (verdict (sheetA 7 13 [])) 10
-    ∷ row (verdict (sheetA 0 7 [])) 0
-    ∷ row (verdict (sheetA 0 0 [])) 9
-    ∷ row (verdict (sheetA 0 13 (0 ∷ []))) 3
+    example (verdict (sheetA 0 13 [])) 0
+    ∷ example (verdict []) 1
+    ∷ example (verdict (sheetA 6 13 [])) 0
+    ∷ example (verdict (sheetA 7 13 [])) 10
+    ∷ example (verdict (sheetA 0 7 [])) 0
+    ∷ example (verdict (sheetA 0 0 [])) 9
+    ∷ example (verdict (sheetA 0 13 (0 ∷ []))) 3
     -- (h), (i), (j) both circuits, the second at 0, 2 and 5; (k), (l) the first alone at 4 and 5
-    ∷ row (verdict (both 0)) 0
-    ∷ row (verdict (both 2)) 11
-    ∷ row (verdict (both 5)) 0
-    ∷ row (verdict (alone 4)) 0
-    ∷ row (verdict (alone 5)) 10
+    ∷ example (verdict (both 0)) 0
+    ∷ example (verdict (both 2)) 11
+    ∷ example (verdict (both 5)) 0
+    ∷ example (verdict (alone 4)) 0
+    ∷ example (verdict (alone 5)) 10
     -- (m) orders for period 2 and for period 1
-    ∷ row (orderNumber state 0 2) 0
-    ∷ row (orderNumber state 0 1) 19
+    ∷ example (orderNumber state 0 2) 0
+    ∷ example (orderNumber state 0 1) 19
     ∷ []
 
 -- each number given is the one wanted
 abbrev pub TableHolds : Type 0
-TableHolds = map (λ (r : Row). r .given) (tableOn lastPeriod) ≡ map (λ (r : Row). r .wanted) (tableOn lastPeriod)
+TableHolds = map (λ (r : Example). r .given) (tableOn lastPeriod) ≡ map (λ (r : Example). r .wanted) (tableOn lastPeriod)

@@ -20,7 +20,7 @@ use Rattle.landings.specs.declared.input.Message.{Message}
 use Rattle.landings.specs.declared.input.Message.the-variants.{TooLarge, InputEnds, Refused, Runs}
 use Rattle.landings.specs.Input.{sheetOf, memoryOf, cyclesAsked}
 use Rattle.landings.specs.Messages.{inputMessage, calls, refusalOf, message, behind}
-use Rattle.landings.specs.Inner.Ended.{callsMessage, cyclesDone, cyclesRun, atEnd}
+use Rattle.landings.specs.Inner.Ended.{callsMessage, cyclesListed, cyclesRun, atEnd}
 use Rattle.landings.specs.Lines.{cycleLines, cyclesLines, cyclesOn, carriedOut, refusedLine, lastLine}
 use Rattle.listing.specs.Text.{tooLarge, inputEnds, refused}
 use Rattle.landings.specs.Output.{heading, beforeCycles, allLines, printed, printout, HasAt}
@@ -156,14 +156,14 @@ output-short bytes = go (message bytes) refl
     go Runs e =
         let w = whole bytes (runs-whole bytes e) in
         let few : nodes (sheetOf bytes) ≤ 16 = sheet-bounds (sheetOf bytes) (w .passes) .few-nodes in
-        let lines = cyclesLines (nodes (sheetOf bytes)) 0 (cyclesDone bytes) (beforeCycles bytes) in
+        let lines = cyclesLines (nodes (sheetOf bytes)) 0 (cyclesListed bytes) (beforeCycles bytes) in
         omega (
           arith,
           w .few-cycles,
           carried-most (cyclesAsked bytes) (beforeCycles bytes),
           length-append heading (allLines bytes),
           length-append lines (lastLine (cyclesAsked bytes) (beforeCycles bytes)),
-          all-short (nodes (sheetOf bytes)) 0 (cyclesDone bytes) (beforeCycles bytes) few,
+          all-short (nodes (sheetOf bytes)) 0 (cyclesListed bytes) (beforeCycles bytes) few,
           last-short (cyclesAsked bytes) (beforeCycles bytes),
         )
 
@@ -204,11 +204,11 @@ before-is bytes {s} {m} e f = ap (λ (x : List ℕ). lend x m) e ∙ ap (λ (x :
 
 pub end-refused : (bytes : List ℕ) (n : ℕ) {w : Lent} → message bytes ≡ Refused n → w ≡ beforeCycles bytes → w ≡ atEnd bytes
 unfolding atEnd cyclesOn
-end-refused bytes n e f = f ∙ sym (ap (λ (x : Message). cyclesOn (cyclesRun x (cyclesDone bytes)) (beforeCycles bytes)) e)
+end-refused bytes n e f = f ∙ sym (ap (λ (x : Message). cyclesOn (cyclesRun x (cyclesListed bytes)) (beforeCycles bytes)) e)
 
-pub end-runs : (bytes : List ℕ) {w : Lent} → message bytes ≡ Runs → w ≡ cyclesOn (cyclesDone bytes) (beforeCycles bytes) → w ≡ atEnd bytes
+pub end-runs : (bytes : List ℕ) {w : Lent} → message bytes ≡ Runs → w ≡ cyclesOn (cyclesListed bytes) (beforeCycles bytes) → w ≡ atEnd bytes
 unfolding atEnd
-end-runs bytes e f = f ∙ sym (ap (λ (x : Message). cyclesOn (cyclesRun x (cyclesDone bytes)) (beforeCycles bytes)) e)
+end-runs bytes e f = f ∙ sym (ap (λ (x : Message). cyclesOn (cyclesRun x (cyclesListed bytes)) (beforeCycles bytes)) e)
 
 -- the words are ready for the cycles
 pub before-ready : (bytes : List ℕ) {s m : List ℕ} → message bytes ≡ Runs → lend s m ≡ beforeCycles bytes → memoryNumber s m ≡ 0
@@ -225,7 +225,7 @@ unfolding allLines
 lines-are bytes n last e p q =
     let w = beforeCycles bytes in
     output-is bytes e
-    ∙ ap (λ k. heading ++ (cyclesLines k 0 (cyclesDone bytes) w ++ lastLine (cyclesAsked bytes) w)) (sym p)
+    ∙ ap (λ k. heading ++ (cyclesLines k 0 (cyclesListed bytes) w ++ lastLine (cyclesAsked bytes) w)) (sym p)
     ∙ ap (λ k. heading ++ (cyclesLines n 0 (carriedOut k w) w ++ lastLine k w)) (sym q)
 
 pub few-nodes : (bytes : List ℕ) {n : ℕ} → message bytes ≡ Runs → n ≡ nodes (sheetOf bytes) → n ≤ 16

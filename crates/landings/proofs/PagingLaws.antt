@@ -9,9 +9,9 @@ use native.Mathlib.Decide.{decLt}
 use lib.ListN.{length, length-append}
 use Rattle.session.specs.Calls.{memoryNumber, Lent, lend, cycle, number}
 use Rattle.landings.specs.Lines.{cyclesLines, cyclesOn, carriedOut, refusedLine, lastLine}
-use Rattle.landings.specs.Inner.Pages.{Started, Paged}
+use Rattle.landings.specs.Inner.Pages.{ReadyToList, Paged}
 use Rattle.landings.specs.Output.{heading, beforeCycles, printout, HasAt}
-use Rattle.landings.specs.Inner.Ended.{cyclesDone}
+use Rattle.landings.specs.Inner.Ended.{cyclesListed}
 use Rattle.landings.proofs.CarriedLaws.{carried-past, carried-stop, carried-all, last-none, last-refused}
 use Rattle.landings.proofs.OutputLaws.{has-between, has-back, cycles-behind, lines-behind, before-ready, lines-are}
 
@@ -26,7 +26,7 @@ pub record Paging (bytes : List ℕ) (n last : ℕ) (s₀ m₀ buffer₀ s m buf
   pub long : length buffer ≡ length buffer₀
 
 pub page-start : (bytes : List ℕ) (n last : ℕ) (s m buffer : List ℕ) (place : ℕ)
-    → Started bytes s m n last
+    → ReadyToList bytes s m n last
     → place ≡ length heading
     → Paging bytes n last s m buffer s m buffer place 0
 unfolding cyclesOn cyclesLines
@@ -71,7 +71,7 @@ module _ (bytes : List ℕ) (n last : ℕ) (s₀ m₀ buffer₀ s m buffer : Lis
     lines-with =
         lines-behind n 0 time count words₀ ∙ ap (λ (x : List ℕ). cyclesLines n 0 time words₀ ++ x) (sym page-is)
 
-    pub page-has : Started bytes s₀ m₀ n last → HasAt (printout bytes) place part
+    pub page-has : ReadyToList bytes s₀ m₀ n last → HasAt (printout bytes) place part
     page-has g =
         let done = carriedOut last words₀ in
         let before = cyclesLines n 0 time words₀ in
@@ -110,7 +110,7 @@ module _ (bytes : List ℕ) (n last : ℕ) (s₀ m₀ buffer₀ s m buffer : Lis
         }
 
     -- it ends in a refusal: then so does the output
-    module _ (g : Started bytes s₀ m₀ n last) (ne : refusal ≡ 0 → ⊥) {next : ℕ} (p : next ≡ place + length part) where
+    module _ (g : ReadyToList bytes s₀ m₀ n last) (ne : refusal ≡ 0 → ⊥) {next : ℕ} (p : next ≡ place + length part) where
       refusal-is : refusal ≡ number cycle (cyclesOn (time + count) words₀)
       refusal-is =
           d .stopped ne .1
@@ -148,7 +148,7 @@ module _ (bytes : List ℕ) (n last : ℕ) (s₀ m₀ buffer₀ s m buffer : Lis
       pub refusal-done : {end : ℕ} {s′ m′ : List ℕ}
           → end ≡ next + length (refusedLine refusal)
           → lend s′ m′ ≡ cyclesOn count (lend s m)
-          → (end ≡ length (printout bytes)) × (lend s′ m′ ≡ cyclesOn (cyclesDone bytes) words₀)
+          → (end ≡ length (printout bytes)) × (lend s′ m′ ≡ cyclesOn (cyclesListed bytes) words₀)
       refusal-done r f = (
         omega (arith, r, next-placed, ap length output-ends, length-append (heading ++ lines) (refusedLine refusal)),
         f
@@ -161,8 +161,8 @@ module _ (bytes : List ℕ) (n last : ℕ) (s₀ m₀ buffer₀ s m buffer : Lis
 pub page-done : (bytes : List ℕ) (n last : ℕ) (s₀ m₀ buffer₀ s m buffer : List ℕ) (place time : ℕ)
     → Paging bytes n last s₀ m₀ buffer₀ s m buffer place time
     → last ≤ time
-    → Started bytes s₀ m₀ n last
-    → (place ≡ length (printout bytes)) × (lend s m ≡ cyclesOn (cyclesDone bytes) (beforeCycles bytes))
+    → ReadyToList bytes s₀ m₀ n last
+    → (place ≡ length (printout bytes)) × (lend s m ≡ cyclesOn (cyclesListed bytes) (beforeCycles bytes))
 page-done bytes n last s₀ m₀ buffer₀ s m buffer place time i l g =
     let w = beforeCycles bytes in
     let end : time ≡ last = omega (arith, i .in-time, l) in

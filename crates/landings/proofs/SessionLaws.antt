@@ -21,7 +21,7 @@ use Rattle.landings.specs.Input.{sheetOf, memoryOf, transfers, transferP
 use Rattle.landings.specs.Messages.{Called, called, startAt, startsOn, callsOn, calls, message}
 use Rattle.landings.specs.Lines.{cyclesOn, lastLine}
 use Rattle.landings.specs.Output.{beforeCycles}
-use Rattle.landings.specs.Inner.Ended.{cyclesDone}
+use Rattle.landings.specs.Inner.Ended.{cyclesListed}
 use Rattle.landings.proofs.CarriedLaws.{carried-all, last-none}
 use Rattle.landings.proofs.CallLaws.{start-alone}
 use Rattle.landings.proofs.OutputLaws.{runs-called}
@@ -170,7 +170,7 @@ cycles-carried-out bytes e t l =
 
 -- so all are carried out, and no refusal is printed behind their lines
 pub all-carried-out : (bytes : List ℕ) → message bytes ≡ Runs
-    → (cyclesDone bytes ≡ cyclesAsked bytes) × (lastLine (cyclesAsked bytes) (beforeCycles bytes) ≡ [])
+    → (cyclesListed bytes ≡ cyclesAsked bytes) × (lastLine (cyclesAsked bytes) (beforeCycles bytes) ≡ [])
 all-carried-out bytes e =
     let all = carried-all (cyclesAsked bytes) (beforeCycles bytes) (cycles-carried-out bytes e) in
     (all, last-none (cyclesAsked bytes) (beforeCycles bytes) all)

@@ -13,8 +13,8 @@ ghost use Rattle.landings.specs.Input.{statedLength, sheetOf};
 ghost use Rattle.landings.specs.Messages.{inputMessage};
 ghost use Rattle.landings.specs.Lines.{cyclesOn, refusedLine};
 ghost use Rattle.landings.specs.Output.{heading, beforeCycles, printout, HasAt};
-ghost use Rattle.landings.specs.Inner.Ended.{cyclesDone, atEnd};
-ghost use Rattle.landings.specs.Inner.Pages.{Started, Lendable};
+ghost use Rattle.landings.specs.Inner.Ended.{cyclesListed, atEnd};
+ghost use Rattle.landings.specs.Inner.Pages.{ReadyToList, Lendable};
 use input::Message;
 use output::write_part;
 
@@ -41,9 +41,9 @@ fn write_pages(
     last: u32,
     buffer: &mut [u8],
 )
-    requires { ⌜ (Started (now bytes) (now s) (now m) nodes last) × (now place ≡ length heading) × (length (now buffer) ≡ 65536) ⌝ }
+    requires { ⌜ (ReadyToList (now bytes) (now s) (now m) nodes last) × (now place ≡ length heading) × (length (now buffer) ≡ 65536) ⌝ }
     ensures place { λ _. ⌜ now (place .exit) ≡ length (printout (now (bytes .entry))) ⌝ }
-    ensures words { λ _. ⌜ lend (now (s .exit)) (now (m .exit)) ≡ cyclesOn (cyclesDone (now (bytes .entry))) (beforeCycles (now (bytes .entry))) ⌝ }
+    ensures words { λ _. ⌜ lend (now (s .exit)) (now (m .exit)) ≡ cyclesOn (cyclesListed (now (bytes .entry))) (beforeCycles (now (bytes .entry))) ⌝ }
 {
     let mut time: u32 = 0;
     while time < last {
@@ -59,9 +59,9 @@ fn write_pages(
 
 // Prints the listing of all cycles; run_session has loaded and started.
 fn list(bytes: &[u8], place: &mut usize, s: &mut [u32], m: &mut [u32], nodes: u32, last: u32)
-    requires { ⌜ (Started (now bytes) (now s) (now m) nodes last) × (now place ≡ 0) ⌝ }
+    requires { ⌜ (ReadyToList (now bytes) (now s) (now m) nodes last) × (now place ≡ 0) ⌝ }
     ensures place { λ _. ⌜ now (place .exit) ≡ length (printout (now (bytes .entry))) ⌝ }
-    ensures words { λ _. ⌜ lend (now (s .exit)) (now (m .exit)) ≡ cyclesOn (cyclesDone (now (bytes .entry))) (beforeCycles (now (bytes .entry))) ⌝ }
+    ensures words { λ _. ⌜ lend (now (s .exit)) (now (m .exit)) ≡ cyclesOn (cyclesListed (now (bytes .entry))) (beforeCycles (now (bytes .entry))) ⌝ }
 {
     write_part(bytes, place, b"cycle node address word kind\n");
     let mut buffer = [0u8; 65536];

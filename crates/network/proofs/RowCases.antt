@@ -12,7 +12,7 @@ use Rattle.words.proofs.AllLaws.{all-at}
 use Rattle.network.specs.Registers.{rowCount, clockRow, clockWords, linkMark, linkWord, headMark, headWord, choiceRow, latchRow, outMark}
 use Rattle.network.specs.Registers.{outWord, receiveMark, receiveKind, receiveAddress, landingMark, landingKind, landingAddress, landingWord}
 use Rattle.network.specs.Registers.{leftRow, readRow, writeRow, kindRow, toGoRow}
-use Rattle.network.specs.Inner.Machine.{Row, rowOf, rowIn, nextRows, fiveANode, oneANode, oneACircuit}
+use Rattle.network.specs.Inner.Machine.{Row, registerRow, rowIn, nextRows, fiveANode, oneANode, oneACircuit}
 
 infixr 20 _also_
 infixr 20 _besides_
@@ -62,7 +62,7 @@ pub record Extent (s : List ℕ) (x : Row) : Type 0 where
 
 -- a row of the clock, of the routers, of the nodes and of the circuits
 module _ {s : List ℕ} (row : ℕ) {next : ℕ → ℕ} where
-  of-clock : row ≡ clockRow → Extent s (rowOf row clockWords next)
+  of-clock : row ≡ clockRow → Extent s (registerRow row clockWords next)
   of-clock e = record {
     clock = λ c. refl;
     router = λ c d. absurd (omega arith);
@@ -70,7 +70,7 @@ module _ {s : List ℕ} (row : ℕ) {next : ℕ → ℕ} where
     circuit = λ c d. absurd (omega arith);
   }
 
-  of-router : linkMark ≤ row → row ≤ outWord → Extent s (rowOf row (fiveANode s) next)
+  of-router : linkMark ≤ row → row ≤ outWord → Extent s (registerRow row (fiveANode s) next)
   of-router a b = record {
     clock = λ c. absurd (omega arith);
     router = λ c d. refl;
@@ -78,7 +78,7 @@ module _ {s : List ℕ} (row : ℕ) {next : ℕ → ℕ} where
     circuit = λ c d. absurd (omega arith);
   }
 
-  of-node : receiveMark ≤ row → row ≤ landingWord → Extent s (rowOf row (oneANode s) next)
+  of-node : receiveMark ≤ row → row ≤ landingWord → Extent s (registerRow row (oneANode s) next)
   of-node a b = record {
     clock = λ c. absurd (omega arith);
     router = λ c d. absurd (omega arith);
@@ -86,7 +86,7 @@ module _ {s : List ℕ} (row : ℕ) {next : ℕ → ℕ} where
     circuit = λ c d. absurd (omega arith);
   }
 
-  of-circuit : leftRow ≤ row → row ≤ toGoRow → Extent s (rowOf row (oneACircuit s) next)
+  of-circuit : leftRow ≤ row → row ≤ toGoRow → Extent s (registerRow row (oneACircuit s) next)
   of-circuit a b = record {
     clock = λ c. absurd (omega arith);
     router = λ c d. absurd (omega arith);

@@ -13,7 +13,7 @@ use Rattle.network.specs.Registers.{reg, put, movingWords, linkMark, linkWord, 
 use Rattle.network.specs.Inner.Machine.{nextHeadWord, nextChoice, nextLatch, rowIn, nextRows, nextInRow}
 use Rattle.network.proofs.PutLaws.{put-other, put-length}
 use Rattle.network.proofs.FillLaws.{Wrote, wrote-one, wrote-then, Staged, stage-more, still, beside}
-use Rattle.routers.specs.Inner.Stepping.{headed}
+use Rattle.routers.specs.Inner.Stepping.{headStepped}
 
 -- the output chosen, from the mark m that was read
 module _ (input latch mark w m : ℕ) (e : m ≡ mark) where
@@ -37,8 +37,8 @@ pub head-is : (s : List ℕ) (k mark w word choice latch : ℕ) → mark ≡ reg
     → choice ≡ nextChoice (k % 5) (reg s latchRow k) (reg s linkMark k) (reg s linkWord k)
     → latch ≡ nextLatch (k % 5) (reg s latchRow k) (reg s linkMark k) (reg s linkWord k)
     → (s₁ s₂ s₃ s₄ : List ℕ) → s₁ ≡ put s headMark k mark → s₂ ≡ put s₁ headWord k word → s₃ ≡ put s₂ choiceRow k choice
-    → s₄ ≡ put s₃ latchRow k latch → s₄ ≡ headed s k
-unfolding headed
+    → s₄ ≡ put s₃ latchRow k latch → s₄ ≡ headStepped s k
+unfolding headStepped
 head-is s k mark w word choice latch a b c d e s₁ s₂ s₃ s₄ p q r t =
     let c′ : word ≡ nextHeadWord (reg s linkMark k) (reg s linkWord k) = c ∙ ap₂ nextHeadWord a b in
     t
@@ -66,7 +66,7 @@ unfolding reg
 put-own s row k w e = sym (ap (put s row k) e ∙ set-getD s (row * rowWords + k) 0)
 
 pub head-empty : (s : List ℕ) (k mark w : ℕ) → mark ≡ reg s linkMark k → mark ≡ 0 → w ≡ reg s linkWord k
-    → (s₁ s₂ s₃ : List ℕ) → s₁ ≡ put s headMark k 0 → s₂ ≡ put s₁ headWord k w → s₃ ≡ put s₂ choiceRow k 0 → s₃ ≡ headed s k
+    → (s₁ s₂ s₃ : List ℕ) → s₁ ≡ put s headMark k 0 → s₂ ≡ put s₁ headWord k w → s₃ ≡ put s₂ choiceRow k 0 → s₃ ≡ headStepped s k
 head-empty s k mark w a z b s₁ s₂ s₃ p q r =
     let empty : reg s linkMark k ≡ 0 = sym a ∙ z in
     let latch : reg s latchRow k ≡ reg s₃ latchRow k = sym
@@ -89,8 +89,8 @@ module _ (s now : List ℕ) (k : ℕ) (kl : k < rowWords) (long : movingWords �
   latch : reg now latchRow k ≡ reg s latchRow k
   latch = still headMark latchRow k (nextInRow s []) s now g latchRow k (omega arith) kl (omega arith)
 
-  head-wrote : Wrote headMark latchRow k (λ row. nextInRow s [] row k) now (headed now k)
-  unfolding headed nextInRow rowIn nextRows _=?_
+  head-wrote : Wrote headMark latchRow k (λ row. nextInRow s [] row k) now (headStepped now k)
+  unfolding headStepped nextInRow rowIn nextRows _=?_
   head-wrote =
       let long₀ : movingWords ≤ length now = omega (arith, g .same-length) in
       let s₁ : List ℕ = put now headMark k (reg now linkMark k) in
@@ -111,7 +111,7 @@ module _ (s now : List ℕ) (k : ℕ) (kl : k < rowWords) (long : movingWords �
       (wrote-then headMark headWord choiceRow k new now s₂ s₃ (omega arith) (omega arith) (omega arith) kl
       (wrote-then headMark headMark headWord k new now s₁ s₂ (omega arith) (omega arith) (omega arith) kl first second) third) fourth
 
-  pub heads-more : (next : List ℕ) → next ≡ headed now k → Staged headMark latchRow (k + 1) (nextInRow s []) s next
+  pub heads-more : (next : List ℕ) → next ≡ headStepped now k → Staged headMark latchRow (k + 1) (nextInRow s []) s next
   heads-more next e =
       stage-more headMark latchRow k (nextInRow s []) s now next (omega arith) kl g
       (subst (Wrote headMark latchRow k (λ row. nextInRow s [] row k) now) (sym e) head-wrote)

@@ -13,7 +13,7 @@ ghost use Rattle.network.specs.Registers.{reg as regOf, sheetIn, movingWords, l
 ghost use Rattle.network.specs.Inner.Machine.{nextChoice, nextOutMark, nextOutWord, collidesIn, unheldIn, unchosenIn, nextInRow};
 ghost use Rattle.network.specs.Inner.Stages.{stage, linkFrom, outFrom};
 ghost use Rattle.routers.specs.Inner.Crossing.{Crossed};
-ghost use Rattle.routers.specs.Inner.Stepping.{linked, linkedBy, headed};
+ghost use Rattle.routers.specs.Inner.Stepping.{linked, linkedBy, headStepped};
 use network::put_reg;
 use network::reg;
 
@@ -116,7 +116,7 @@ fn next_choice(s: &[u32], k: u32) -> u32
 // The header stage of input k for a word that is there, whose mark step_head has read, which so meets the requires.
 fn step_head_word(s: &mut [u32], k: u32, mark: u32)
     requires { ⌜ mark ≡ regOf (now s) linkMark k ⌝ }
-    ensures { λ _. ⌜ now (s .exit) ≡ headed (now (s .entry)) k ⌝ }
+    ensures { λ _. ⌜ now (s .exit) ≡ headStepped (now (s .entry)) k ⌝ }
 {
     let word = network::next_head_word(mark, reg(s, network::LINK_WORD, k));
     let choice = next_choice(s, k);
@@ -130,7 +130,7 @@ fn step_head_word(s: &mut [u32], k: u32, mark: u32)
 // The header stage of input k: its mark, its word, its choice, and its latch, which is left alone where the link register is empty, as
 // most are.
 fn step_head(s: &mut [u32], k: u32)
-    ensures { λ _. ⌜ now (s .exit) ≡ headed (now (s .entry)) k ⌝ }
+    ensures { λ _. ⌜ now (s .exit) ≡ headStepped (now (s .entry)) k ⌝ }
 {
     let mark = reg(s, network::LINK_MARK, k);
     if mark != 0 {

@@ -22,7 +22,7 @@ use Rattle.network.specs.Registers.{reg, sheetIn, clockRow, cyclePlace, inForce
 use Rattle.network.specs.Inner.Machine.{slotIn}
 use Rattle.network.specs.Inner.Paired.{Paired}
 use Rattle.network.proofs.SlotLaws.{found-inside, length-none, length-is, route-none, route-is}
-use Rattle.sources.specs.Inner.Slots.{slotTable, slotPut, Behind}
+use Rattle.sources.specs.Inner.Slots.{slotTable, slotPut, BegunBefore}
 use Rattle.words.proofs.TableLaws.{tab-same, tab-set}
 
 -- an entry put into the table, or not
@@ -103,8 +103,8 @@ module _ (z : List ℕ) (j cycle : ℕ) where
         subst (λ (i : ℕ). entryAt (entriesOf z j) k .offset ≤ entryAt (entriesOf z j) i .offset) q (omega arith)
 
     -- sixteen more entries begin before the cycle where the last of them does
-    pub behind-more : (entries : List ℕ) (i : ℕ) → entries ≡ entriesOf z j → Behind entries cycle i → i + 16 ≤ entryCount entries
-        → (e : Entry) → e ≡ entryAt entries (i + 15) → e .offset < cycle → Behind entries cycle (i + 16)
+    pub behind-more : (entries : List ℕ) (i : ℕ) → entries ≡ entriesOf z j → BegunBefore entries cycle i → i + 16 ≤ entryCount entries
+        → (e : Entry) → e ≡ entryAt entries (i + 15) → e .offset < cycle → BegunBefore entries cycle (i + 16)
     behind-more entries i same g l e read early = record {
       inside = l;
       earlier = λ k kl. subst (λ (x : List ℕ). entryAt x k .offset < cycle) (sym same) (go k kl);
@@ -151,7 +151,7 @@ module _ (z : List ℕ) (j cycle : ℕ) where
       ∙ last-none n (λ k l. early k (omega arith)) c
 
   filling-start : (entries slots : List ℕ) (i : ℕ) → Framed z → j < schedules z → entries ≡ entriesOf z j → slots ≡ tab 64 (λ (c : ℕ). 0)
-      → Behind entries cycle i → Filling entries slots (entryCount entries) i
+      → BegunBefore entries cycle i → Filling entries slots (entryCount entries) i
   filling-start entries slots i f l e t b =
       let q : entryCount entries ≡ entryCount (entriesOf z j) = ap entryCount e in
       record {
@@ -211,7 +211,7 @@ module _ (s z : List ℕ) (g : Paired s z) where
 
   -- the loop over the schedule in force
   pub table-start : (cycle j : ℕ) (entries slots : List ℕ) (i : ℕ) → j ≡ inForce → entries ≡ entriesOf z j → slots ≡ tab 64 (λ (c : ℕ). 0)
-      → Behind entries cycle i → Filling z inForce cycle entries slots (entryCount entries) i
+      → BegunBefore entries cycle i → Filling z inForce cycle entries slots (entryCount entries) i
   table-start cycle j entries slots i a e t b =
       filling-start z inForce cycle entries slots i (g .framed) (g .in-force) (e ∙ ap (entriesOf z) a) t b
 
@@ -266,12 +266,12 @@ module _ (s z : List ℕ) (g : Paired s z) where
       slot-route x r = route-is z inForce cycleNow c found found-is entries entries-own x r ne ∙ route-own
 
 -- no entry is passed yet
-pub behind-none : (entries : List ℕ) (cycle : ℕ) → Behind entries cycle 0
+pub behind-none : (entries : List ℕ) (cycle : ℕ) → BegunBefore entries cycle 0
 behind-none entries cycle = record { inside = omega arith; earlier = λ k l. absurd (omega arith) }
 
 -- the loop that passes over entries in steps
 pub record Passing (entries : List ℕ) (cycle count i : ℕ) : Type 0 where
-  pub behind : Behind entries cycle i
+  pub behind : BegunBefore entries cycle i
   pub whole : count ≡ entryCount entries
   pub few : count ≤ 256
 

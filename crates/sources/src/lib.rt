@@ -14,7 +14,7 @@ ghost use Rattle.network.specs.Registers.{reg as regOf, sheetIn, room, clockRow
 ghost use Rattle.network.specs.Inner.Machine.{slotIn, moveIn, sentMark, sentWord, sourceMark, sourceWord, crowdsIn, reopensIn, nextInRow};
 ghost use Rattle.network.specs.Inner.Paired.{Paired, Sendable};
 ghost use Rattle.network.specs.Inner.Stages.{stage};
-ghost use Rattle.sources.specs.Inner.Slots.{slotTable, slotPut, Behind};
+ghost use Rattle.sources.specs.Inner.Slots.{slotTable, slotPut, BegunBefore};
 ghost use Rattle.sources.specs.Inner.Wires.{marksBefore, wordsBefore, putFree, crowdsAt};
 ghost use Rattle.sources.specs.Inner.Steps.{Sending, Steppable, sendWord, senderPut};
 use network::put_reg;
@@ -37,7 +37,7 @@ fn put_slot(entry: Entry, number: u32, cycle: u32, slots: &mut [u32])
 // So many entries of schedule j that begin before the cycle, counted in steps of sixteen: by rule 8 the last of a step begins last.
 fn entries_passed(z: &[u32], j: u32, entries: &[u32], cycle: u32) -> u32
     requires { ⌜ (Framed (now z)) × (rule8 (now z) ≡ true) × (j < schedules (now z)) × (now entries ≡ entriesOf (now z) j) ⌝ }
-    ensures { λ r. ⌜ Behind (now (entries .entry)) cycle r ⌝ }
+    ensures { λ r. ⌜ BegunBefore (now (entries .entry)) cycle r ⌝ }
 {
     let count = entries.len() / 4;
     let mut i: u32 = 0;

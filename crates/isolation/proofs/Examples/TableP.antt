@@ -14,7 +14,7 @@ use Rattle.soundness.specs.Sound.{sheetSound, clockSound, orderSound, kindTrave
 use Rattle.words.specs.Numbers.{unless, _then_}
 use Rattle.words.proofs.TableLaws.{tab-zeros}
 use Rattle.session.specs.Calls.{stateNumber, isPending, ahead, orderNumber, loaded}
-use Rattle.isolation.specs.Examples.{sheetA, lastPeriod, Row, tableOn, TableHolds}
+use Rattle.isolation.specs.Examples.{sheetA, lastPeriod, Example, tableOn, TableHolds}
 use Rattle.sheet.specs.Sheet.{schedulePlace, circuitAt, entriesOf, entryAt, rows, sheetWords}
 use Rattle.sheet.specs.Wires.{sameWire, same, during, occupied, member, meet}
 use Rattle.sheet.specs.Rules.{rule1, rule2, scheduleFits, rule3, firstBroken, verdict}
@@ -26,7 +26,7 @@ use Rattle.sheet.specs.Rules.{entryRoute, entryLeads, rule9, entryEnds, rule10,
 abbrev written : List ℕ
 written = 0 ∷ 4294967295 ∷ replicate (movingWords - 2) 0 ++ (17 ∷ sheetA 0 13 [] ++ replicate (sheetWords - 17) 0)
 
-computed : map (λ (r : Row). r .given) (tableOn written) ≡ map (λ (r : Row). r .wanted) (tableOn written)
+computed : map (λ (r : Example). r .given) (tableOn written) ≡ map (λ (r : Example). r .wanted) (tableOn written)
 unfolding orderNumber stateNumber unless _then_ ahead isPending sound sheetSound clockSound orderSound transferSound kindTravels liesIn routerSound cellSound nodeSound
     loaded tab reg sheetLength sheetIn
     verdict firstBroken
@@ -56,5 +56,5 @@ last-period =
 
 pub examples : TableHolds
 examples =
-    subst (λ (state : List ℕ). map (λ (r : Row). r .given) (tableOn state) ≡ map (λ (r : Row). r .wanted) (tableOn state)) last-period
+    subst (λ (state : List ℕ). map (λ (r : Example). r .given) (tableOn state) ≡ map (λ (r : Example). r .wanted) (tableOn state)) last-period
     computed

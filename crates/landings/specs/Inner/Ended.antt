@@ -14,8 +14,8 @@ abbrev pub callsMessage : List ℕ → Message
 callsMessage bytes = refusalOf (calls bytes .refusal)
 
 -- the cycles of an input that are carried out
-abbrev pub cyclesDone : List ℕ → ℕ
-cyclesDone bytes = carriedOut (cyclesAsked bytes) (beforeCycles bytes)
+abbrev pub cyclesListed : List ℕ → ℕ
+cyclesListed bytes = carriedOut (cyclesAsked bytes) (beforeCycles bytes)
 
 -- how many cycles are carried out: none where a message is printed instead of the listing
 abbrev pub cyclesRun : Message → ℕ → ℕ
@@ -26,4 +26,4 @@ cyclesRun Runs n = n
 
 -- the lent words at the end of the program
 unfoldable pub atEnd : List ℕ → Lent
-atEnd bytes = cyclesOn (cyclesRun (message bytes) (cyclesDone bytes)) (beforeCycles bytes)
+atEnd bytes = cyclesOn (cyclesRun (message bytes) (cyclesListed bytes)) (beforeCycles bytes)

@@ -21,7 +21,7 @@ pub record Lendable (bytes sheet s m : List ℕ) : Type 0 where
   pub enough : length m ≡ memorySize bytes
 
 -- the words, nodes and cycles of an input that runs, before its first cycle
-pub record Started (bytes s m : List ℕ) (count last : ℕ) : Type 0 where
+pub record ReadyToList (bytes s m : List ℕ) (count last : ℕ) : Type 0 where
   pub runs : message bytes ≡ Runs
   pub words : lend s m ≡ beforeCycles bytes
   pub all-nodes : count ≡ nodes (sheetOf bytes)

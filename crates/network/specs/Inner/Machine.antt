@@ -146,8 +146,8 @@ pub record Row : Type 0 where
   pub extent : ℕ
   pub next : ℕ → ℕ
 
-abbrev pub rowOf : ℕ → ℕ → (ℕ → ℕ) → Row
-rowOf number extent next = record { number = number; extent = extent; next = next }
+abbrev pub registerRow : ℕ → ℕ → (ℕ → ℕ) → Row
+registerRow number extent next = record { number = number; extent = extent; next = next }
 
 -- a row of the routers has five registers a node, the others one a node or one a circuit
 abbrev pub fiveANode : List ℕ → ℕ
@@ -162,32 +162,32 @@ oneACircuit s = circuits (sheetIn s)
 -- the rows after a cycle
 unfoldable pub nextRows : List ℕ → List ℕ → List Row
 nextRows s m =
-    rowOf clockRow clockWords (λ k. nextClock s k)
-    ∷ rowOf linkMark (fiveANode s) (λ k. nextLinkMark s (k / 5) (k % 5))
-    ∷ rowOf linkWord (fiveANode s) (λ k. nextLinkWord s m (k / 5) (k % 5))
-    ∷ rowOf headMark (fiveANode s) (λ k. reg s linkMark k)
-    ∷ rowOf headWord (fiveANode s) (λ k. nextHeadWord (reg s linkMark k) (reg s linkWord k))
-    ∷ rowOf choiceRow (fiveANode s) (λ k. nextChoice (k % 5) (reg s latchRow k) (reg s linkMark k) (reg s linkWord k))
-    ∷ rowOf latchRow (fiveANode s) (λ k. nextLatch (k % 5) (reg s latchRow k) (reg s linkMark k) (reg s linkWord k))
-    ∷ rowOf outMark (fiveANode s) (λ k. nextOutMark s (k / 5) (k % 5))
-    ∷ rowOf outWord (fiveANode s) (λ k. nextOutWord s (k / 5) (k % 5))
-    ∷ rowOf receiveMark (oneANode s) (λ k. nextReceiveMark s k)
-    ∷ rowOf receiveKind (oneANode s) (λ k. nextReceiveKind s k)
-    ∷ rowOf receiveAddress (oneANode s) (λ k. nextReceiveAddress s k)
-    ∷ rowOf landingMark (oneANode s) (λ k. nextLandingMark s k)
-    ∷ rowOf landingKind (oneANode s) (λ k. reg s receiveKind k)
-    ∷ rowOf landingAddress (oneANode s) (λ k. reg s receiveAddress k)
-    ∷ rowOf landingWord (oneANode s) (λ k. memoryWord s k)
-    ∷ rowOf leftRow (oneACircuit s) (λ k. nextSender s k .left)
-    ∷ rowOf readRow (oneACircuit s) (λ k. nextSender s k .readAddress)
-    ∷ rowOf writeRow (oneACircuit s) (λ k. nextSender s k .writeAddress)
-    ∷ rowOf kindRow (oneACircuit s) (λ k. nextSender s k .kind)
-    ∷ rowOf toGoRow (oneACircuit s) (λ k. nextSender s k .toGo)
+    registerRow clockRow clockWords (λ k. nextClock s k)
+    ∷ registerRow linkMark (fiveANode s) (λ k. nextLinkMark s (k / 5) (k % 5))
+    ∷ registerRow linkWord (fiveANode s) (λ k. nextLinkWord s m (k / 5) (k % 5))
+    ∷ registerRow headMark (fiveANode s) (λ k. reg s linkMark k)
+    ∷ registerRow headWord (fiveANode s) (λ k. nextHeadWord (reg s linkMark k) (reg s linkWord k))
+    ∷ registerRow choiceRow (fiveANode s) (λ k. nextChoice (k % 5) (reg s latchRow k) (reg s linkMark k) (reg s linkWord k))
+    ∷ registerRow latchRow (fiveANode s) (λ k. nextLatch (k % 5) (reg s latchRow k) (reg s linkMark k) (reg s linkWord k))
+    ∷ registerRow outMark (fiveANode s) (λ k. nextOutMark s (k / 5) (k % 5))
+    ∷ registerRow outWord (fiveANode s) (λ k. nextOutWord s (k / 5) (k % 5))
+    ∷ registerRow receiveMark (oneANode s) (λ k. nextReceiveMark s k)
+    ∷ registerRow receiveKind (oneANode s) (λ k. nextReceiveKind s k)
+    ∷ registerRow receiveAddress (oneANode s) (λ k. nextReceiveAddress s k)
+    ∷ registerRow landingMark (oneANode s) (λ k. nextLandingMark s k)
+    ∷ registerRow landingKind (oneANode s) (λ k. reg s receiveKind k)
+    ∷ registerRow landingAddress (oneANode s) (λ k. reg s receiveAddress k)
+    ∷ registerRow landingWord (oneANode s) (λ k. memoryWord s k)
+    ∷ registerRow leftRow (oneACircuit s) (λ k. nextSender s k .left)
+    ∷ registerRow readRow (oneACircuit s) (λ k. nextSender s k .readAddress)
+    ∷ registerRow writeRow (oneACircuit s) (λ k. nextSender s k .writeAddress)
+    ∷ registerRow kindRow (oneACircuit s) (λ k. nextSender s k .kind)
+    ∷ registerRow toGoRow (oneACircuit s) (λ k. nextSender s k .toGo)
     ∷ []
 
 -- the row of a number; one that is not listed has no registers
 unfoldable pub rowIn : List Row → ℕ → Row
-rowIn [] row = rowOf row 0 (λ k. 0)
+rowIn [] row = registerRow row 0 (λ k. 0)
 rowIn (x ∷ rows) row = elim (x .number =? row) [ true ↦ x | false ↦ rowIn rows row ]
 
 unfoldable pub nextInRow : List ℕ → List ℕ → ℕ → ℕ → ℕ

@@ -19,8 +19,8 @@ linkedBy s cols rows node side =
     linked s (at node side) (reg s outMark (placeBy cols rows node side)) (reg s outWord (placeBy cols rows node side))
 
 -- the header stage of input k: its mark, its word, its choice, and its latch
-unfoldable pub headed : List ℕ → ℕ → List ℕ
-headed s k =
+unfoldable pub headStepped : List ℕ → ℕ → List ℕ
+headStepped s k =
     put
     (put
     (put

@@ -18,6 +18,6 @@ unfoldable pub slotPut : Entry → ℕ → ℕ → List ℕ → List ℕ
 slotPut entry number cycle slots = pick (entry .offset =? cycle) (set slots (entry .circuit) number) slots
 
 -- the first n entries are there, and begin before the cycle
-pub record Behind (entries : List ℕ) (cycle n : ℕ) : Type 0 where
+pub record BegunBefore (entries : List ℕ) (cycle n : ℕ) : Type 0 where
   pub inside : n ≤ entryCount entries
   pub earlier : (k : ℕ) → k < n → entryAt entries k .offset < cycle
