@@ -3,7 +3,7 @@
 -- Assumes nothing.
 use Prim.Native.Nat.{ℕ, _+_, _*_, _/_, _%_, _≤_, _<_}
 use mathlib.Core.Bool.{Bool, true, false, false≢true}
-use mathlib.Core.Path.{_≡_, refl, sym, _∙_, ap, ap₂}
+use mathlib.Core.Path.{_≡_, refl, sym, _∙_, ap, ap₂, subst}
 use mathlib.Core.List.{List, _++_}
 use native.Mathlib.Omega.{arith}
 use native.Mathlib.Decide.{ℕ-discrete, decLe}
@@ -60,6 +60,22 @@ wrote-nothing low high k new s e = record {
   written = λ row a b. sym (e row a b);
   elsewhere = λ row j rl jl no. refl;
 }
+
+-- one row more at a place, behind those that are written
+pub wrote-more : (low middle k w : ℕ) (new : ℕ → ℕ) (s between : List ℕ) → low ≤ middle → middle + 1 < rowCount → k < rowWords → movingWords ≤ length s
+    → Wrote low middle k new s between → w ≡ new (middle + 1) → Wrote low (middle + 1) k new s (put between (middle + 1) k w)
+wrote-more low middle k w new s between a b kl long g e =
+    wrote-then low middle (middle + 1) k new s between _ a (omega arith) (omega arith) kl g
+    (wrote-one (middle + 1) k w new between (omega arith) kl (omega (arith, g .same-length)) e)
+
+-- one row more that is not set, since it does not change
+pub wrote-stays : (low middle k : ℕ) (new : ℕ → ℕ) (s after : List ℕ) → low ≤ middle → middle + 1 < rowCount → k < rowWords
+    → Wrote low middle k new s after → new (middle + 1) ≡ reg s (middle + 1) k → Wrote low (middle + 1) k new s after
+wrote-stays low middle k new s after a b kl f e =
+    wrote-then low middle (middle + 1) k new s after after a (omega arith) (omega arith) kl f
+    (wrote-nothing (middle + 1) (middle + 1) k new after (λ row c d.
+    subst (λ (r : ℕ). new r ≡ reg after r k) (let same : middle + 1 ≡ row = omega arith in same)
+    (e ∙ sym (f .elsewhere (middle + 1) k b kl (λ x y z. omega arith)))))
 
 -- the rows from low to high are as f says at the places below n, all else is as it was
 pub record Staged (low high n : ℕ) (f : ℕ → ℕ → ℕ) (s now : List ℕ) : Type 0 where

@@ -9,9 +9,9 @@ use lib.ListN.{length}
 use Rattle.words.specs.Tests.{_≤?_, _=?_}
 use Rattle.words.specs.Words.{pick}
 use Rattle.packet.specs.Header.{kindOf, addressOf}
-use Rattle.network.specs.Registers.{reg, put, movingWords, receiveMark, receiveKind, receiveAddress, landingMark, landingKind, landingAddress, landingWord, outMark, outWord, rowCount, rowWords}
+use Rattle.network.specs.Registers.{reg, movingWords, receiveMark, receiveKind, receiveAddress, landingMark, landingKind, landingAddress, landingWord, outMark, outWord, rowCount, rowWords}
 use Rattle.network.specs.Inner.Machine.{memoryMark, memoryWord, nextReceiveMark, nextReceiveKind, nextReceiveAddress, nextLandingMark, rowIn, nextRows, nextInRow}
-use Rattle.network.proofs.FillLaws.{Wrote, wrote-one, wrote-then}
+use Rattle.network.proofs.FillLaws.{Wrote, wrote-one, wrote-more}
 use Rattle.receivers.specs.Inner.Required.{LandingFits}
 use Rattle.receivers.specs.Inner.Written.{landingPut, receivePut}
 
@@ -66,13 +66,6 @@ wrote-before low middle high k new s between after a b hl kl f g = record {
     go : (row : ℕ) → low ≤ row → row ≤ high → Dec (row ≤ middle) → reg after row k ≡ new row
     go row c d (yes e) = g .written row c e
     go row c d (no ne) = g .elsewhere row k (omega arith) kl (λ x y z. ne y) ∙ f .written row (omega (arith, ne)) d
-
--- one row more at a place, behind those that are written
-pub wrote-more : (low middle k w : ℕ) (new : ℕ → ℕ) (s between : List ℕ) → low ≤ middle → middle + 1 < rowCount → k < rowWords → movingWords ≤ length s
-    → Wrote low middle k new s between → w ≡ new (middle + 1) → Wrote low (middle + 1) k new s (put between (middle + 1) k w)
-wrote-more low middle k w new s between a b kl long g e =
-    wrote-then low middle (middle + 1) k new s between _ a (omega arith) (omega arith) kl g
-    (wrote-one (middle + 1) k w new between (omega arith) kl (omega (arith, g .same-length)) e)
 
 -- the rows of a node, as the cycle wants them
 abbrev pub wanted : List ℕ → ℕ → ℕ → ℕ

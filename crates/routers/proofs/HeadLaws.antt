@@ -11,8 +11,8 @@ use Rattle.words.proofs.TestLaws.{yes=, no=, no≤}
 use Rattle.network.specs.Cycle.{outputFor}
 use Rattle.network.specs.Registers.{reg, put, movingWords, linkMark, linkWord, headMark, headWord, choiceRow, latchRow, rowWords}
 use Rattle.network.specs.Inner.Machine.{nextHeadWord, nextChoice, nextLatch, rowIn, nextRows, nextInRow}
-use Rattle.network.proofs.PutLaws.{put-other, put-length}
-use Rattle.network.proofs.FillLaws.{Wrote, wrote-one, wrote-then, Staged, stage-more, still, beside}
+use Rattle.network.proofs.PutLaws.{put-other}
+use Rattle.network.proofs.FillLaws.{Wrote, wrote-one, wrote-more, Staged, stage-more, still, beside}
 use Rattle.routers.specs.Inner.Stepping.{headStepped}
 
 -- the output chosen, from the mark m that was read
@@ -92,24 +92,15 @@ module _ (s now : List ℕ) (k : ℕ) (kl : k < rowWords) (long : movingWords �
   head-wrote : Wrote headMark latchRow k (λ row. nextInRow s [] row k) now (headStepped now k)
   unfolding headStepped nextInRow rowIn nextRows _=?_
   head-wrote =
-      let long₀ : movingWords ≤ length now = omega (arith, g .same-length) in
-      let s₁ : List ℕ = put now headMark k (reg now linkMark k) in
-      let long₁ : movingWords ≤ length s₁ = omega (arith, put-length now headMark k (reg now linkMark k)) in
-      let word₂ : ℕ = nextHeadWord (reg now linkMark k) (reg now linkWord k) in
-      let s₂ : List ℕ = put s₁ headWord k word₂ in
-      let long₂ : movingWords ≤ length s₂ = omega (arith, put-length s₁ headWord k word₂) in
-      let word₃ : ℕ = nextChoice (k % 5) (reg now latchRow k) (reg now linkMark k) (reg now linkWord k) in
-      let s₃ : List ℕ = put s₂ choiceRow k word₃ in
-      let long₃ : movingWords ≤ length s₃ = omega (arith, put-length s₂ choiceRow k word₃) in
-      let word₄ : ℕ = nextLatch (k % 5) (reg now latchRow k) (reg now linkMark k) (reg now linkWord k) in
       let new : ℕ → ℕ = λ row. nextInRow s [] row k in
-      let first = wrote-one headMark k (reg now linkMark k) new now (omega arith) kl long₀ mark in
-      let second = wrote-one headWord k word₂ new s₁ (omega arith) kl long₁ (ap₂ nextHeadWord mark cell) in
-      let third = wrote-one choiceRow k word₃ new s₂ (omega arith) kl long₂ (λ i. nextChoice (k % 5) (latch i) (mark i) (cell i)) in
-      let fourth = wrote-one latchRow k word₄ new s₃ (omega arith) kl long₃ (λ i. nextLatch (k % 5) (latch i) (mark i) (cell i)) in
-      wrote-then headMark choiceRow latchRow k new now s₃ (put s₃ latchRow k word₄) (omega arith) (omega arith) (omega arith) kl
-      (wrote-then headMark headWord choiceRow k new now s₂ s₃ (omega arith) (omega arith) (omega arith) kl
-      (wrote-then headMark headMark headWord k new now s₁ s₂ (omega arith) (omega arith) (omega arith) kl first second) third) fourth
+      let wide : movingWords ≤ length now = omega (arith, g .same-length) in
+      wrote-more headMark choiceRow k _ new now _ (omega arith) (omega arith) kl wide
+      (wrote-more headMark headWord k _ new now _ (omega arith) (omega arith) kl wide
+      (wrote-more headMark headMark k _ new now _ (omega arith) (omega arith) kl wide
+      (wrote-one headMark k (reg now linkMark k) new now (omega arith) kl wide mark)
+      (ap₂ nextHeadWord mark cell))
+      (λ i. nextChoice (k % 5) (latch i) (mark i) (cell i)))
+      (λ i. nextLatch (k % 5) (latch i) (mark i) (cell i))
 
   pub heads-more : (next : List ℕ) → next ≡ headStepped now k → Staged headMark latchRow (k + 1) (nextInRow s []) s next
   heads-more next e =

@@ -9,17 +9,14 @@ use Rattle.words.specs.Words.{word, pick}
 use Rattle.words.proofs.TestLaws.{yes=, no=}
 use Rattle.network.specs.Registers.{put, rowCount, rowWords, movingWords, outMark, outWord}
 use Rattle.network.specs.Inner.Stages.{stage, outFrom}
-use Rattle.network.proofs.PutLaws.{put-length}
-use Rattle.network.proofs.FillLaws.{Wrote, wrote-one, wrote-then, Staged, stage-more, staged-is}
+use Rattle.network.proofs.FillLaws.{Wrote, wrote-one, wrote-more, Staged, stage-more, staged-is}
 
 -- a mark, and the word in the row behind it
 pub pair-wrote : (row k mark w : ℕ) (new : ℕ → ℕ) (s s₁ s₂ : List ℕ) → row + 1 < rowCount → k < rowWords → movingWords ≤ length s
     → mark ≡ new row → w ≡ new (row + 1) → s₁ ≡ put s row k mark → s₂ ≡ put s₁ (row + 1) k w → Wrote row (row + 1) k new s s₂
 pair-wrote row k mark w new s s₁ s₂ rl kl long a b p q =
-    let long₁ : movingWords ≤ length s₁ = omega (arith, ap length p, put-length s row k mark) in
     let first = subst (Wrote row row k new s) (sym p) (wrote-one row k mark new s (omega arith) kl long a) in
-    let second = subst (Wrote (row + 1) (row + 1) k new s₁) (sym q) (wrote-one (row + 1) k w new s₁ (omega arith) kl long₁ b) in
-    wrote-then row row (row + 1) k new s s₁ s₂ (omega arith) (omega arith) (omega arith) kl first second
+    subst (Wrote row (row + 1) k new s) (sym q) (wrote-more row row k w new s s₁ (omega arith) rl kl long first b)
 
 pub out-mark : (marks cells : List ℕ) (k : ℕ) → word marks k ≡ outFrom marks cells outMark k
 unfolding outFrom

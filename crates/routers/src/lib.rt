@@ -18,7 +18,7 @@ use network::put_reg;
 use network::reg;
 
 // The nodes of the largest grid. No sheet has more, nor more places than a row has words; each loop below returns at once where there
-// were more, so that a compiler knows every place to be in its row, and leaves out the test at each access.
+// were more, so that a compiler can know every place to be in its row, and leave out the test at each access.
 const MOST_NODES: u32 = 16;
 
 // The word in link register k is payload, and the latch holds no choice for it.

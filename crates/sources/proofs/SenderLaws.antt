@@ -21,7 +21,7 @@ use Rattle.network.specs.Inner.Paired.{Paired}
 use Rattle.network.specs.Inner.Stages.{stage}
 use Rattle.network.proofs.RowCases.{in-rows, _besides_, no-more}
 use Rattle.network.proofs.RowLaws.{sender-same}
-use Rattle.network.proofs.FillLaws.{Wrote, wrote-one, wrote-then, wrote-nothing, Staged, stage-start, stage-more, still, beside, staged-sheet, staged-is}
+use Rattle.network.proofs.FillLaws.{Wrote, wrote-one, wrote-more, wrote-stays, wrote-nothing, Staged, stage-start, stage-more, still, beside, staged-sheet, staged-is}
 use Rattle.sources.specs.Inner.Slots.{slotTable}
 use Rattle.sources.specs.Inner.Steps.{Sending, Steppable, sendWord, senderPut}
 use Rattle.sources.proofs.SourceLaws.{opening, open-no, open-rest, none-to-go, moves-open, moves-on}
@@ -128,47 +128,25 @@ module _ (s : List ℕ) (long : movingWords ≤ length s) (c : ℕ) (few : c < r
 
   wrote-opens : After opens → Wrote leftRow toGoRow c new s (put s toGoRow c (min (slotIn s c - 1) (reg s leftRow c)))
   wrote-opens g =
-      wrote-then leftRow kindRow toGoRow c new s s _ (omega arith) (omega arith) (omega arith) few
+      wrote-more leftRow kindRow c _ new s s (omega arith) (omega arith) few long
       (wrote-nothing leftRow kindRow c new s
       (in-rows (λ (row : ℕ). new row ≡ reg s row c) leftRow kindRow
       (g .left-is besides g .read-is besides g .write-is besides g .kind-is besides no-more)))
-      (wrote-one toGoRow c _ new s (omega arith) few long (sym (g .going-is)))
+      (sym (g .going-is))
 
+  -- row by row: three are set, the kind stays, the last is set
   wrote-sends : After sends → Wrote leftRow toGoRow c new s (sendWord s c)
   unfolding sendWord
   wrote-sends g =
-      wrote-then leftRow kindRow toGoRow c new s s₃ _ (omega arith) (omega arith) (omega arith) few kinds
-      (wrote-one toGoRow c _ new s₃ (omega arith) few (omega (arith, three .same-length)) (sym (g .going-is)))
-    where
-      s₁ : List ℕ
-      s₁ = put s leftRow c (reg s leftRow c - 1)
-
-      s₂ : List ℕ
-      s₂ = put s₁ readRow c (reg s readRow c + 1)
-
-      s₃ : List ℕ
-      s₃ = put s₂ writeRow c (reg s writeRow c + 1)
-
-      one : Wrote leftRow leftRow c new s s₁
-      one = wrote-one leftRow c _ new s (omega arith) few long (sym (g .left-is))
-
-      two : Wrote leftRow readRow c new s s₂
-      two =
-          wrote-then leftRow leftRow readRow c new s s₁ s₂ (omega arith) (omega arith) (omega arith) few one
-          (wrote-one readRow c _ new s₁ (omega arith) few (omega (arith, one .same-length)) (sym (g .read-is)))
-
-      three : Wrote leftRow writeRow c new s s₃
-      three =
-          wrote-then leftRow readRow writeRow c new s s₂ s₃ (omega arith) (omega arith) (omega arith) few two
-          (wrote-one writeRow c _ new s₂ (omega arith) few (omega (arith, two .same-length)) (sym (g .write-is)))
-
-      kind-stays : reg s₃ kindRow c ≡ reg s kindRow c
-      kind-stays = three .elsewhere kindRow c (omega arith) few (λ x y z. omega arith)
-
-      kinds : Wrote leftRow kindRow c new s s₃
-      kinds =
-          wrote-then leftRow writeRow kindRow c new s s₃ s₃ (omega arith) (omega arith) (omega arith) few three
-          (wrote-nothing kindRow kindRow c new s₃ (λ row x y. subst (λ (r : ℕ). new r ≡ reg s₃ r c) (let h : kindRow ≡ row = omega arith in h) (g .kind-is ∙ sym kind-stays)))
+      wrote-more leftRow kindRow c _ new s _ (omega arith) (omega arith) few long
+      (wrote-stays leftRow writeRow c new s _ (omega arith) (omega arith) few
+      (wrote-more leftRow readRow c _ new s _ (omega arith) (omega arith) few long
+      (wrote-more leftRow leftRow c _ new s _ (omega arith) (omega arith) few long
+      (wrote-one leftRow c _ new s (omega arith) few long (sym (g .left-is)))
+      (sym (g .read-is)))
+      (sym (g .write-is)))
+      (g .kind-is))
+      (sym (g .going-is))
 
   wrote-by : (m : Move) → After m → Wrote leftRow toGoRow c new s (senderPut m s c)
   unfolding senderPut

@@ -201,7 +201,8 @@ module _ {answer : Path} {cols rows : ℕ} {wires delays : List ℕ} {node entry
         let less : 8 - (hops + 1) ≡ 8 - hops - 1 = omega arith in
         rw (less, e, w)
         (written-on wires delays (hops + 1) hops (record { wire = side node (outputOf entry (firstCode rest)); delay = delay })
-        (follow (8 - hops - 1) cols rows (neighbourOf cols rows node (outputOf entry (firstCode rest))) (oppositeOf (outputOf entry (firstCode rest))) (delay + hopCycles (outputOf entry (firstCode rest))) (laterCodes rest))
+        (follow (8 - hops - 1) cols rows (neighbourOf cols rows node (outputOf entry (firstCode rest)))
+        (oppositeOf (outputOf entry (firstCode rest))) (delay + hopCycles (outputOf entry (firstCode rest))) (laterCodes rest))
         ∙ sym (ap (written wires delays (hops + 1) hops) (follow-on cols rows node entry delay rest (8 - hops) (omega arith) (λ q. ne (w ∙ q))))
         ∙ g .rest-leads);
   }

@@ -13,7 +13,11 @@ returns-2 : tie.Need-returns-2
 returns-2 c = ap (λ (n : ℕ). c .before .args .node % n) (sym (c .match .keys2))
 
 returns-3 : tie.Need-returns-3
-returns-3 c = let p = c .before .pre in let m = c .match .rest in let e : _≡_ {A = ℕ} 4 (c .before .args .cols) = omega (arith, p .cols-low, p .cols-high, m .0 .1, m .1) in ap (λ (n : ℕ). c .before .args .node % n) e
+returns-3 c =
+    let p = c .before .pre in
+    let m = c .match .rest in
+    let e : _≡_ {A = ℕ} 4 (c .before .args .cols) = omega (arith, p .cols-low, p .cols-high, m .0 .1, m .1) in
+    ap (λ (n : ℕ). c .before .args .node % n) e
 
 pub column-spec : {M : Type 1} → statement M
 column-spec = tie.close (tie.spec returns returns-2 returns-3)

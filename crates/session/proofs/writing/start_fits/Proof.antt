@@ -38,7 +38,8 @@ returns-2 c =
     let at-at = at-unless-data .before .before .before in
     let at-sheet-of = at-at .before in
     and-on (yes≤ (omega arith)) (and-on (sym (at-unless-data .unless-data .ensures) ∙ at-if2 .if2 .taken)
-    (and-on (sym (reads-in _ _ _ _ (at-at .at .ensures) (at-sheet-of .sheet-of .ensures) (at-lies-in .lies-in .ensures)) ∙ c .before .if3 .taken) (writes-in _ _ _ _ (at-at .at .ensures) (at-sheet-of .sheet-of .ensures) (c .lies-in2 .ensures))))
+    (and-on (sym (reads-in _ _ _ _ (at-at .at .ensures) (at-sheet-of .sheet-of .ensures) (at-lies-in .lies-in .ensures)) ∙ c .before .if3 .taken)
+    (writes-in _ _ _ _ (at-at .at .ensures) (at-sheet-of .sheet-of .ensures) (c .lies-in2 .ensures))))
 
 returns-3 : tie.Need-returns-3
 unfolding startFits _=?_
