@@ -9,7 +9,7 @@ use Rattle.torus.specs.Torus.{neighbourOf, oppositeOf}
 use Rattle.torus.specs.Route.{outputOf}
 use Rattle.sheet.specs.Sheet.{columns, rows, memoryWords, circuits, nodes, period}
 use Rattle.sheet.specs.Slots.{slotLength, slotRoute, sourceOf}
-use Rattle.network.specs.View.{Cell, empty, header, payload, sourceInput, memoryOutput, Choice, noOutput, toOutput, Routers, Sender, Receiver}
+use Rattle.network.specs.View.{Cell, empty, header, payload, sourceInput, ports, memoryOutput, Choice, noOutput, toOutput, Routers, Sender, Receiver}
 use Rattle.network.specs.View.{Landing, nothing, landed, Order, noOrder, pending, View}
 
 -- the header stage. The output that a header asks for, by its route's first code
@@ -59,7 +59,7 @@ stepRouters z wire r = record {
   head = λ node input. advance (r .link node input);
   choice = λ node input. choose input (r .latch node input) (r .link node input);
   latch = λ node input. hold input (r .latch node input) (r .link node input);
-  out = λ node output. gather 5 (asks r node output);
+  out = λ node output. gather ports (asks r node output);
 }
 
 -- the senders. In a cycle a circuit's sender opens a packet where a slot begins and words are left; else it sends its packet's next word, or
@@ -182,7 +182,7 @@ isNone (toOutput chosen) = false
 
 -- two inputs ask for one output
 unfoldable pub collides : View → ℕ → ℕ → Bool
-collides v node output = 2 ≤? countOf 5 (λ input. isFull (asks (v .routers) node output input))
+collides v node output = 2 ≤? countOf ports (λ input. isFull (asks (v .routers) node output input))
 
 -- two circuits of a node put a word on its source wire, or one opens a packet while it still sends another
 unfoldable pub crowds : List ℕ → View → ℕ → Bool
@@ -205,5 +205,5 @@ strays z v node =
 
 unfoldable pub faulty : List ℕ → View → Bool
 faulty z v =
-    any (nodes z) (λ node. any 5 (collides v node) or any 5 (headless v node) or crowds z v node or strays z v node)
+    any (nodes z) (λ node. any ports (collides v node) or any ports (headless v node) or crowds z v node or strays z v node)
     or any (circuits z) (reopens z v)

@@ -8,6 +8,7 @@ use lib.ListN.{length, drop}
 use Rattle.words.specs.Numbers.{unless}
 use Rattle.sheet.specs.Sheet.{circuits, nodes}
 use Rattle.sheet.specs.Rules.{verdict}
+use Rattle.network.specs.View.{ports}
 use Rattle.network.specs.Cycle.{tick, faulty}
 use Rattle.network.specs.Registers.{reg, sheetIn, room, rowWords, movingWords, stateWords, clockRow, clockWords, linkMark, outWord, receiveMark, landingWord, leftRow, toGoRow}
 use Rattle.network.specs.Seen.{view, Agree}
@@ -36,7 +37,7 @@ pub record OneCycle (s m : List ℕ) : Type 0 where
   pub behind : drop movingWords (nextState s m) ≡ drop movingWords s
   -- and in the rows what lies behind the clock's registers, and each place for which the sheet has no node or circuit
   pub clock-rest : (k : ℕ) → clockWords ≤ k → k < rowWords → reg (nextState s m) clockRow k ≡ reg s clockRow k
-  pub router-rest : (row k : ℕ) → linkMark ≤ row → row ≤ outWord → nodes (sheetIn s) * 5 ≤ k → k < rowWords
+  pub router-rest : (row k : ℕ) → linkMark ≤ row → row ≤ outWord → nodes (sheetIn s) * ports ≤ k → k < rowWords
       → reg (nextState s m) row k ≡ reg s row k
   pub node-rest : (row k : ℕ) → receiveMark ≤ row → row ≤ landingWord → nodes (sheetIn s) ≤ k → k < rowWords
       → reg (nextState s m) row k ≡ reg s row k

@@ -6,6 +6,7 @@ use lib.ListN.{take, drop, set}
 use Rattle.words.specs.Words.{word}
 use Rattle.sheet.specs.Sheet.{memoryWords}
 pub use Rattle.sheet.specs.Sheet.{sheetWords}
+use Rattle.network.specs.View.{ports}
 
 abbrev pub rowWords : ℕ
 rowWords = 80
@@ -112,7 +113,7 @@ toGoRow = 20
 
 -- the place of a router's register, from its node and input or output
 abbrev pub at : ℕ → ℕ → ℕ
-at node k = node * 5 + k
+at node k = node * ports + k
 
 -- register k of a row
 unfoldable pub reg : List ℕ → ℕ → ℕ → ℕ

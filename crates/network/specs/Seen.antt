@@ -5,7 +5,7 @@ use mathlib.Core.List.{List}
 use mathlib.Core.Path.{_≡_}
 use Rattle.words.specs.Words.{word}
 use Rattle.sheet.specs.Sheet.{memoryWords, circuits, nodes}
-use Rattle.network.specs.View.{Sender, Cell, empty, header, payload, Choice, noOutput, toOutput, Landing, nothing, landed, Order, noOrder, pending, View}
+use Rattle.network.specs.View.{ports, Sender, Cell, empty, header, payload, Choice, noOutput, toOutput, Landing, nothing, landed, Order, noOrder, pending, View}
 use Rattle.network.specs.Registers.{at, reg, room, clockRow, cyclePlace, numberPlace, inForcePlace, orderMarkPlace, orderSchedulePlace}
 use Rattle.network.specs.Registers.{orderPeriodPlace, linkMark, linkWord, headMark, headWord, choiceRow, latchRow, outMark, outWord}
 use Rattle.network.specs.Registers.{receiveMark, receiveKind, receiveAddress, landingMark, landingKind, landingAddress, landingWord, leftRow}
@@ -72,11 +72,11 @@ view s m = record {
 
 -- two views agree on all registers, senders and memory words that a sheet has
 pub record Agree (z : List ℕ) (a b : View) : Type 0 where
-  pub link : (node input : ℕ) → node < nodes z → input < 5 → a .routers .link node input ≡ b .routers .link node input
-  pub head : (node input : ℕ) → node < nodes z → input < 5 → a .routers .head node input ≡ b .routers .head node input
-  pub choice : (node input : ℕ) → node < nodes z → input < 5 → a .routers .choice node input ≡ b .routers .choice node input
-  pub latch : (node input : ℕ) → node < nodes z → input < 5 → a .routers .latch node input ≡ b .routers .latch node input
-  pub out : (node o : ℕ) → node < nodes z → o < 5 → a .routers .out node o ≡ b .routers .out node o
+  pub link : (node input : ℕ) → node < nodes z → input < ports → a .routers .link node input ≡ b .routers .link node input
+  pub head : (node input : ℕ) → node < nodes z → input < ports → a .routers .head node input ≡ b .routers .head node input
+  pub choice : (node input : ℕ) → node < nodes z → input < ports → a .routers .choice node input ≡ b .routers .choice node input
+  pub latch : (node input : ℕ) → node < nodes z → input < ports → a .routers .latch node input ≡ b .routers .latch node input
+  pub out : (node o : ℕ) → node < nodes z → o < ports → a .routers .out node o ≡ b .routers .out node o
   pub memory : (node address : ℕ) → node < nodes z → address < memoryWords z → a .memory node address ≡ b .memory node address
   pub cycle : a .cycle ≡ b .cycle
   pub periodNumber : a .periodNumber ≡ b .periodNumber

@@ -15,6 +15,10 @@ pub data Cell : Type 0 where
 abbrev pub sourceInput : ℕ
 sourceInput = 4
 
+-- how many inputs a router has, and how many outputs
+abbrev pub ports : ℕ
+ports = 5
+
 -- what is chosen for a word: no output, or one
 pub data Choice : Type 0 where
   noOutput : Choice

@@ -8,6 +8,7 @@ use Rattle.packet.specs.Header.{dataKind, interruptKind, kindOf}
 use Rattle.sheet.specs.declared.circuits.Region.{Region}
 use Rattle.sheet.specs.Sheet.{circuits, schedules, nodes, circuitAt, period}
 use Rattle.sheet.specs.Rules.{verdict}
+use Rattle.network.specs.View.{ports}
 use Rattle.network.specs.Registers.{reg, sheetLength, sheetIn, sheetWords, clockRow, cyclePlace, inForcePlace, orderMarkPlace, orderSchedulePlace}
 use Rattle.network.specs.Registers.{linkMark, linkWord, headMark, headWord, choiceRow, latchRow, outMark, outWord, receiveMark, receiveKind}
 use Rattle.network.specs.Registers.{landingMark, leftRow, readRow, writeRow, kindRow, toGoRow}
@@ -72,8 +73,8 @@ routerSound s k =
     cellSound (reg s linkMark k) (reg s linkWord k)
     and cellSound (reg s headMark k) (reg s headWord k)
     and cellSound (reg s outMark k) (reg s outWord k)
-    and (reg s headMark k =? 0 or reg s choiceRow k ≤? 5)
-    and reg s latchRow k ≤? 5
+    and (reg s headMark k =? 0 or reg s choiceRow k ≤? ports)
+    and reg s latchRow k ≤? ports
 
 -- a receive unit's mark is a known one, and no arriving packet has kind 1 or 3; a stored landing's mark is a known one
 unfoldable pub nodeSound : List ℕ → ℕ → Bool
@@ -88,5 +89,5 @@ sound s =
     and clockSound s
     and orderSound s
     and all (circuits (sheetIn s)) (transferSound s)
-    and all (nodes (sheetIn s) * 5) (routerSound s)
+    and all (nodes (sheetIn s) * ports) (routerSound s)
     and all (nodes (sheetIn s)) (nodeSound s)

@@ -12,7 +12,7 @@ use Rattle.words.specs.Words.{pick}
 use Rattle.words.proofs.TestLaws.{is=}
 use Rattle.sheet.specs.Sheet.{memoryWords, circuits, schedules, nodes, circuitAt}
 use Rattle.sheet.specs.Rules.{verdict}
-use Rattle.network.specs.View.{View, empty, Order, noOrder, pending}
+use Rattle.network.specs.View.{View, empty, Order, noOrder, pending, ports}
 use Rattle.network.specs.Cycle.{tick, faulty}
 use Rattle.network.specs.Registers.{reg, sheetIn, stateWords, clockRow, cyclePlace, numberPlace, inForcePlace, orderMarkPlace, orderSchedulePlace, rowCount, rowWords}
 use Rattle.network.specs.Registers.{orderPeriodPlace, linkMark, linkWord, headMark, headWord, choiceRow, latchRow, outMark, outWord, receiveMark}
@@ -30,7 +30,6 @@ use Rattle.soundness.proofs.SoundLaws.{TransferParts, SoundParts, sound-parts}
 use Rattle.session.proofs.WritingLaws.{after-done, after-refused}
 use Rattle.session.proofs.RegisterLaws.{loaded-sheet, loaded-register, started-other, ordered-other, ordered-mark, ordered-schedule, ordered-period}
 use Rattle.session.proofs.KeptLaws.{sound-next, sound-kept, state-length-kept, memory-length-kept, sheet-same}
-use Rattle.isolation.proofs.Flights.Flight.{ports}
 use Rattle.isolation.proofs.Flights.Trajectory.{OrderInside, Between, between-agree, between-then, Trajectory}
 use Rattle.isolation.specs.Sessions.{LoadsRefused, Session, afterLoad}
 
