@@ -50,10 +50,10 @@ abbrev pub wordAfter : Item → ℕ → ℕ → ℕ
 wordAfter none address w = w
 wordAfter (item kind at new) address w = pick (at =? address) new w
 
--- in cycle t a word leaves: some slot began in a cycle s before it, whose packet has min (length − 1) (owed words) payload words, and t
--- is one of the cycles s + 1 to s + that number
+-- in cycle t a word leaves: some slot began in a cycle before it, whose packet has min (length − 1) (owed words) payload words, and t is
+-- one of as many cycles behind that one
 unfoldable pub leavesIn : Reckoned → ℕ → Bool
-leavesIn r t = any t (λ s. t ≤? s + r .sent .packetWords s)
+leavesIn r t = any t (λ begun. t ≤? begun + r .sent .packetWords begun)
 
 -- the next word of the transfer, with the word that its read address holds as the cycle begins
 abbrev pub nextItem : Reckoned → Item

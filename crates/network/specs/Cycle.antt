@@ -70,31 +70,31 @@ pub data Move : Type 0 where
   sends : Move
 
 abbrev pub move : ℕ → Sender → Move
-move slot s = pick (1 ≤? slot and 1 ≤? s .left) opens (pick (1 ≤? s .toGo) sends rests)
+move slot sender = pick (1 ≤? slot and 1 ≤? sender .left) opens (pick (1 ≤? sender .toGo) sends rests)
 
 -- a packet has min (length − 1) (words left) payload words, fixed in its header's cycle
 abbrev pub stepSender : Move → ℕ → Sender → Sender
-stepSender rests slot s = s
-stepSender opens slot s = record {
-  left = s .left;
-  readAddress = s .readAddress;
-  writeAddress = s .writeAddress;
-  kind = s .kind;
-  toGo = min (slot - 1) (s .left);
+stepSender rests slot sender = sender
+stepSender opens slot sender = record {
+  left = sender .left;
+  readAddress = sender .readAddress;
+  writeAddress = sender .writeAddress;
+  kind = sender .kind;
+  toGo = min (slot - 1) (sender .left);
 }
-stepSender sends slot s = record {
-  left = s .left - 1;
-  readAddress = s .readAddress + 1;
-  writeAddress = s .writeAddress + 1;
-  kind = s .kind;
-  toGo = s .toGo - 1;
+stepSender sends slot sender = record {
+  left = sender .left - 1;
+  readAddress = sender .readAddress + 1;
+  writeAddress = sender .writeAddress + 1;
+  kind = sender .kind;
+  toGo = sender .toGo - 1;
 }
 
 -- what a sender puts on its source's wire, given the header word and the memory word of this cycle
 abbrev pub sentCell : Move → ℕ → ℕ → Sender → Cell
-sentCell rests head word s = empty
-sentCell opens head word s = header head
-sentCell sends head word s = payload word (s .toGo =? 1)
+sentCell rests head word sender = empty
+sentCell opens head word sender = header head
+sentCell sends head word sender = payload word (sender .toGo =? 1)
 
 module _ (z : List ℕ) (v : View) where
   abbrev pub slotNow : ℕ → ℕ

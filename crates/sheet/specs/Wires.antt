@@ -13,13 +13,13 @@ pub record WireCycle : Type 0 where
 
 unfoldable pub sameWire : Wire → Wire → Bool
 sameWire (source a) (source b) = a =? b
-sameWire (source a) (side b t) = false
+sameWire (source a) (side b j) = false
 sameWire (source a) (memory b) = false
-sameWire (side a s) (source b) = false
-sameWire (side a s) (side b t) = a =? b and s =? t
-sameWire (side a s) (memory b) = false
+sameWire (side a i) (source b) = false
+sameWire (side a i) (side b j) = a =? b and i =? j
+sameWire (side a i) (memory b) = false
 sameWire (memory a) (source b) = false
-sameWire (memory a) (side b t) = false
+sameWire (memory a) (side b j) = false
 sameWire (memory a) (memory b) = a =? b
 
 unfoldable pub same : WireCycle → WireCycle → Bool

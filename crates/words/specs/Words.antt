@@ -6,7 +6,7 @@ use lib.ListN.{getD}
 
 -- word k of a list of words, 0 past its end
 abbrev pub word : List ℕ → ℕ → ℕ
-word s k = getD s k 0
+word list k = getD list k 0
 
 -- a where the test holds, else b
 abbrev pub pick : {A : Type 0} → Bool → A → A → A
