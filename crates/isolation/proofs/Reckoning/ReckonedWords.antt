@@ -210,10 +210,10 @@ reckon-append z circuit [] fs k r = refl
 reckon-append z circuit (e ∷ es) fs k r = reckon-append z circuit es fs (calendarEvent z e k) (reckonEvent z circuit e k r)
 
 -- what is reckoned to have landed last stays where what left stays
-landed-same : (z : List ℕ) (circuit : ℕ) (r q : Reckoned) (n : ℕ) → ((t : ℕ) → t < n → q .sent .leaving t ≡ r .sent .leaving t)
+last-landed-same : (z : List ℕ) (circuit : ℕ) (r q : Reckoned) (n : ℕ) → ((t : ℕ) → t < n → q .sent .leaving t ≡ r .sent .leaving t)
     → lastReckoned z circuit q n ≡ lastReckoned z circuit r n
 unfolding reckonedLanding
-landed-same z circuit r q n h = go (decLt 0 n) (decLt (n - 1) (flightCycles z circuit))
+last-landed-same z circuit r q n h = go (decLt 0 n) (decLt (n - 1) (flightCycles z circuit))
   where
     go : Dec (0 < n) → Dec (n - 1 < flightCycles z circuit) → lastReckoned z circuit q n ≡ lastReckoned z circuit r n
     go (no l) d = rw (no≤ {a = 1} {b = n} (omega (arith, l))) refl
@@ -383,7 +383,7 @@ module _ (z : List ℕ) (passes : verdict z ≡ 0) (circuit : ℕ) (inside : cir
                 (subst (λ (y : Lent). Now z circuit y (k .cycles) (reckonAll z circuit (eventOf x) k r)) (sym (after-done x w e))
                 (does-now z circuit inside w f (k .cycles) k r (a .now) x (load-no e (isLoad x) refl) c e));
             last =
-                kept ∙ sym (landed-same z circuit r (reckonAll z circuit (eventOf x) k r) (k .cycles) (λ t l. leaving-same z circuit x k r c t))
+                kept ∙ sym (last-landed-same z circuit r (reckonAll z circuit (eventOf x) k r) (k .cycles) (λ t l. leaving-same z circuit x k r c t))
                 ∙ ap (lastReckoned z circuit (reckonAll z circuit (eventOf x) k r)) (sym same);
           }
 
