@@ -8,10 +8,11 @@ use std::path::{Path, PathBuf};
 use std::process::ExitCode;
 
 /// Statements that stand for themselves: proofs fill them.
-const STATEMENTS: [&str; 4] = ["Demand3", "OneMachine", "TableHolds", "FourKinds"];
+const STATEMENTS: [&str; 5] = ["Demand3", "OneMachine", "TableHolds", "FourKinds", "DistanceFormula"];
 
-/// What the book may name of the inner definitions: the cycle in words, of which OneMachine says that it is the article's.
-const INNER_NAMES: [&str; 4] = ["faultyIn", "nextState", "nextMemory", "cycleFault"];
+/// What the book may name of the inner definitions: the cycle in words, of which OneMachine says that it is the article's; and a node of
+/// a grid, of which DistanceFormula speaks.
+const INNER_NAMES: [&str; 5] = ["faultyIn", "nextState", "nextMemory", "cycleFault", "InGrid"];
 
 struct File {
     path: String,

@@ -13,7 +13,7 @@ mod second {
     pub mod sheets;
 }
 
-use second::sheets::{largest, sheet_a, Case};
+use second::sheets::{largest, sheet_a, Case, Circuit, Entry, Plan, Schedule};
 use second::{checker, exports, near_misses};
 use std::collections::BTreeMap;
 use std::io::Write;
@@ -30,6 +30,10 @@ const MOST_SHEET_WORDS: u32 = 8_597;
 const DIFFERENCES_SHOWN: usize = 10;
 const SCHEDULES_ASKED: [u32; 10] = [0, 1, 2, 3, 4, 5, 6, 7, 8, u32::MAX];
 const FIELDS_ASKED: [u32; 5] = [0, 1, 2, 3, u32::MAX];
+/// Ordered pairs of different nodes, over the nine grids.
+const PAIRS_OF_NODES: usize = 760;
+/// Routes of up to five codes: four hops, the most that a distance asks for, and the way out.
+const ROUTES_TRIED: u32 = 1 << 10;
 
 fn our_verdict(sheet: &[u32]) -> u32 {
     // The pointer and the length are those of a live slice.
@@ -74,6 +78,23 @@ fn main() -> ExitCode {
         }
     }
 
+    let mut pairs = 0;
+    let mut routes_by_number = [0; 12];
+    for (columns, rows) in (2..=4).flat_map(|columns| (2..=4).map(move |rows| (columns, rows))) {
+        for (source, destination) in pairs_of_nodes(columns * rows) {
+            pairs += 1;
+            let numbers = routes_agree(columns, rows, source, destination, &mut differences);
+            for (all, found) in routes_by_number.iter_mut().zip(numbers) {
+                *all += found;
+            }
+            if numbers[0] == 0 {
+                differences.push(format!("grid {columns} x {rows}: no route leads from node {source} to {destination}"));
+            }
+        }
+    }
+    let verdicts: usize = routes_by_number.iter().sum();
+    passed += verdicts;
+
     let inputs = inputs(&cases, &numbers);
     let mut inputs_by_line: Vec<(String, usize)> = Vec::new();
     for (name, input) in &inputs {
@@ -99,6 +120,11 @@ fn main() -> ExitCode {
         println!("{number:>6}  {count:>6}");
     }
     println!(" total  {:>6}", cases.len());
+    println!("number  routes between two nodes");
+    for (number, count) in routes_by_number.iter().enumerate().filter(|&(_, &count)| count > 0) {
+        println!("{number:>6}  {count:>6}");
+    }
+    println!(" total  {verdicts:>6}");
     println!("number  entries asked for");
     for (number, count) in &entries_by_number {
         println!("{number:>6}  {count:>6}");
@@ -116,6 +142,10 @@ fn main() -> ExitCode {
     let mut enough = true;
     if cases.len() < SHEETS_REQUIRED || inputs.len() < INPUTS_REQUIRED {
         println!("too few sheets or inputs were compared");
+        enough = false;
+    }
+    if pairs != PAIRS_OF_NODES || verdicts != PAIRS_OF_NODES * ROUTES_TRIED as usize {
+        println!("{verdicts} routes between {pairs} pairs of nodes agree, not all");
         enough = false;
     }
     for (number, &count) in sheets_by_number.iter().enumerate() {
@@ -136,6 +166,40 @@ fn main() -> ExitCode {
     } else {
         ExitCode::FAILURE
     }
+}
+
+fn pairs_of_nodes(nodes: u32) -> impl Iterator<Item = (u32, u32)> {
+    (0..nodes).flat_map(move |from| (0..nodes).map(move |to| (from, to))).filter(|(from, to)| from != to)
+}
+
+/// Judges a sheet of one circuit and one entry for each route, and counts the verdicts that agree by their number. The entry ends as
+/// late as number 10 allows at the distance that the second checker searches for, so that a distance of ours that were one less would
+/// show as a 9, and one that were more as a 10.
+fn routes_agree(columns: u32, rows: u32, source: u32, destination: u32, differences: &mut Vec<String>) -> [usize; 12] {
+    let (period, length) = (12, 2);
+    let circuit =
+        Circuit { source, destination, read_offset: 0, read_length: 1, receive_offset: 0, receive_length: 1 };
+    let mut plan = Plan {
+        columns,
+        rows,
+        memory_words: 1,
+        circuits: vec![circuit],
+        schedules: vec![Schedule { period, entries: vec![Entry { offset: 0, length, circuit: 0, route: 0 }] }],
+    };
+    let sheet = checker::read(&plan.words()).expect("a sheet of one circuit and one entry");
+    let steps = checker::distance(&sheet, source.into(), destination.into()) as u32;
+    let mut numbers = [0; 12];
+    for route in 0..ROUTES_TRIED {
+        plan.schedules[0].entries[0] = Entry { offset: period + 3 - length - 3 * steps, length, circuit: 0, route };
+        let words = plan.words();
+        let (ours, second) = (our_verdict(&words), checker::verdict(&words));
+        if ours == second {
+            numbers[second as usize] += 1;
+        } else {
+            differences.push(format!("route {route}: ours {ours}, second checker {second}\n  words {words:?}"));
+        }
+    }
+    numbers
 }
 
 /// The number beside one schedule's entries, where every field of ours is the second

@@ -26,7 +26,7 @@ fn circuit_distance(z: &[u32], k: u32) -> u32
     )
 }
 
-// The distances of all circuits, so that each is read once from the table. The checker calls it and the rules in their order,
+// The distances of all circuits, so that each is worked out once. The checker calls it and the rules in their order,
 // and so meets the requires, here and below.
 pub fn circuit_distances(z: &[u32]) -> [u32; 64]
     requires { ⌜ (Framed (now z)) × (rule4 (now z) ≡ true) ⌝ }

@@ -1,67 +1,76 @@
--- The table of distances is right at every pair of nodes of every grid: a test that antt computes, entry by entry.
+-- The distance of two nodes is the shorter way round in columns plus the shorter way round in rows: a test that antt computes at every
+-- pair of nodes of every grid. And the shorter way round as the code has it, which is arithmetic on a ring of any size.
 -- Assumes nothing.
-use Prim.Native.Nat.{ℕ, _+_, _-_, _*_, _/_, _%_, _^_, _<_}
-use mathlib.Core.Bool.{Bool, true, false}
-use mathlib.Core.Path.{_≡_, refl, subst}
+use Prim.Native.Nat.{ℕ, _+_, _-_, _*_, _%_, _<_, _≤_, min}
+use mathlib.Core.Bool.{Bool}
+use mathlib.Core.Path.{_≡_, sym, ap, ap₂, subst, _∙_}
 use native.Mathlib.Omega.{arith}
-use borrow.Author.Tests.{lt-ltb}
-use lib.Dec.{T, eqb, ltb, eqb→eq}
-use lib.ListN.{length, getD}
-use Rattle.words.proofs.Below.{every, every-at, everyEntry, everyEntry-at}
+use native.Mathlib.Nat.{le-of-suc-le-suc, mul-comm, mod-lt, mod-eq-of-lt, add-mod-right, div-lt-iff-lt-mul, min-eq-left, min-eq-right}
+use lib.Dec.{T, eqb, ltb, eqb→eq, ltb→lt}
+use Rattle.words.proofs.Below.{every, every-at}
 use Rattle.words.specs.Words.{leastFrom}
 use Rattle.words.specs.Tests.{_=?_, _or_, any}
-use Rattle.torus.specs.Torus.{neighbourOf, walks, distanceOf}
+use Rattle.torus.specs.Torus.{rowOf, columnOf, neighbourOf, walks, distanceOf, shorterWay, roundDistance, DistanceFormula}
 use Rattle.torus.specs.Inner.Grid.{InGrid}
-use Rattle.torus.proofs.NeighbourLaws.{bounds}
-use Rattle.torus.proofs.DistanceTable.{distances}
+use Rattle.torus.proofs.NeighbourLaws.{everyNode, at-node}
 
--- digit k of a word, in base 16 from the right
-abbrev pub digit : ℕ → ℕ → ℕ
-digit x k = x / 2 ^ (4 * k) % 16
+-- the test passes at every pair of nodes of every grid
+abbrev everyPair : (ℕ → ℕ → ℕ → ℕ → Bool) → Bool
+everyPair test = everyNode (λ c r from. every (c * r) (test c r from))
 
--- what the table has for two nodes of a grid is their distance; its other digits are free
-abbrev rightWhere : Bool → Bool → ℕ → ℕ → ℕ → ℕ → ℕ → Bool
-rightWhere a b cols rows from to x =
-    elim a [ true ↦ elim b [ true ↦ eqb (digit x to) (distanceOf cols rows from to) | false ↦ true ] | false ↦ true ]
+-- so it passes at each of them
+at-pair : (test : ℕ → ℕ → ℕ → ℕ → Bool) → T (everyPair test)
+    → (cols rows from to : ℕ) → InGrid cols rows from → InGrid cols rows to → T (test cols rows from to)
+at-pair test t cols rows from to g h =
+    every-at (cols * rows) (test cols rows from)
+    (at-node (λ c r n. every (c * r) (test c r n)) t cols rows from g) to (h .inside)
 
-abbrev right : ℕ → ℕ → ℕ → ℕ → ℕ → Bool
-right cols rows from x to = rightWhere (ltb from (cols * rows)) (ltb to (cols * rows)) cols rows from to x
+-- the distance of two nodes of a grid by the formula
+pub distance-formula : DistanceFormula
+unfolding distanceOf roundDistance shorterWay walks neighbourOf leastFrom _=?_ _or_ any
+distance-formula cols rows from to g h =
+    eqb→eq _ _ (at-pair (λ c r n m. eqb (distanceOf c r n m) (roundDistance c r n m)) tt cols rows from to g h)
 
--- the rule at a word of the table, whose place says the grid and the node
-abbrev rightAt : ℕ → ℕ → Bool
-rightAt k x = every 16 (right (k / 48 + 2) (k / 16 % 3 + 2) (k % 16) x)
+-- it is at most 4
+pub distance-most : (cols rows from to : ℕ) → InGrid cols rows from → InGrid cols rows to → distanceOf cols rows from to ≤ 4
+unfolding roundDistance shorterWay
+distance-most cols rows from to g h =
+    subst (λ d. d ≤ 4) (sym (distance-formula cols rows from to g h))
+    (le-of-suc-le-suc (ltb→lt _ 5 (at-pair (λ c r n m. ltb (roundDistance c r n m) 5) tt cols rows from to g h)))
 
--- antt computes the rule at each digit of the 144 words
-all-right : T (everyEntry rightAt 0 distances)
-unfolding distances distanceOf walks neighbourOf leastFrom _=?_ _or_ any
-all-right = tt
+-- the column and the row of a node are places of their rings
+pub column-inside : {cols rows node place : ℕ} → InGrid cols rows node → place ≡ columnOf cols node → place < cols
+column-inside {cols} {rows} {node} g e = subst (λ k. k < cols) (sym e) (mod-lt node (omega (arith, g .cols-low)))
 
-distances-length : length distances ≡ 144
-unfolding distances
-distances-length = refl
+pub row-inside : {cols rows node place : ℕ} → InGrid cols rows node → place ≡ rowOf cols node → place < rows
+row-inside {cols} {rows} {node} g e =
+    subst (λ k. k < rows) (sym e)
+    (div-lt-iff-lt-mul {k = cols} {x = node} {y = rows} (omega (arith, g .cols-low)) .1
+    (subst (λ k. node < k) (mul-comm cols rows) (g .inside)))
 
-right-means : (cols rows from to x : ℕ) → InGrid cols rows from → InGrid cols rows to → T (right cols rows from x to)
-    → digit x to ≡ distanceOf cols rows from to
-right-means cols rows from to x g h t =
-    eqb→eq _ _
-    (subst (λ b. T (rightWhere true b cols rows from to x)) (lt-ltb to (cols * rows) (h .inside))
-    (subst (λ a. T (rightWhere a (ltb to (cols * rows)) cols rows from to x)) (lt-ltb from (cols * rows) (g .inside)) t))
+-- the way on to a later place is the difference of the places; to an earlier one it is the rest of the ring
+pub way-ahead : (n a b : ℕ) → b < n → a ≤ b → b - a ≡ (b + n - a) % n
+way-ahead n a b h l =
+    sym (mod-eq-of-lt (omega arith)) ∙ sym (add-mod-right (b - a) n) ∙ ap (λ (k : ℕ). k % n) (omega arith)
 
--- the table has the distance of any two nodes of a grid
-pub table-right : (cols rows from to : ℕ) → InGrid cols rows from → InGrid cols rows to
-    → digit (getD distances (((cols - 2) * 3 + (rows - 2)) * 16 + from) 0) to ≡ distanceOf cols rows from to
-table-right cols rows from to g h =
-    let k : ℕ = ((cols - 2) * 3 + (rows - 2)) * 16 + from in
-    let b = bounds g in
-    let within : k < length distances = omega (arith, distances-length) in
-    let cols-back : k / 48 + 2 ≡ cols = omega arith in
-    let rows-back : k / 16 % 3 + 2 ≡ rows = omega arith in
-    let from-back : k % 16 ≡ from = omega arith in
-    let low : to < 16 = omega arith in
-    let x : ℕ = getD distances k 0 in
-    right-means cols rows from to x g h
-    (every-at 16 (right cols rows from x)
-    (subst (λ n. T (every 16 (right cols rows n x))) from-back
-    (subst (λ n. T (every 16 (right cols n (k % 16) x))) rows-back
-    (subst (λ n. T (every 16 (right n (k / 16 % 3 + 2) (k % 16) x))) cols-back
-    (everyEntry-at rightAt distances all-right k within)))) to low)
+pub way-round : (n a b : ℕ) → a < n → b < a → n - a + b ≡ (b + n - a) % n
+way-round n a b h l = sym (mod-eq-of-lt (omega arith)) ∙ ap (λ (k : ℕ). k % n) (omega arith)
+
+-- the less of both ways
+module _ (n a b : ℕ) {on back : ℕ} (e : on ≡ (b + n - a) % n) (f : back ≡ (a + n - b) % n) where
+  pub way-on : on ≤ back → on ≡ shorterWay n a b
+  unfolding shorterWay
+  way-on l = sym (min-eq-left l) ∙ ap₂ min e f
+
+  pub way-back : back ≤ on → back ≡ shorterWay n a b
+  unfolding shorterWay
+  way-back l = sym (min-eq-right l) ∙ ap₂ min e f
+
+-- the shorter ways between the columns and between the rows together are the distance
+pub ways-together : {cols rows from to a b c d across along : ℕ} → InGrid cols rows from → InGrid cols rows to
+    → a ≡ columnOf cols from → b ≡ columnOf cols to → c ≡ rowOf cols from → d ≡ rowOf cols to
+    → across ≡ shorterWay cols a b → along ≡ shorterWay rows c d → across + along ≡ distanceOf cols rows from to
+unfolding roundDistance
+ways-together {cols} {rows} {from} {to} g h ea eb ec ed x y =
+    ap₂ (λ (m n : ℕ). m + n) (x ∙ ap₂ (shorterWay cols) ea eb) (y ∙ ap₂ (shorterWay rows) ec ed)
+    ∙ sym (distance-formula cols rows from to g h)

@@ -1,5 +1,4 @@
 pub mod NeighbourLaws
-pub mod DistanceTable
 pub mod DistanceLaws
 pub mod RouteLaws
 pub mod WalkLaws

@@ -1,8 +1,11 @@
 -- The grid (document 01, "The grid"): node = row × columns + column; sides 0 north, 1 east, 2 south, 3 west, all wrapping round.
 use Prim.Native.Nat.{ℕ, zero, suc, _+_, _-_, _*_, _/_, _%_}
+use Prim.Native.Nat.{min}
 use mathlib.Core.Bool.{Bool}
+use mathlib.Core.Path.{_≡_}
 use Rattle.words.specs.Tests.{any, _=?_}
 use Rattle.words.specs.Words.{leastFrom}
+use Rattle.torus.specs.Inner.Grid.{InGrid}
 
 abbrev pub rowOf : ℕ → ℕ → ℕ
 rowOf cols node = node / cols
@@ -40,3 +43,18 @@ walks cols rows (suc steps) from to = any 4 (λ side. walks cols rows steps (nei
 -- twice, so the fewest are among the numbers below that.
 unfoldable pub distanceOf : ℕ → ℕ → ℕ → ℕ → ℕ
 distanceOf cols rows from to = leastFrom (cols * rows) 0 (λ steps. walks cols rows steps from to)
+
+-- the shorter way round between two places of a ring of n places: the less of the way on and the way back
+unfoldable pub shorterWay : ℕ → ℕ → ℕ → ℕ
+shorterWay n a b = min ((b + n - a) % n) ((a + n - b) % n)
+
+-- the shorter way round in columns plus the shorter way round in rows
+unfoldable pub roundDistance : ℕ → ℕ → ℕ → ℕ → ℕ
+roundDistance cols rows from to =
+    shorterWay cols (columnOf cols from) (columnOf cols to) + shorterWay rows (rowOf cols from) (rowOf cols to)
+
+-- the claim that this is the distance of any two nodes of a grid (proofs/DistanceLaws, `distance-formula`)
+abbrev pub DistanceFormula : Type 0
+DistanceFormula =
+    (cols rows from to : ℕ) → InGrid cols rows from → InGrid cols rows to
+    → distanceOf cols rows from to ≡ roundDistance cols rows from to

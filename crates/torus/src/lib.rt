@@ -1,14 +1,11 @@
 // The torus: neighbours, distances, and where a route leads (document 01, "The grid", "The packet", "The router").
-mod distances;
-
 ghost use mathlib.Core.Path.{_≡_};
 ghost use mathlib.Core.Bool.{true, false};
-ghost use Prim.Native.Nat.{_+_, _*_, _%_, _<_};
-ghost use Rattle.torus.specs.Torus.{neighbourOf, distanceOf};
+ghost use Prim.Native.Nat.{_+_, _*_, _/_, _%_, _<_};
+ghost use Rattle.torus.specs.Torus.{neighbourOf, distanceOf, shorterWay};
 ghost use Rattle.torus.specs.Inner.Grid.{InGrid};
 ghost use Rattle.torus.specs.Route.{outputOf, hopCycles, routeFrom, nowhere};
 ghost use Rattle.torus.specs.Inner.Paths.{pathOf};
-use distances::DISTANCES;
 
 // The entry side of a packet at its first router, and a router's output to its node's memory; 0 to 3 are the sides.
 pub const NO_SIDE: u32 = 4;
@@ -56,6 +53,18 @@ fn column(cols: u32, rows: u32, node: u32) -> u32
         2 => node % 2,
         3 => node % 3,
         _ => node % 4,
+    }
+}
+
+// The row of a node, by a division that the compiler knows too.
+fn row(cols: u32, rows: u32, node: u32) -> u32
+    requires { ⌜ InGrid cols rows node ⌝ }
+    ensures { λ r. ⌜ r ≡ node / cols ⌝ }
+{
+    match cols {
+        2 => node / 2,
+        3 => node / 3,
+        _ => node / 4,
     }
 }
 
@@ -196,13 +205,21 @@ pub fn follow_route(cols: u32, rows: u32, source: u32, route: u32) -> Path
     nowhere_path()
 }
 
-// The fewest steps between two nodes.
+// The shorter way round between two places of a ring: the less of the way on and the way back.
+fn ring_distance(n: u32, a: u32, b: u32) -> u32
+    requires { ⌜ (a < n) × (b < n) ⌝ }
+    ensures { λ r. ⌜ r ≡ shorterWay n a b ⌝ }
+{
+    let on = if a <= b { b - a } else { n - a + b };
+    let back = if b <= a { a - b } else { n - b + a };
+    if on < back { on } else { back }
+}
+
+// The fewest steps between two nodes: the shorter way round in columns plus the shorter way round in rows.
 pub fn distance(cols: u32, rows: u32, from: u32, to: u32) -> u32
     requires { ⌜ (InGrid cols rows from) × (InGrid cols rows to) ⌝ }
     ensures { λ r. ⌜ r ≡ distanceOf cols rows from to ⌝ }
 {
-    let grid = (cols - 2) * 3 + (rows - 2);
-    let at = (grid * 16 + from) as usize;
-    let row = DISTANCES[at];
-    ((row >> (4 * to)) % 16) as u32
+    let columns = ring_distance(cols, column(cols, rows, from), column(cols, rows, to));
+    columns + ring_distance(rows, row(cols, rows, from), row(cols, rows, to))
 }

@@ -1,71 +1,55 @@
--- `torus::distance` meets its contract: the table is right at every pair of nodes of every grid.
+-- `torus::distance` meets its contract: the shorter ways round in columns and in rows together are the distance.
 -- Assumes nothing.
 use native.Mathlib.Omega.{arith}
-use Rattle.torus.proofs.NeighbourLaws.{bounds}
-use Rattle.torus.proofs.DistanceLaws.{table-right}
-use Rattle.torus.proofs.DistanceTable.{distances}
+use Rattle.torus.proofs.DistanceLaws.{column-inside, row-inside, ways-together, distance-most}
 use borrow.Author.Needs.{needs}
 use Rattle.torus.proofs.distance.Statement.{statement}
 use Rattle.torus.proofs.distance.Tie as tie
 
-sub-grid : tie.Need-sub-grid
-sub-grid c = search needs
+column-requires : tie.Need-column-requires
+column-requires c κs = search needs
 
-mul-grid : tie.Need-mul-grid
-mul-grid c = search needs
+column-requires-2 : tie.Need-column-requires-2
+column-requires-2 c κs = search needs
 
-sub-grid-2 : tie.Need-sub-grid-2
-sub-grid-2 c = search needs
+ring-distance-requires : tie.Need-ring-distance-requires
+ring-distance-requires c κs =
+    let p = c .before .before .pre in
+    (column-inside (p .0) (c .before .column .ensures), column-inside (p .1) (c .column2 .ensures))
 
-add-grid : tie.Need-add-grid
-add-grid c = search needs
+row-requires : tie.Need-row-requires
+row-requires c κs = search needs
 
-mul-at : tie.Need-mul-at
-mul-at c = search needs
+row-requires-2 : tie.Need-row-requires-2
+row-requires-2 c κs = search needs
 
-add-at : tie.Need-add-at
-add-at c = let b = bounds (c .pre .0) in omega arith
-
-cast-at : tie.Need-cast-at
-cast-at c = search needs
-
-mul-row : tie.Need-mul-row
-mul-row c = search needs
-
-array-read-row : tie.Need-array-read-row
-array-read-row c = let b = bounds (c .pre .0) in omega arith
-
-mul-result : tie.Need-mul-result
-mul-result c = let b = bounds (c .pre .0) in omega arith
-
-cast-result : tie.Need-cast-result
-cast-result c = search needs
-
-shr-result : tie.Need-shr-result
-shr-result c = let b = bounds (c .pre .0) in omega arith
-
-cast-result-2 : tie.Need-cast-result-2
-cast-result-2 c = search needs
+ring-distance-requires-2 : tie.Need-ring-distance-requires-2
+ring-distance-requires-2 c κs =
+    let p = c .before .before .before .before .before .pre in
+    (row-inside (p .0) (c .before .row .ensures), row-inside (p .1) (c .row2 .ensures))
 
 returns : tie.Need-returns
-unfolding distances
-returns c = table-right _ _ _ _ (c .pre .0) (c .pre .1)
+returns c =
+    let rowed = c .before .before in
+    let columned = rowed .before .before in
+    let p = columned .before .before .pre in
+    ways-together (p .0) (p .1) (columned .before .column .ensures) (columned .column2 .ensures)
+    (rowed .row .ensures) (c .before .row2 .ensures) (rowed .before .ring-distance .ensures) (c .ring-distance2 .ensures)
+
+add-result : tie.Need-add-result
+add-result c =
+    let p = c .before .before .before .before .before .before .pre in
+    record { fits = omega (arith, returns c, distance-most _ _ _ _ (p .0) (p .1)) }
 
 pub distance-spec : {M : Type 1} → statement M
 distance-spec =
     tie.close
     (tie.spec
-    sub-grid
-    mul-grid
-    sub-grid-2
-    add-grid
-    mul-at
-    add-at
-    cast-at
-    mul-row
-    array-read-row
-    mul-result
-    cast-result
-    shr-result
-    cast-result-2
+    column-requires
+    column-requires-2
+    ring-distance-requires
+    row-requires
+    row-requires-2
+    ring-distance-requires-2
+    add-result
     returns)
