@@ -67,9 +67,9 @@ module _ (n a b : ℕ) {on back : ℕ} (e : on ≡ (b + n - a) % n) (f : back �
   way-back l = sym (min-eq-right l) ∙ ap₂ min e f
 
 -- the shorter ways between the columns and between the rows together are the distance
-pub ways-together : {cols rows from to a b c d across along : ℕ} → InGrid cols rows from → InGrid cols rows to
+pub ways-together : {cols rows from to a b c d inColumns inRows : ℕ} → InGrid cols rows from → InGrid cols rows to
     → a ≡ columnOf cols from → b ≡ columnOf cols to → c ≡ rowOf cols from → d ≡ rowOf cols to
-    → across ≡ shorterWay cols a b → along ≡ shorterWay rows c d → across + along ≡ distanceOf cols rows from to
+    → inColumns ≡ shorterWay cols a b → inRows ≡ shorterWay rows c d → inColumns + inRows ≡ distanceOf cols rows from to
 unfolding roundDistance
 ways-together {cols} {rows} {from} {to} g h ea eb ec ed x y =
     ap₂ (λ (m n : ℕ). m + n) (x ∙ ap₂ (shorterWay cols) ea eb) (y ∙ ap₂ (shorterWay rows) ec ed)

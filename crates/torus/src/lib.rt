@@ -56,7 +56,7 @@ fn column(cols: u32, rows: u32, node: u32) -> u32
     }
 }
 
-// The row of a node, by a division that the compiler knows too.
+// The row of a node, width by width for the same reason.
 fn row(cols: u32, rows: u32, node: u32) -> u32
     requires { ⌜ InGrid cols rows node ⌝ }
     ensures { λ r. ⌜ r ≡ node / cols ⌝ }
@@ -205,7 +205,7 @@ pub fn follow_route(cols: u32, rows: u32, source: u32, route: u32) -> Path
     nowhere_path()
 }
 
-// The shorter way round between two places of a ring: the less of the way on and the way back.
+// The shorter way round between two places of a ring: the less of the way on and the way back, without a remainder by n.
 fn ring_distance(n: u32, a: u32, b: u32) -> u32
     requires { ⌜ (a < n) × (b < n) ⌝ }
     ensures { λ r. ⌜ r ≡ shorterWay n a b ⌝ }
@@ -220,6 +220,7 @@ pub fn distance(cols: u32, rows: u32, from: u32, to: u32) -> u32
     requires { ⌜ (InGrid cols rows from) × (InGrid cols rows to) ⌝ }
     ensures { λ r. ⌜ r ≡ distanceOf cols rows from to ⌝ }
 {
-    let columns = ring_distance(cols, column(cols, rows, from), column(cols, rows, to));
-    columns + ring_distance(rows, row(cols, rows, from), row(cols, rows, to))
+    let in_columns = ring_distance(cols, column(cols, rows, from), column(cols, rows, to));
+    let in_rows = ring_distance(rows, row(cols, rows, from), row(cols, rows, to));
+    in_columns + in_rows
 }
