@@ -78,6 +78,8 @@ fn main() -> ExitCode {
         }
     }
 
+    passed += entries_of_no_words(&mut differences);
+
     let mut pairs = 0;
     let mut routes_by_number = [0; 12];
     for (columns, rows) in (2..=4).flat_map(|columns| (2..=4).map(move |rows| (columns, rows))) {
@@ -99,6 +101,9 @@ fn main() -> ExitCode {
     let mut inputs_by_line: Vec<(String, usize)> = Vec::new();
     for (name, input) in &inputs {
         let wanted = wanted_line(input);
+        if *name == "no words" && wanted != "passes" {
+            differences.push(format!("input ({name}): the second checker has {wanted:?}\n  {input:?}"));
+        }
         match inputs_by_line.iter_mut().find(|(line, _)| *line == wanted) {
             Some((_, count)) => *count += 1,
             None => inputs_by_line.push((wanted.clone(), 1)),
@@ -231,6 +236,23 @@ fn entries_agree(words: &[u32], verdict: u32, schedule: u32) -> Result<u32, Stri
     }
 }
 
+/// A sheet of no words has one schedule, whose entries are no words at its start; the answers stand
+/// here. How many are right.
+fn entries_of_no_words(differences: &mut Vec<String>) -> usize {
+    let mut right = 0;
+    for (schedule, number) in [(0, 0u64), (1, 15), (7, 15), (u32::MAX, 15)] {
+        for field in [0, 1, 2] {
+            let ours = exports::entries(&[], schedule, field);
+            if ours == number << 32 {
+                right += 1;
+            } else {
+                differences.push(format!("entries of no words, schedule {schedule}, field {field}: ours {ours:#x}"));
+            }
+        }
+    }
+    right
+}
+
 /// The line that an input calls for: the stated length first, then the words, then the
 /// sheet they make. What follows the sheet does not count.
 fn wanted_line(input: &[u8]) -> String {
@@ -292,6 +314,15 @@ fn inputs(cases: &[Case], numbers: &[u32]) -> Vec<(&'static str, Vec<u8>)> {
         for case in of_number.iter().step_by(step) {
             list.push(("generated sheet", input_of(case.words.len() as u32, &case.words)));
         }
+    }
+
+    // No words stated, whatever is behind, and what is less than that statement.
+    let none = input_of(0, &[]);
+    for tail in [vec![], vec![0], vec![255; 3], vec![1; 4], vec![0; 28], vec![255; 1_000]] {
+        list.push(("no words", [none.clone(), tail].concat()));
+    }
+    for length in 0..none.len() {
+        list.push(("no words, input cut", none[..length].to_vec()));
     }
 
     // Sheet A cut after every byte.

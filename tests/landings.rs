@@ -73,6 +73,7 @@ fn main() -> ExitCode {
     transfer_limit(&mut cases);
     cycle_limit(&mut cases);
     cut_inputs(&mut cases);
+    no_words(&mut cases);
 
     let mut differences = Vec::new();
     let mut kinds: BTreeMap<String, usize> = BTreeMap::new();
@@ -375,6 +376,56 @@ fn cycle_limit(cases: &mut Cases) {
         let words = input_a(&[TRANSFER_A], cycles);
         cases.settled("too many cycles", bytes_of(&words), TOO_LARGE);
         cases.settled("too many cycles, bytes behind", [bytes_of(&words), vec![1; 9]].concat(), TOO_LARGE);
+    }
+}
+
+/// Inputs whose sheet has no words: it is the idle network, so four memory words follow, and nothing
+/// can be started or land.
+fn no_words(cases: &mut Cases) {
+    let memory = [7, 0, u32::MAX, 65];
+    let input = |transfers: &[Transfer], cycles: u32| input_words(&[], &memory, transfers, cycles);
+    for cycles in [0, 1, 8, 9, 10, 20, 65_536] {
+        cases.settled("no words", bytes_of(&input(&[], cycles)), NO_LANDING);
+    }
+    for extra in [vec![0], vec![255; 3], vec![1; 4], vec![9; 1_000]] {
+        cases.settled("no words and bytes behind the cycles", [bytes_of(&input(&[], 20)), extra].concat(), NO_LANDING);
+    }
+
+    let transfers: [Transfer; 7] = [
+        [0, 0, 0, 1, 0],
+        [0, 0, 0, 1, 2],
+        [0, 0, 0, 0, 0],
+        [0, 1, 1, 1, 1],
+        [1, 0, 0, 1, 0],
+        [64, 0, 0, 1, 0],
+        [u32::MAX; 5],
+    ];
+    for transfer in transfers {
+        cases.settled("no words, a transfer", bytes_of(&input(&[transfer], 20)), "refused 15\n");
+    }
+    cases.settled("no words, many transfers", bytes_of(&input(&[transfers[0]; 64], 0)), "refused 15\n");
+    cases.settled("no words, too many transfers", bytes_of(&input(&[transfers[0]; 65], 20)), TOO_LARGE);
+    for stated in [65, 66, 1 << 16, 858_993_460, 1 << 31, u32::MAX] {
+        let mut words = input(&[], 20);
+        words[5] = stated;
+        cases.settled("no words, too many transfers stated", bytes_of(&words), TOO_LARGE);
+        cases.settled("no words, too many transfers stated, none there", bytes_of(&words[..6]), TOO_LARGE);
+    }
+    for cycles in [65_537, 1 << 31, u32::MAX] {
+        cases.settled("no words, too many cycles", bytes_of(&input(&[], cycles)), TOO_LARGE);
+        cases.settled("no words, a transfer and too many cycles", bytes_of(&input(&transfers[..1], cycles)), TOO_LARGE);
+    }
+
+    // Every cut of an input without a transfer and of one with a transfer.
+    for whole in [bytes_of(&input(&[], 20)), bytes_of(&input(&transfers[..1], 20))] {
+        for length in 0..whole.len() {
+            cases.settled("no words, input cut", whole[..length].to_vec(), INPUT_ENDS);
+        }
+    }
+    // Memory words that are missing are taken from what follows.
+    for missing in 1..=4 {
+        let words = input_words(&[], &memory[missing..], &[], 3);
+        cases.settled("no words, memory words missing", bytes_of(&words), INPUT_ENDS);
     }
 }
 

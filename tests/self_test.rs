@@ -12,6 +12,23 @@ mod second {
 use second::{checker, near_misses, sheets};
 use std::process::ExitCode;
 
+/// Checkers that are wrong about short sheets: the first knows of no idle network, the second
+/// misses words in a sheet that has none, the third takes every sheet without a whole head for
+/// the idle network.
+const WRONG_CHECKERS: [fn(&[u32]) -> u32; 3] = [
+    |words| if words.len() < 5 { 1 } else { checker::verdict(words) },
+    |words| if words.is_empty() { 3 } else { checker::verdict(words) },
+    |words| if words.len() < 5 { 0 } else { checker::verdict(words) },
+];
+
+/// Whether some short sheet is judged otherwise than it was made for.
+fn is_noticed(cases: &[sheets::Case], wrong: fn(&[u32]) -> u32) -> bool {
+    cases
+        .iter()
+        .filter(|case| case.words.len() <= 5)
+        .any(|case| case.expected.is_some_and(|expected| wrong(&case.words) != expected))
+}
+
 fn main() -> ExitCode {
     let mut passed = 0;
     let mut failed = 0;
@@ -50,6 +67,7 @@ fn main() -> ExitCode {
         6, 3, 0, 13, // 39 to 42
     ];
     let without_entries = [2, 2, 1, 0, 1, 9, 0];
+    let no_words = [];
     let largest = sheets::largest(1).words();
     let middle = sheets::middle(1);
     let middle_is_right = middle.nodes() == 16
@@ -69,7 +87,18 @@ fn main() -> ExitCode {
         checker::entries(&several, 0, 4_294_967_295) == Err(15),
         checker::verdict(&without_entries) == 0,
         checker::entries(&without_entries, 0, 0) == Ok((7, vec![])),
-        checker::entries(&[], 1, 4_294_967_295) == Err(1),
+        checker::entries(&[2], 1, 4_294_967_295) == Err(1),
+        // A sheet of no words stands for the idle network, whose only schedule has no entries.
+        checker::meant(&no_words) == without_entries,
+        checker::meant(&sheet_a) == sheet_a,
+        sheets::idle_network().words() == without_entries,
+        checker::verdict(&no_words) == 0,
+        checker::entries(&no_words, 0, 0) == Ok((0, vec![])),
+        checker::entries(&no_words, 0, 1) == Err(15),
+        checker::entries(&no_words, 0, 7) == Err(15),
+        checker::entries(&no_words, 0, 4_294_967_295) == Err(15),
+        [1, 2, 3, 4].iter().all(|&length| checker::verdict(&without_entries[..length]) == 1),
+        WRONG_CHECKERS.iter().all(|wrong| is_noticed(&cases, *wrong)),
         largest.len() == 8_597,
         checker::verdict(&largest) == 0,
         middle_is_right,

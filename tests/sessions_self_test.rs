@@ -1,6 +1,7 @@
 //! Plays the same sessions through the second machine itself, read from the lent words anew
 //! for each call: against the machine that lives on, and against the reckoning of every
-//! circuit. It needs no library of ours.
+//! circuit. Then machines that are wrong about sheets of no words have to be noticed. It needs
+//! no library of ours.
 
 #[allow(dead_code)]
 mod second {
@@ -10,6 +11,7 @@ mod second {
     pub mod lent;
     pub mod machine;
     pub mod near_misses;
+    pub mod planted;
     pub mod play;
     pub mod reckoning;
     pub mod sessions;
@@ -20,5 +22,8 @@ mod second {
 use std::process::ExitCode;
 
 fn main() -> ExitCode {
+    if !second::planted::are_noticed(&second::planted::WRONG_LOADS, second::play::is_noticed) {
+        return ExitCode::FAILURE;
+    }
     second::play::play_all(&mut second::calls::Second::reading())
 }

@@ -1,5 +1,5 @@
-//! Holds the second machine against what each hand-made state was made for. It needs no
-//! library of ours.
+//! Holds the second machine against what each hand-made state was made for; machines that are
+//! wrong about sheets of no words have to be noticed. It needs no library of ours.
 
 #[allow(dead_code)]
 mod second {
@@ -10,14 +10,20 @@ mod second {
     pub mod lent;
     pub mod machine;
     pub mod near_misses;
+    pub mod planted;
     pub mod pokes;
     pub mod sessions;
     pub mod sheets;
     pub mod words;
 }
 
+use second::planted::{are_noticed, Wrong, WRONG_LOADS};
 use std::process::ExitCode;
 
 fn main() -> ExitCode {
+    let wrongs = [&WRONG_LOADS[..], &[Wrong::TakesStatesWithoutSheet]].concat();
+    if !are_noticed(&wrongs, second::pokes::is_noticed) {
+        return ExitCode::FAILURE;
+    }
     second::pokes::run_all(&mut second::calls::Second::reading())
 }

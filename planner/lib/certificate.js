@@ -5,14 +5,14 @@ import { helpLine } from './explain.js';
 import { PREMISE, answerText, circuitsOf, modePairs, slotsText } from './isolation.js';
 import { element, markup } from './markup.js';
 import { MOST_NAME } from './plan.js';
-import { partsOf } from './sheet.js';
+import { meant, partsOf } from './sheet.js';
 import { sha256, sha256Base64 } from './sha256.js';
 import { rowsOfWords } from './words.js';
 
 const PLAIN_COLUMNS = 8;
 const WORDS_A_LINE = 16;
 // So many of the statements, the first, are about the verdict.
-const OF_VERDICT = 2;
+const OF_VERDICT = 3;
 
 const named = (name) => cut(name, MOST_NAME);
 const row = (cells, kind = 'td') => element('tr', {}, cells.map((cell) => element(kind, kind === 'th' ? { scope: 'col' } : {}, cell)));
@@ -40,7 +40,7 @@ function identity(document, about, fileHash) {
   const facts = [
     ['File', cut(document.name, 255)],
     ['SHA-256 of the file', fileHash],
-    ['Sheet', `${document.words.length} words`],
+    ['Sheet', document.words.length === 0 ? 'no words, which stand for an idle network' : `${document.words.length} words`],
     ["SHA-256 of the sheet's words, 4 bytes each, lowest first", sha256(wordBytes(document.words))],
     ['Order', document.exam ? 'circuits and slots stay in the order of the rows (--exam)' : null],
     ['Calqetum', `version ${about.version}, calls built with ${about.kit}`],
@@ -76,8 +76,9 @@ function rowsTable(rows, title) {
   return section(title, element('table', { class: 'rows' }, element('thead', {}, row(heads, 'th')), element('tbody', {}, lines)));
 }
 
-// The words, a line for the head, each circuit, each schedule and each entry.
-function wordsText(words) {
+// The words, or those that no words stand for, a line for the head, each circuit, each schedule and each entry.
+function wordsText(given) {
+  const words = meant(given);
   const parts = partsOf(words);
   const lines = [];
   if (!parts) for (let at = 0; at < words.length; at += WORDS_A_LINE) lines.push(words.slice(at, at + WORDS_A_LINE));
@@ -85,7 +86,8 @@ function wordsText(words) {
     lines.push(words.slice(0, 5), ...parts.circuits.map((circuit) => circuit.words));
     for (const { period, entries } of parts.schedules) lines.push([period, entries.length], ...entries.map((entry) => entry.words));
   }
-  return section("The sheet's words", element('pre', {}, lines.map((line) => line.join(' ')).join('\n') || '(none)'));
+  const title = given.length === 0 ? ': the file has none, and so stands for these' : '';
+  return section(`The sheet's words${title}`, element('pre', {}, lines.map((line) => line.join(' ')).join('\n')));
 }
 
 function sheetPart(document) {

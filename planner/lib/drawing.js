@@ -57,9 +57,12 @@ export function picture({ width, height, prefix, title, description, background 
   );
 }
 
+// How much wider a text is in the weight of a title.
+const BOLD = 1.15;
+
 // A picture that has only something to say.
 export function messagePicture(prefix, background, title, message) {
-  const width = Math.ceil(Math.max(320, textWidth(title, 15) + 24, textWidth(message, 13) + 24));
+  const width = Math.ceil(Math.max(320, BOLD * textWidth(title, 15) + 24, textWidth(message, 13) + 24));
   return picture(
     { width, height: 64, prefix, title, description: message, background },
     textAt(12, 24, 15, title, { 'font-weight': 600 }),

@@ -13,10 +13,9 @@ const [MEMORY, CIRCUITS, SCHEDULES] = [2, 3, 4];
 export function explainShort({ document }) {
   const count = document.words.length;
   const missing = HEAD_NAMES.slice(count).join(', ');
-  const some = () => `The sheet has only ${counted(count, 'word')}, up to ${placeOfWord(document, count - 1)}`;
-  const has = count === 0 ? 'The sheet has no words' : some();
+  const has = `The sheet has only ${counted(count, 'word')}, up to ${placeOfWord(document, count - 1)}`;
   return {
-    marks: count === 0 ? [] : [{ at: count - 1, text: 'the head ends here' }],
+    marks: [{ at: count - 1, text: 'the head ends here' }],
     lines: [`${has}. It begins with a head of five; missing: ${missing}.`],
     help: [],
   };

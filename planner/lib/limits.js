@@ -5,7 +5,6 @@ export const HEAD_LIMITS = [[2, 4], [2, 4], [1, 16384], [0, 64], [1, 8]];
 export const PERIOD_LIMITS = [9, 1024];
 export const LENGTH_LIMITS = [2, 16];
 
-// A sheet that passes, a circuit that fits every network, and a slot's words that are in range in every schedule with a circuit.
-export const HARMLESS_SHEET = [2, 2, 1, 0, 1, 9, 0];
+// A circuit that fits every network, and a slot's words that are in range in every schedule with a circuit.
 export const HARMLESS_RECORD = [0, 1, 0, 1, 0, 1];
 export const HARMLESS_ENTRY = [0, 2, 0, 0];

@@ -12,7 +12,7 @@ export const RULES = [
   null,
   rule(
     'The head of the sheet is not whole',
-    'A sheet begins with five words: columns, rows, memory words of a node, number of circuits, number of schedules.',
+    'A sheet begins with five words: columns, rows, memory words of a node, number of circuits, number of schedules. No words at all are an idle network.',
   ),
   rule(
     'A number of the head is out of range',

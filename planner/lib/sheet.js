@@ -5,6 +5,12 @@ export const CIRCUIT_WORDS = 6;
 export const ENTRY_WORDS = 4;
 export const MOST_ENTRIES = 256;
 
+// What no words stand for: an idle network of 2 by 2 nodes with a memory word each, no circuits and one mode of nine cycles.
+export const BLANK_SHEET = [2, 2, 1, 0, 1, 9, 0];
+
+// The sheet that words stand for: themselves, and no words for the idle network.
+export const meant = (words) => (words.length === 0 ? BLANK_SHEET : words);
+
 // The words of a plan without problems, and for each the cell that it stands for. Circuits and slots are sorted as the rules want them,
 // or stay in the order of the rows for an exam.
 export function sheetOfPlan(plan, exam = false) {
@@ -59,8 +65,9 @@ export function partsOf(words) {
   return part.wrong ? null : part;
 }
 
-// Reads a sheet from the front. Where it does not divide, `wrong` says at which place, what was wanted there and how many words.
-export function divide(words) {
+// Reads the sheet that words stand for, from the front. Where it does not divide, `wrong` says at which place, what was wanted there and how many words.
+export function divide(given) {
+  const words = meant(given);
   const part = { columns: words[0], rows: words[1], memory: words[2], circuits: [], schedules: [] };
   if (words.length < HEAD_WORDS) return { ...part, wrong: { what: 'head', at: words.length, missing: HEAD_WORDS - words.length } };
   let at = HEAD_WORDS;

@@ -1,7 +1,6 @@
 // The smallest part of a refused sheet that is still refused by the same number: schedules, entries and circuits are dropped as long as
 // the proved checker gives that number.
-import { HARMLESS_SHEET } from './limits.js';
-import { partsOf, wordsOf } from './sheet.js';
+import { BLANK_SHEET, partsOf, wordsOf } from './sheet.js';
 
 const HEAD_NUMBER = 2;
 const FIRST_DIVIDED_NUMBER = 4;
@@ -28,7 +27,7 @@ export function shrink(words, verdict) {
 
 // A sheet that passes but for one head word of another.
 function withHeadWord(words, at) {
-  return HARMLESS_SHEET.map((word, place) => (place === at ? words[at] : word));
+  return BLANK_SHEET.map((word, place) => (place === at ? words[at] : word));
 }
 
 // The places of the head words that are out of range: each gets number 2 in a head that is otherwise right.

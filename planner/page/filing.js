@@ -11,6 +11,7 @@ import { rowsOfLines } from './judging.js';
 
 const SEPARATORS = [';', ',', '\t'];
 const COMMENTS = "The file's words stand in rows of a plan here, in their own order; its comments are not among them.";
+const NO_WORDS = 'The file has no words, which stand for an idle network. Here it is as rows of a plan.';
 
 export const encoded = (text) => new TextEncoder().encode(text);
 
@@ -21,7 +22,7 @@ export function planOfFile(name, bytes, exam, before) {
   const read = readFile(name, bytes, exam);
   if (read.kind === 'words') {
     const rows = read.words && rowsOfWords(read.words);
-    if (rows) return { plan: openPlan(name, rows, { exam: true, bytes, fromWords: true, before }), note: COMMENTS };
+    if (rows) return { plan: openPlan(name, rows, { exam: true, bytes, fromWords: true, before }), note: read.words.length === 0 ? NO_WORDS : COMMENTS };
     return { plan: openPlan(name, rowsOfLines(text), { kind: 'words', bytes, before }), note: '' };
   }
   const { rows, separator, problems } = readTable(text);

@@ -70,6 +70,11 @@ function openBytes(name, bytes) {
   if (schedule && opened.modeNames[schedule.number]) chooseIn('mode', opened.modeNames[schedule.number]);
 }
 
+function openExample(name) {
+  const example = examples.find((one) => one.name === name);
+  if (example) openBytes(example.name, encoded(example.text));
+}
+
 // A file that cannot be opened leaves what is open as it is.
 function openFailed(name, wrong) {
   const verdict = byId('verdict');
@@ -199,10 +204,8 @@ wire('compare-file', 'change', (event) =>
     compareNow();
   }),
 );
-wire('example', 'change', (event) => {
-  const example = examples.find((one) => one.name === event.target.value);
-  if (example) openBytes(example.name, encoded(example.text));
-});
+wire('example', 'change', (event) => openExample(event.target.value));
+wire('idle', 'click', () => openExample('idle.csv'));
 wire('exam', 'change', (event) => {
   exam = event.target.checked;
   change((before) => ({ ...before, exam }));

@@ -51,7 +51,7 @@ test('a passing sheet: verdict, hashes, circuits, isolation, statements', () => 
 });
 
 test('a refused sheet gets a certificate of refusal, with its explanation and without claims of isolation', () => {
-  for (const name of ['cable-car-late.csv', 'cable-car-clash.csv', 'b.sheet', 'f.sheet', 'g.sheet']) {
+  for (const name of ['cable-car-late.csv', 'cable-car-clash.csv', 'f.sheet', 'g.sheet']) {
     const text = fileOf(name);
     const document = readFile(name, bytesOf(name));
     const { number, title, lines } = explain(document, calls.verdict);
@@ -59,6 +59,14 @@ test('a refused sheet gets a certificate of refusal, with its explanation and wi
     for (const part of wanted) assert.ok(text.includes(part), part);
     assert.ok(text.includes('argo_verdict') && !/demand ?3/i.test(text) && !text.includes('undisturbed'));
   }
+});
+
+test('no words are certified as the idle network that they stand for', () => {
+  const text = fileOf('b.sheet');
+  for (const part of ['The sheet passes', 'no words, which stand for an idle network', 'The sheet has no circuits', '2 2 1 0 1\n9 0']) {
+    assert.ok(text.includes(part), part);
+  }
+  assert.ok(text.includes(hashed('', 'hex')) && text.includes('<code>sheetNumber</code>'));
 });
 
 test('an exam says so, and how to check it again', () => {

@@ -78,11 +78,21 @@ test('generated sheets print what the program prints, refused starts as well', (
 });
 
 test('refused sheets print the one line of their number', () => {
-  for (const name of ['b', 'd', 'f', 'g', 'i', 'l']) {
+  for (const name of ['d', 'f', 'g', 'i', 'l']) {
     const document = documentOfWords(`${name}.sheet`, example(`${name}.sheet`));
     assert.equal(printed(document, 20), byProgram(document, 20));
     assert.match(printed(document, 20), /^refused [0-9]+\n$/);
   }
+});
+
+test('no words are an idle network: its cycles are carried out, and nothing lands', () => {
+  for (const document of [documentOfWords('b.sheet', example('b.sheet')), documentOfText('idle.csv', example('idle.csv'))]) {
+    for (const cycles of [0, 9, 200]) {
+      assert.equal(printed(document, cycles), byProgram(document, cycles));
+      assert.equal(printed(document, cycles), 'cycle node address word kind\n');
+    }
+  }
+  assert.equal(printed(documentOfText('idle.csv', example('idle.csv') + 'at;4;order;idle;3\nat;40;store;3;0;7\n'), 60), 'cycle node address word kind\n');
 });
 
 test('a call refused in a later cycle leaves only its line', () => {

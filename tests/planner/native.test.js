@@ -51,7 +51,7 @@ test('20,000 verdicts, and where entries lie', () => {
 test('100,000 calls on sessions, with words of the state poked', () => {
   const random = seeded(2);
   const record = recordOf(calls);
-  const [numbers, seen] = [counter(), { landed: 0, switched: 0, crowded: 0 }];
+  const [numbers, seen] = [counter(), { landed: 0, switched: 0, crowded: 0, none: 0 }];
   while (numbers.sum() < SESSION_CALLS) playSession(random, record, passes, numbers, seen);
   assert.equal(record.difference(), null);
   const { counts } = numbers;
@@ -60,6 +60,7 @@ test('100,000 calls on sessions, with words of the state poked', () => {
   assert.ok(seen.landed >= 1000, `${seen.landed} landings were seen`);
   assert.ok(seen.switched >= 100, `${seen.switched} switches were seen`);
   assert.ok(seen.crowded >= 20, `${seen.crowded} sessions had 16 circuits or more`);
+  assert.ok(seen.none >= 10, `${seen.none} sessions were loaded by no words`);
 });
 
 // The calls with as many words of the state lent as are told; the planner always lends the published length.

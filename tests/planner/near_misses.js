@@ -9,8 +9,8 @@ const FORMS = ['plan', 'exam', 'words'];
 // The faults of each number: each changes a copy of a sheet and gives the cells, or null where it cannot be planted there.
 const FAULTS = {
   1: (random) => {
-    const length = random.below(5);
-    return { forms: ['words'], cells: length === 0 ? [] : [{ at: length - 1 }], changeWords: (words) => words.slice(0, length) };
+    const length = random.between(1, 4);
+    return { forms: ['words'], cells: [{ at: length - 1 }], changeWords: (words) => words.slice(0, length) };
   },
   2: (random, sheet) => random.choose([headSize, headSize, manyCircuits, manyModes, noModes, headCounts])(random, sheet),
   3: (random, sheet) => random.choose([manySlots, cutWords, surplusWords, largeCount])(random, sheet),

@@ -3,7 +3,7 @@ import test from 'node:test';
 import assert from 'node:assert/strict';
 import { readFileSync, readdirSync } from 'node:fs';
 import { join } from 'node:path';
-import { browser, cell, example, isMarked, page, rowsOf, says, textOf, type, upload, verdict, written } from './open_page.js';
+import { browser, cell, drawn, example, isMarked, page, rowsOf, says, textOf, type, upload, verdict, written } from './open_page.js';
 
 test('it opens with an example that passes, and answers the question at once', async () => {
   assert.match(await verdict(), /passes/);
@@ -32,6 +32,39 @@ test('a button of the explanation goes to its cell', async () => {
   await browser.click(await browser.find('#explanation button.jump'));
   const name = await browser.script("return document.querySelector('#explanation button.jump').textContent");
   assert.equal(await browser.property(await browser.focused(), 'id'), `cell-${name}`);
+});
+
+test('an idle network is offered to start from, and a file without words is one', async () => {
+  await upload(example('cable-car-late.csv'));
+  await browser.click(await browser.find('#idle'));
+  await says('passes');
+  await drawn();
+  assert.equal(await textOf('#file-name'), 'idle.csv');
+  assert.deepEqual([await cell('A2'), await cell('D2'), await cell('B3'), await cell('C3')], ['network', '1', 'idle', '9']);
+  assert.match(await textOf('#isolation'), /no circuits/);
+  assert.match(await textOf('#slots'), /no circuit sends in it/);
+  const whole = "const svg = document.querySelector('#slots svg'); const end = ({ x, width }) => x + width";
+  const fits = 'return [...svg.querySelectorAll("text")].every((text) => end(text.getBBox()) <= svg.viewBox.baseVal.width)';
+  assert.ok(await browser.script(`${whole}; ${fits}`), 'the picture holds its texts');
+  // From there a circuit is planned: the memory as it is holds one word a node.
+  await browser.click(await browser.find('#cell-A3'));
+  for (const row of [['slot', 'idle', 'first', '0', '2', 'E'], ['circuit', 'first', '0', '1', '0', '1', '0', '1']]) {
+    await browser.click(await browser.find('#insert'));
+    for (const [at, text] of row.entries()) {
+      await type(`${'ABCDEFGH'[at]}4`, text);
+      await browser.press('Enter');
+    }
+    await browser.click(await browser.find('#cell-A3'));
+  }
+  await says('passes');
+  await drawn();
+  assert.match(await textOf('#isolation'), /first/);
+  await upload(written('none.sheet', '# nothing is sent yet\n'));
+  await says('passes');
+  assert.match(await textOf('#file-note'), /no words, which stand for an idle network/);
+  assert.deepEqual([await cell('A1'), await cell('C2')], ['network', '9']);
+  await upload(written('few.sheet', '2 2\n'));
+  await says('refused 1');
 });
 
 test('a dropped file is opened', async () => {

@@ -117,7 +117,7 @@ test('the certificate is printed', async () => {
 
 test('the certificate is the one that the command makes, for plans and for words, passing and refused', async () => {
   const calls = await openProved();
-  for (const name of ['cable-car.csv', 'cable-car-clash.csv', 'a.sheet', 'g.sheet']) {
+  for (const name of ['cable-car.csv', 'cable-car-clash.csv', 'a.sheet', 'b.sheet', 'g.sheet']) {
     await upload(example(name));
     await browser.script("window.dispatchEvent(new Event('beforeprint'))");
     const bytes = readFileSync(example(name));

@@ -8,7 +8,7 @@ import { openProved } from '../../planner/command/proved.js';
 import { cellName, decodeText, readTable, writeTable } from '../../planner/lib/cells.js';
 import { documentOfRows, documentOfText, placeOfWord, readFile } from '../../planner/lib/document.js';
 import { nameOf } from '../../planner/lib/plan.js';
-import { partsOf, wordsOf } from '../../planner/lib/sheet.js';
+import { meant, partsOf, wordsOf } from '../../planner/lib/sheet.js';
 import { rowsOfWords } from '../../planner/lib/words.js';
 import { plan } from './generate.js';
 import { random as seeded } from './random.js';
@@ -189,9 +189,25 @@ test('the shipped files of words get the verdicts that they expect, and their ro
     const number = calls.verdict(words);
     assert.equal(number === 0 ? 'passes' : `refused ${number}`, expected, name);
     const rows = rowsOfWords(words);
-    if (rows) assert.deepEqual(readable(documentOfRows(name, rows, true)).words, words);
+    if (rows) assert.deepEqual(readable(documentOfRows(name, rows, true)).words, meant(words));
     else assert.ok([1, 3].includes(number), name);
   }
+});
+
+test('no words stand for the idle network that is shipped as a plan, and for no other', () => {
+  const idle = readable(readFile('idle.csv', readFileSync(join(examples, 'idle.csv')))).words;
+  for (const text of ['', '\n \t\n', '# nothing\n', '\ufeff# nothing']) {
+    const none = readable(readFile('a.sheet', utf8(text)));
+    assert.deepEqual([none.words, meant(none.words), none.modeNames, none.circuitNames], [[], idle, ['schedule 0'], []]);
+    assert.deepEqual(rowsOfWords(none.words), [['network', '2', '2', '1'], ['mode', 'schedule 0', '9']]);
+  }
+  for (const words of [[0], [2], [2, 2, 1, 0], idle]) assert.equal(meant(words), words);
+  // The proved calls see no difference, down to the state.
+  const loaded = (words) => [calls.verdict(words), calls.load(words, [5, 6, 7, 8]), [...calls.lentState()]];
+  assert.deepEqual(loaded([]), loaded(idle));
+  assert.equal(calls.verdict([]), 0);
+  assert.deepEqual([calls.entries([], 0), calls.entries([], 1)], [{ number: 0, place: 0, count: 0 }, { number: 15, place: 0, count: 0 }]);
+  for (const length of [0, 3, 5]) assert.equal(calls.load([], new Array(length).fill(1)), 14);
 });
 
 test('words of sheets that nearly pass, as text and as rows', () => {
@@ -209,7 +225,7 @@ test('words of sheets that nearly pass, as text and as rows', () => {
       assert.equal(Number(lines[line - 1].split('#')[0].trim().split(/\s+/)[place - 1]), word);
     });
     const rows = rowsOfWords(words);
-    if (rows) assert.deepEqual(readable(documentOfRows('a.csv', rows, true)).words, words);
+    if (rows) assert.deepEqual(readable(documentOfRows('a.csv', rows, true)).words, meant(words));
     if (rows) shown++;
   }
   assert.ok(shown > 1000, `${shown} sheets of 2,000 divide`);

@@ -1,5 +1,5 @@
 // Sessions for the comparison with the native archive: calls with right and wrong arguments, on states that are now and then poked.
-import { wordsOf } from '../../planner/lib/sheet.js';
+import { partsOf, wordsOf } from '../../planner/lib/sheet.js';
 import { nearMiss, sheetParts } from './sheets.js';
 
 const STRANGE = [64, 65, 0x7fffffff, 0x80000000, 0xffffffff];
@@ -39,8 +39,8 @@ const CALLS = [
 ];
 
 // A load that is mostly refused: a sheet that nearly passes, or a memory of another length.
-function otherLoad(random, { words, contents }) {
-  return random.chance(0.7) ? ['load', nearMiss(random, words), contents] : ['load', words, contents.slice(random.between(1, 9))];
+function otherLoad(random, { words, given, contents }) {
+  return random.chance(0.7) ? ['load', nearMiss(random, words), contents] : ['load', given, contents.slice(random.between(1, 9))];
 }
 
 // A word to poke, its place and its new value: the clock, a register, the sheet in the state.
@@ -82,10 +82,13 @@ const HUGE = { ...USUAL, memory: 16384 };
 // A sheet with what is in the memories, and as it is looked at to choose arguments.
 function openSession(random, record, passes) {
   const most = random.chance(0.005) ? HUGE : random.chance(0.15) ? CROWDED : USUAL;
-  const parts = sheetParts(random, passes, most);
+  // Now and then no words, which stand for an idle network.
+  const none = random.chance(0.05);
+  const parts = none ? partsOf([]) : sheetParts(random, passes, most);
   const contents = Array.from({ length: parts.columns * parts.rows * parts.memory }, () => random.word());
   const nodes = parts.columns * parts.rows;
-  return { record, parts, words: wordsOf(parts), contents, nodes, register: record.calls.register };
+  const words = wordsOf(parts);
+  return { record, parts, words, given: none ? [] : words, contents, nodes, register: record.calls.register };
 }
 
 // Makes a call and counts it by its number. A switch is counted; where a word landed, every field of it is asked for.
@@ -109,8 +112,9 @@ function maker(session, numbers, seen) {
 export function playSession(random, record, passes, numbers, seen) {
   const session = openSession(random, record, passes);
   if (session.parts.circuits.length >= 16) seen.crowded++;
+  if (session.given.length === 0) seen.none++;
   const make = maker(session, numbers, seen);
-  const load = () => make(['load', session.words, session.contents]);
+  const load = () => make(['load', session.given, session.contents]);
   if (random.chance(0.3)) for (let poke = 0; poke < 9; poke++) record.pokeState(random.below(record.calls.stateWords), random.word());
   load();
   for (let step = session.contents.length > 100000 ? 20 : 200; step > 0; step--) {

@@ -49,11 +49,25 @@ enum Wire {
     OutputToMemory { node: u64 },
 }
 
+/// The idle network that a sheet of no words stands for (document 02, L2): 2 columns, 2 rows,
+/// a memory word a node, no circuits, and one schedule of period 9 without entries.
+const IDLE_NETWORK: [u32; 7] = [2, 2, 1, 0, 1, 9, 0];
+
+/// The words that a sheet stands for: its own, or those of the idle network where it has none.
+pub fn meant(words: &[u32]) -> &[u32] {
+    if words.is_empty() {
+        &IDLE_NETWORK
+    } else {
+        words
+    }
+}
+
 /// Whether a number applies to a sheet that could be read.
 type Rule = fn(&Sheet) -> bool;
 
 /// 0 when the sheet passes, else the first of the numbers 1 to 11 that applies.
 pub fn verdict(words: &[u32]) -> u32 {
+    let words = meant(words);
     if rule1(words) {
         return 1;
     }
@@ -84,14 +98,18 @@ pub fn verdict(words: &[u32]) -> u32 {
 
 /// The part of a sheet that holds one schedule's entries (document 01, "The sheet"): the
 /// place of its first word, and its words. Where the sheet's own number is not 0 that
-/// number, else 15 where it has no such schedule.
+/// number, else 15 where it has no such schedule. A sheet of no words has the idle network's
+/// schedule, whose entries are the empty part at its start.
 pub fn entries(words: &[u32], number: u32, schedule: u32) -> Result<(usize, Vec<u64>), u32> {
     if number != 0 {
         return Err(number);
     }
-    let [circuits, schedules] = [words[3], words[4]];
+    let [circuits, schedules] = [meant(words)[3], meant(words)[4]];
     if schedule >= schedules {
         return Err(15);
+    }
+    if words.is_empty() {
+        return Ok((0, Vec::new()));
     }
     // Five words of head and six a circuit are passed by, then each earlier schedule:
     // period, number of entries, and four words an entry.
@@ -108,7 +126,7 @@ pub fn entries(words: &[u32], number: u32, schedule: u32) -> Result<(usize, Vec<
 // Each rule answers whether its number applies.
 
 fn rule1(words: &[u32]) -> bool {
-    words.len() < 5
+    (1..=4).contains(&words.len())
 }
 
 fn rule2(words: &[u32]) -> bool {
@@ -237,8 +255,8 @@ fn rule11(sheet: &Sheet) -> bool {
     false
 }
 
-/// The sheet read from the front; nothing where number 3 applies. The count of entries
-/// is tested before it is used (document 01, number 3).
+/// The sheet read from the front, from the words that it stands for; nothing where number 3
+/// applies. The count of entries is tested before it is used (document 01, number 3).
 pub fn read(words: &[u32]) -> Option<Sheet> {
     let mut rest = words.iter().map(|&word| u64::from(word));
     let columns = rest.next()?;

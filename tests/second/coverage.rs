@@ -23,6 +23,15 @@ impl Coverage {
         }
     }
 
+    /// Says where something was met too rarely; true where it was not.
+    pub fn has_at_least(&self, count: u64, name: &str) -> bool {
+        let met = self.counts.get(name).copied().unwrap_or(0);
+        if met < count {
+            println!("met {met} times, not {count}: {name}");
+        }
+        met >= count
+    }
+
     /// Says what was never met; true where nothing is missing.
     pub fn has_all<'a>(&self, wanted: impl IntoIterator<Item = &'a str>) -> bool {
         let mut complete = true;

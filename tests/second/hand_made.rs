@@ -8,7 +8,7 @@ use super::lent::{
 };
 use super::machine::{Fault, DATA, EMPTY, HEADER, INTERRUPT, LAST, MEMORY, MOST_NODES, PAYLOAD, PORTS, SOURCE};
 use super::near_misses::add_fault;
-use super::sheets::{sheet_a, Circuit, Entry, Plan, Random, Schedule};
+use super::sheets::{idle_network, sheet_a, Circuit, Entry, Plan, Random, Schedule};
 
 /// What a state calls for.
 #[derive(Clone, Copy, Debug, PartialEq, Eq)]
@@ -95,6 +95,7 @@ impl Collection {
 pub fn hand_made_states() -> Vec<HandMade> {
     let mut all = Collection::default();
     sheets(&mut all);
+    no_sheets(&mut all);
     clocks(&mut all);
     transfers(&mut all);
     cells(&mut all);
@@ -112,7 +113,7 @@ fn sheets(all: &mut Collection) {
     let right = words.len() as u32;
     let broken_lengths = [MOST_SHEET_WORDS as u32 + 1, 1 << 31, LARGEST];
     all.vary("sheet's length", Clause::SheetLength, &[], SHEET_LENGTH, &[right], &broken_lengths);
-    all.vary("sheet's length", Clause::Sheet(1), &[], SHEET_LENGTH, &[right], &[0, 1, 4]);
+    all.vary("sheet's length", Clause::Sheet(1), &[], SHEET_LENGTH, &[right], &[1, 4]);
     let cut_or_longer = [5, right - 1, right + 1, MOST_SHEET_WORDS as u32];
     all.vary("sheet's length", Clause::Sheet(3), &[], SHEET_LENGTH, &[right], &cut_or_longer);
     let mut random = Random::new(20);
@@ -126,6 +127,33 @@ fn sheets(all: &mut Collection) {
             pokes.extend(words.iter().enumerate().map(|(place, &word)| (SHEET + place, word)));
             all.add("sheet with a fault", pokes, Expected::Unsound(Clause::Sheet(number)));
         }
+    }
+}
+
+/// A stored length of 0, whatever else the state holds. A load of no words stores the idle network's
+/// seven words, so that no call takes a state that nobody loaded for a network.
+fn no_sheets(all: &mut Collection) {
+    let no_sheet = Expected::Unsound(Clause::NoSheet);
+    let no_length = vec![(SHEET_LENGTH, 0)];
+    let all_zero: Vec<(usize, u32)> = (0..STATE_WORDS).map(|place| (place, 0)).collect();
+    let behind = |words: &[u32]| -> Vec<(usize, u32)> { (SHEET..).zip(words.iter().copied()).collect() };
+    let idle = behind(&idle_network().words());
+    all.add("no sheet, the plan behind", no_length.clone(), no_sheet);
+    all.add("no sheet, all words zero", all_zero.clone(), no_sheet);
+    all.add("no sheet, the idle network behind", [&no_length[..], &idle].concat(), no_sheet);
+    all.add("no sheet, zeros but the idle network", [&all_zero[..], &idle].concat(), no_sheet);
+    let other_sheets = [sheet_a().words(), vec![0; MOST_SHEET_WORDS], vec![LARGEST; MOST_SHEET_WORDS]];
+    for words in other_sheets {
+        all.add("no sheet, other words behind", [&no_length[..], &behind(&words)].concat(), no_sheet);
+    }
+    // Registers as the idle network could have them.
+    let clock = |place| Row::Clock.at(place);
+    let ordered = [(clock(ORDER_MARK), 1), (clock(ORDER_PERIOD), 5)];
+    let registers =
+        [&[(clock(CYCLE), 8)][..], &[(clock(PERIOD_NUMBER), LARGEST)], &ordered, &[(Row::LandingMark.at(3), 1)]];
+    for register in registers {
+        all.add("no sheet, zeros but a register", [&all_zero[..], register].concat(), no_sheet);
+        all.add("no sheet, idle network and a register", [&all_zero[..], &idle, register].concat(), no_sheet);
     }
 }
 

@@ -61,6 +61,7 @@ impl Row {
 /// A part of soundness, each of them met by a hand-made state.
 #[derive(Clone, Copy, Debug, PartialEq, Eq, PartialOrd, Ord)]
 pub enum Clause {
+    NoSheet,
     SheetLength,
     Sheet(u32),
     Schedule,
@@ -250,6 +251,10 @@ impl Reader {
     /// its published length.
     pub fn machine(&mut self, state: &[u32]) -> Result<Machine, Vec<Clause>> {
         let length = state[SHEET_LENGTH] as usize;
+        // A load of no words leaves the words that they stand for, so such a state was never loaded.
+        if length == 0 {
+            return Err(vec![Clause::NoSheet]);
+        }
         if length > MOST_SHEET_WORDS {
             return Err(vec![Clause::SheetLength]);
         }

@@ -111,7 +111,7 @@ pub enum Fault {
     LandingBeyondMemory,
 }
 
-/// A sheet that passed, with the neighbours of its nodes.
+/// A sheet that passed, by the words that it stands for, with the neighbours of its nodes.
 pub struct CheckedSheet {
     pub words: Vec<u32>,
     pub sheet: Sheet,
@@ -130,6 +130,7 @@ impl CheckedSheet {
         if number != 0 {
             return Err(number);
         }
+        let words = checker::meant(words);
         let sheet = checker::read(words).expect("the sheet passed");
         let neighbours = (0..sheet.columns * sheet.rows)
             .map(|node| {

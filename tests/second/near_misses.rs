@@ -5,10 +5,10 @@
 use std::collections::HashSet;
 
 use super::sheets::{
-    all_shortest_paths, examples, largest, largest_mixed, last_offset, neighbour, opposite,
-    passing_plan, passing_plans, path_of, route_of, sheet_a, shortest_path, shortest_runs, uses,
-    Case, Circuit, Entry, Occupied, Plan, Random, Schedule, WireKind, Wish, EAST, NORTH, SOUTH,
-    WEST,
+    all_shortest_paths, examples, idle_network, largest, largest_mixed, last_offset, neighbour,
+    opposite, passing_plan, passing_plans, path_of, route_of, sheet_a, shortest_path, shortest_runs,
+    uses, Case, Circuit, Entry, Occupied, Plan, Random, Schedule, WireKind, Wish, EAST, NORTH,
+    SOUTH, WEST,
 };
 
 pub const GRIDS: [(u32, u32); 9] =
@@ -29,6 +29,7 @@ pub fn all_cases() -> Vec<Case> {
         cases.push(largest(seed).case("largest", 0));
         cases.push(largest_mixed(seed).case("largest, mixed", 0));
     }
+    idle_networks(&mut cases);
     number1(&mut cases);
     number2(&mut cases);
     number3(&mut cases);
@@ -88,10 +89,34 @@ fn push_open(cases: &mut Vec<Case>, name: &'static str, words: Vec<u32>) {
     cases.push(Case { name, words, expected: None });
 }
 
+/// The idle network for which no words stand (example (b) has none), and words that are nearly
+/// those of it.
+fn idle_networks(cases: &mut Vec<Case>) {
+    let words = idle_network().words();
+    push_words(cases, "idle network", words.clone(), 0);
+    push_words(cases, "idle network, words missing", words[..5].to_vec(), 3);
+    push_words(cases, "idle network, a word missing", words[..6].to_vec(), 3);
+    push_words(cases, "idle network and a word more", [words.clone(), vec![0]].concat(), 3);
+    // Each word one less and one more; a circuit, schedule or entry more has no words of its own.
+    let numbers = [[2, 0], [2, 0], [2, 0], [2, 3], [2, 3], [7, 0], [3, 3]];
+    for (position, [less, more]) in numbers.into_iter().enumerate() {
+        let value = words[position];
+        for (altered, number) in [(value.wrapping_sub(1), less), (value + 1, more)] {
+            let mut changed = words.clone();
+            changed[position] = altered;
+            push_words(cases, "idle network, a word altered", changed, number);
+        }
+    }
+    for length in 5..=7 {
+        push_words(cases, "zeros", vec![0; length], 2);
+    }
+}
+
 fn number1(cases: &mut Vec<Case>) {
     let mut random = Random::new(101);
-    push_words(cases, "1: no words", Vec::new(), 1);
     for length in 1..5 {
+        let start = idle_network().words()[..length].to_vec();
+        push_words(cases, "1: start of the idle network", start, 1);
         for plan in subjects(101, 12) {
             push_words(cases, "1: start of a sheet", plan.words()[..length].to_vec(), 1);
         }

@@ -1,13 +1,15 @@
 //! Plays generated sessions call by call: whoever is tested, the second machine and the
 //! reckoning of every circuit have to say the same, and every lent word has to be as the
-//! second machine says, after refused calls too.
+//! second machine says, after refused calls too. A load of no words has to do what a load of
+//! the idle network does that they stand for.
 
 use super::calls::{number_of, Call, Calls, Second};
 use super::coverage::Coverage;
 use super::lent::{Row, PERIOD_NUMBER, STATE_WORDS};
 use super::machine::{Machine, INTERRUPT};
-use super::reckoning::{Reckoning, Word};
-use super::sessions::{Generator, Made, SESSIONS};
+use super::reckoning::{Calendar, Reckoning, Word};
+use super::sessions::{Generator, Made, NO_WORDS_FROM, SESSIONS};
+use super::sheets::idle_network;
 use super::words::{Lent, Words};
 use std::process::ExitCode;
 
@@ -16,11 +18,19 @@ const DIFFERENCES_SHOWN: usize = 5;
 /// Cycles between two rounds of questions about every circuit and node.
 const QUESTIONS_EVERY: u32 = 9;
 
+const LOADS_NO_WORDS: &str = "situation: session in which no words are loaded";
+const SESSIONS_REQUIRED_OF_NO_WORDS: u64 = 40;
+
 struct Player<'a, C> {
     tested: &'a mut C,
     coverage: &'a mut Coverage,
     second: Second,
     reckonings: Vec<Reckoning>,
+    /// What holds without circuits too; there is one once a load was carried out.
+    calendar: Option<Calendar>,
+    /// Whether the network was loaded by no words.
+    idle: bool,
+    loads_of_no_words: u32,
     actual: Words,
     expected: Words,
     cycles: u32,
@@ -46,7 +56,8 @@ pub fn play_all(tested: &mut impl Calls) -> ExitCode {
     for difference in differences.iter().take(DIFFERENCES_SHOWN) {
         println!("{difference}");
     }
-    let complete = coverage.has_all(wanted().iter().map(String::as_str));
+    let complete = coverage.has_all(wanted().iter().map(String::as_str))
+        & coverage.has_at_least(SESSIONS_REQUIRED_OF_NO_WORDS, LOADS_NO_WORDS);
     let failed = differences.len() + usize::from(!complete);
     println!("{passed} passed, {failed} failed");
     if failed == 0 {
@@ -56,7 +67,13 @@ pub fn play_all(tested: &mut impl Calls) -> ExitCode {
     }
 }
 
-/// Every call with every number that a session can meet, and the situations that matter.
+/// Whether a session in which no words are loaded tells someone from the second machine.
+pub fn is_noticed(tested: &mut impl Calls) -> bool {
+    (NO_WORDS_FROM..SESSIONS).any(|session| play(tested, &mut Coverage::default(), session).is_err())
+}
+
+/// Every call with every number that a session can meet, on the idle network too, and the
+/// situations that matter.
 fn wanted() -> Vec<String> {
     let numbers: [(&str, &[u32]); 9] = [
         ("load", &[0, 1, 2, 3, 4, 5, 6, 7, 8, 9, 10, 11, 12, 14]),
@@ -69,16 +86,39 @@ fn wanted() -> Vec<String> {
         ("order", &[0, 12, 15, 18, 19]),
         ("cycle", &[0, 12, 14]),
     ];
+    let idle_numbers: [(&str, &[u32]); 9] = [
+        ("load", &[0, 1, 12, 14]),
+        ("start", &[12, 15]),
+        ("store", &[0, 12, 14, 15]),
+        ("fetch", &[0, 12, 14, 15]),
+        ("words left", &[12, 15]),
+        ("period number", &[0, 12]),
+        ("what landed", &[0, 12, 15]),
+        ("order", &[0, 12, 15, 18, 19]),
+        ("cycle", &[0, 12, 14]),
+    ];
     let mut names = Vec::new();
     for (call, numbers) in numbers {
         names.extend(numbers.iter().map(|&number| answer_name(call, number)));
     }
+    for (call, numbers) in idle_numbers {
+        names.extend(numbers.iter().map(|&number| idle_name(&answer_name(call, number))));
+    }
+    names.extend([0, 12, 14].map(|number| answer_name(LOAD_OF_NO_WORDS, number)));
+    names.extend(IDLE_SITUATIONS.map(idle_name));
     names.extend(SITUATIONS.map(|name| format!("situation: {name}")));
     names.extend(WAYS.map(|name| format!("made: {name}")));
     for columns in 2..=4 {
         names.extend((2..=4).map(|rows| grid_name(columns, rows)));
     }
     names
+}
+
+const LOAD_OF_NO_WORDS: &str = "load of no words";
+
+/// What is met on a network that was loaded by no words is counted apart besides.
+fn idle_name(name: &str) -> String {
+    format!("idle network, {name}")
 }
 
 fn answer_name(call: &str, number: u32) -> String {
@@ -92,7 +132,15 @@ fn grid_name(columns: u64, rows: u64) -> String {
     format!("situation: landing in a grid of {columns} by {rows}")
 }
 
-const SITUATIONS: [&str; 25] = [
+const IDLE_SITUATIONS: [&str; 5] = [
+    "no words loaded again",
+    "another sheet loaded",
+    "schedule in force ordered again and put in force",
+    "order for a period behind the wrap",
+    "period number wraps",
+];
+
+const SITUATIONS: [&str; 27] = [
     "state longer than published",
     "start while earlier words of the circuit travel",
     "start in the first cycle of the circuit's slot",
@@ -117,6 +165,8 @@ const SITUATIONS: [&str; 25] = [
     "period number wraps",
     "order for a period behind the wrap",
     "load carried out in the midst of transfers",
+    "no words loaded in the midst of transfers",
+    "no words loaded while words travel",
     "refused call on a state with words travelling",
 ];
 
@@ -149,6 +199,9 @@ fn play(tested: &mut impl Calls, coverage: &mut Coverage, session: u64) -> Resul
         coverage,
         second: Second::living(),
         reckonings: Vec::new(),
+        calendar: None,
+        idle: false,
+        loads_of_no_words: 0,
         actual: words.clone(),
         expected: words,
         cycles: 0,
@@ -166,13 +219,18 @@ fn play(tested: &mut impl Calls, coverage: &mut Coverage, session: u64) -> Resul
             player.ask_everything(made.lent)?;
         }
     }
+    if player.loads_of_no_words > 0 {
+        player.coverage.met(LOADS_NO_WORDS);
+    }
     Ok(())
 }
 
 impl<C: Calls> Player<'_, C> {
     /// Makes one call and compares the answer and every lent word.
     fn make(&mut self, made: &Made) -> Result<(), String> {
-        let before = (!self.reckonings.is_empty()).then(|| self.second.view().clone());
+        let before = self.calendar.is_some().then(|| self.second.view().clone());
+        let loads_no_words = matches!(&made.call, Call::Load { sheet } if sheet.is_empty());
+        let unloaded = loads_no_words.then(|| self.actual.clone());
         let expected = self.expected.make(&made.call, made.lent, &mut self.second);
         let actual = self.actual.make(&made.call, made.lent, self.tested);
         let complaint =
@@ -184,7 +242,14 @@ impl<C: Calls> Player<'_, C> {
             return Err(complaint(format!("answered {actual:#x}, second machine {expected:#x}")));
         }
         self.actual.compare(&self.expected).map_err(complaint)?;
+        if let Some(unloaded) = unloaded {
+            self.load_written_out(unloaded, made.lent, actual).map_err(complaint)?;
+            self.coverage.met(&answer_name(LOAD_OF_NO_WORDS, made.expected));
+        }
         self.coverage.met(&answer_name(made.call.name(), made.expected));
+        if self.idle {
+            self.coverage.met(&idle_name(&answer_name(made.call.name(), made.expected)));
+        }
         self.coverage.met(&format!("made: {}", made.name));
         if made.lent.state > STATE_WORDS {
             self.coverage.met("situation: state longer than published");
@@ -197,6 +262,17 @@ impl<C: Calls> Player<'_, C> {
             self.compare_reckonings().map_err(complaint)?;
         }
         Ok(())
+    }
+
+    /// Loads the idle network by its own words, where no words were loaded: the answer and every
+    /// lent word have to be the same.
+    fn load_written_out(&mut self, mut words: Words, lent: Lent, answer: u64) -> Result<(), String> {
+        let call = Call::Load { sheet: idle_network().words() };
+        let written_out = words.make(&call, lent, self.tested);
+        if written_out != answer {
+            return Err(format!("answered {answer:#x}, a load of the idle network's words {written_out:#x}"));
+        }
+        words.compare(&self.expected).map_err(|what| format!("after a load of the idle network's words: {what}"))
     }
 
     /// What words left and what landed answer, for every circuit and node.
@@ -225,13 +301,24 @@ impl<C: Calls> Player<'_, C> {
         for reckoning in &mut self.reckonings {
             reckoning.number_periods_from(period_number);
         }
+        if let Some(calendar) = &mut self.calendar {
+            calendar.period_number = period_number;
+        }
     }
 
-    /// Tells the reckonings of a call that was carried out.
+    /// Tells the reckonings and the calendar of a call that was carried out.
     fn reckon(&mut self, call: &Call) {
+        match (call, &mut self.calendar) {
+            (Call::Order { schedule, period_number }, Some(calendar)) => calendar.order(*schedule, *period_number),
+            (Call::Cycle, Some(calendar)) => calendar.pass_cycle(),
+            _ => {}
+        }
         match *call {
-            Call::Load { .. } => {
+            Call::Load { sheet: ref loaded } => {
                 let sheet = &self.second.view().sheet.sheet;
+                self.calendar = Some(Calendar::new(sheet));
+                self.idle = loaded.is_empty();
+                self.loads_of_no_words += u32::from(self.idle);
                 self.reckonings = (0..sheet.circuits.len())
                     .map(|circuit| Reckoning::new(sheet, circuit, &self.actual.memory))
                     .collect();
@@ -256,6 +343,13 @@ impl<C: Calls> Player<'_, C> {
     /// The machine has the words of the tested state by now; it shows what is reckoned.
     fn compare_reckonings(&self) -> Result<(), String> {
         let machine = self.second.view();
+        if let Some(calendar) = &self.calendar {
+            let shown = (machine.clock.schedule as usize, machine.period_number(), u64::from(machine.clock.cycle));
+            let reckoned = (calendar.schedule, calendar.period_number, calendar.cycle);
+            if shown != reckoned {
+                return Err(format!("schedule, period number, cycle {shown:?}, reckoned {reckoned:?}"));
+            }
+        }
         for (circuit, reckoning) in self.reckonings.iter().enumerate() {
             compare_reckoning(machine, circuit, reckoning, &self.actual.memory)
                 .map_err(|what| format!("circuit {circuit}: {what}"))?;
@@ -280,9 +374,7 @@ impl<C: Calls> Player<'_, C> {
             }
         } else {
             match made.call {
-                Call::Load { .. } if before.senders.iter().any(|sender| sender.left > 0) => {
-                    names.push("load carried out in the midst of transfers".to_string());
-                }
+                Call::Load { ref sheet } => self.note_load(before, sheet, travelling, &mut names),
                 Call::Start { circuit, .. } => self.note_start(before, circuit as usize, &mut names),
                 Call::Store { node, address, .. } => self.note_store(before, node, address, &mut names),
                 Call::Order { period_number, .. } if period_number < before.period_number() => {
@@ -294,6 +386,25 @@ impl<C: Calls> Player<'_, C> {
         }
         for name in names {
             self.coverage.met(&format!("situation: {name}"));
+            if self.idle {
+                self.coverage.met(&idle_name(&name));
+            }
+        }
+    }
+
+    fn note_load(&self, before: &Machine, sheet: &[u32], travelling: bool, names: &mut Vec<String>) {
+        let no_words = sheet.is_empty();
+        if before.senders.iter().any(|sender| sender.left > 0) {
+            names.push("load carried out in the midst of transfers".to_string());
+            if no_words {
+                names.push("no words loaded in the midst of transfers".to_string());
+            }
+        }
+        if no_words && travelling {
+            names.push("no words loaded while words travel".to_string());
+        }
+        if self.idle {
+            names.push(if no_words { "no words loaded again" } else { "another sheet loaded" }.to_string());
         }
     }
 

@@ -1,6 +1,7 @@
 //! Runs states that no calls need lead to: the hand-made ones, and states from the midst of
 //! generated sessions with some words or all registers written over. The second machine says
-//! each answer and every lent word afterwards, refused calls included.
+//! each answer and every lent word afterwards, refused calls included. What a load of no words
+//! leaves, and what is then answered, stands here besides.
 
 use super::calls::{number_of, Call, Calls, Second};
 use super::coverage::Coverage;
@@ -10,12 +11,14 @@ use super::lent::{
     SCHEDULE, SHEET, SHEET_LENGTH, STATE_WORDS,
 };
 use super::machine::{Cell, Fault, Machine, DATA, EMPTY, HEADER, INTERRUPT, LAST, PORTS};
-use super::sessions::{Generator, SPARE_WORDS};
-use super::sheets::{sheet_a, Random};
+use super::sessions::{Generator, NO_WORDS_FROM, SPARE_WORDS};
+use super::sheets::{idle_network, sheet_a, Random};
 use super::words::{Lent, Words};
 use std::process::ExitCode;
 
 const SNAPSHOTS: u64 = 432;
+/// Further ones, from sessions that load no words.
+const SNAPSHOTS_OF_NO_WORDS: u64 = 18;
 const POKED_STATES_OF_EACH: usize = 60;
 const FILLED_STATES_OF_EACH: usize = 12;
 const POKED_STATES_REQUIRED: usize = 20_000;
@@ -31,16 +34,13 @@ struct Runner<'a, C> {
     differences: Vec<String>,
 }
 
+/// All memory words of the idle network.
+const IDLE_MEMORY_WORDS: usize = 4;
+
 pub fn run_all(tested: &mut impl Calls) -> ExitCode {
-    let mut runner = Runner {
-        tested,
-        second: Second::reading(),
-        reader: Reader::default(),
-        coverage: Coverage::default(),
-        passed: 0,
-        differences: Vec::new(),
-    };
-    runner.run_hand_made();
+    let mut runner = Runner::new(tested);
+    runner.run_hand_made(&hand_made_states());
+    runner.run_loads_of_no_words();
     runner.run_hand_made_cycles();
     runner.run_example_m();
     let poked = runner.run_poked();
@@ -58,10 +58,21 @@ pub fn run_all(tested: &mut impl Calls) -> ExitCode {
     }
 }
 
+/// Whether a load of no words or a state without a sheet tells someone from the second machine.
+pub fn is_noticed(tested: &mut impl Calls) -> bool {
+    let mut runner = Runner::new(tested);
+    let mut states = hand_made_states();
+    states.retain(|made| made.expected == Expected::Unsound(Clause::NoSheet));
+    runner.run_hand_made(&states);
+    runner.run_loads_of_no_words();
+    !runner.differences.is_empty()
+}
+
 /// Every clause and every cause of number 20, made by hand and come upon by chance. By chance
 /// only some numbers of the sheet are sure to be met.
 fn wanted() -> Vec<String> {
     let clauses = [
+        Clause::NoSheet,
         Clause::SheetLength,
         Clause::Schedule,
         Clause::Cycle,
@@ -101,10 +112,40 @@ fn wanted() -> Vec<String> {
     }
     names.push("filled: cycle carried out".to_string());
     names.extend((1..=11).map(|number| format!("hand-made: 13 by {:?} alone", Clause::Sheet(number))));
+    names.extend(calls_of_idle_network().iter().map(no_sheet_name));
     names
 }
 
+/// Each call that tests the state, as the idle network would take it; a circuit it does not have.
+fn calls_of_idle_network() -> [Call; 8] {
+    [
+        Call::Start { circuit: 0, read: 0, write: 0, count: 1, kind: DATA },
+        Call::Store { node: 3, address: 0, word: 5 },
+        Call::Fetch { node: 3, address: 0 },
+        Call::WordsLeft { circuit: 0 },
+        Call::PeriodNumber,
+        Call::WhatLanded { node: 3, field: 0 },
+        Call::Order { schedule: 0, period_number: 3 },
+        Call::Cycle,
+    ]
+}
+
+fn no_sheet_name(call: &Call) -> String {
+    format!("no sheet: {}, 13", call.name())
+}
+
 impl<C: Calls> Runner<'_, C> {
+    fn new(tested: &mut C) -> Runner<'_, C> {
+        Runner {
+            tested,
+            second: Second::reading(),
+            reader: Reader::default(),
+            coverage: Coverage::default(),
+            passed: 0,
+            differences: Vec::new(),
+        }
+    }
+
     /// Makes a call on both and compares answers and words; its number.
     fn compare(&mut self, call: &Call, lent: Lent, actual: &mut Words, expected: &mut Words) -> Result<u32, String> {
         let expected_answer = expected.make(call, lent, &mut self.second);
@@ -126,21 +167,145 @@ impl<C: Calls> Runner<'_, C> {
         }
     }
 
-    fn run_hand_made(&mut self) {
+    fn run_hand_made(&mut self, states: &[HandMade]) {
         let plan = hand_made_plan();
         let mut random = Random::new(13);
         let memory: Vec<u32> = (0..plan.nodes() * plan.memory_words).map(|_| random.word()).collect();
         let mut state = vec![0xA5A5_A5A5; STATE_WORDS + SPARE_WORDS];
         assert_eq!(self.second.load(&plan.words(), &mut state, &memory), 0, "the plan passes");
         let loaded = Words { state, memory };
-        for made in hand_made_states() {
+        for made in states {
             let words = written_over(&loaded, &made.pokes);
             let result = self
-                .judge(&made, &words)
-                .and_then(|()| self.call_all(&words))
-                .and_then(|()| self.call_on_short_slices(&made, &words));
-            self.count(result, || format!("{} {:?}", made.name, made.pokes));
+                .judge(made, &words)
+                .and_then(|()| self.call_all(made, &words))
+                .and_then(|()| self.call_on_short_slices(made, &words))
+                .and_then(|()| self.call_without_sheet(made, &words));
+            self.count(result, || format!("{} {:?}", made.name, &made.pokes[..made.pokes.len().min(20)]));
         }
+    }
+
+    /// Where the state has no sheet: every call that tests a state is refused and writes nothing, on
+    /// the idle network's memory too. A load of no words then makes the state an idle network.
+    fn call_without_sheet(&mut self, made: &HandMade, words: &Words) -> Result<(), String> {
+        if made.expected != Expected::Unsound(Clause::NoSheet) {
+            return Ok(());
+        }
+        for memory in [0, IDLE_MEMORY_WORDS, words.memory.len()] {
+            let lent = Lent { memory, ..words.all() };
+            for call in &calls_of_idle_network() {
+                let (mut actual, mut expected) = (words.clone(), words.clone());
+                let number = self.compare(call, lent, &mut actual, &mut expected)?;
+                if number != 13 {
+                    return Err(format!("{call:?}, {lent:?}: number {number}, expected 13"));
+                }
+                actual.compare(words).map_err(|what| format!("after {call:?}, as it was before: {what}"))?;
+                self.coverage.met(&no_sheet_name(call));
+            }
+        }
+        let (mut actual, mut expected) = (words.clone(), words.clone());
+        let lent = Lent { memory: IDLE_MEMORY_WORDS, ..words.all() };
+        for call in [Call::Load { sheet: Vec::new() }, Call::PeriodNumber, Call::Cycle] {
+            let number = self.compare(&call, lent, &mut actual, &mut expected)?;
+            if number != 0 {
+                return Err(format!("{call:?}, {lent:?}: number {number}, expected 0"));
+            }
+        }
+        Ok(())
+    }
+
+    fn run_loads_of_no_words(&mut self) {
+        for filler in [0, 0xA5A5_A5A5, u32::MAX] {
+            let result = self.load_no_words(filler);
+            self.count(result, || format!("load of no words on words {filler}"));
+            let result = self.call_on_idle_network(filler);
+            self.count(result, || format!("calls on the idle network, loaded on words {filler}"));
+        }
+    }
+
+    /// The number of each load by the lengths lent, and every word afterwards that is expected by
+    /// hand. One to four words are no idle network.
+    fn load_no_words(&mut self, filler: u32) -> Result<(), String> {
+        let idle = idle_network().words();
+        let words = Words { state: vec![filler; STATE_WORDS + SPARE_WORDS], memory: vec![filler; 32] };
+        for (sheet_words, state, memory, expected) in [
+            (0, STATE_WORDS, 4, 0),
+            (0, STATE_WORDS + 1, 4, 0),
+            (0, STATE_WORDS + SPARE_WORDS, 4, 0),
+            (0, 0, 4, 12),
+            (0, SHEET + idle.len(), 4, 12),
+            (0, STATE_WORDS - 1, 4, 12),
+            (0, STATE_WORDS - 1, 3, 12),
+            (0, 0, 0, 12),
+            (0, STATE_WORDS, 0, 14),
+            (0, STATE_WORDS, 1, 14),
+            (0, STATE_WORDS, 3, 14),
+            (0, STATE_WORDS, 5, 14),
+            (0, STATE_WORDS + SPARE_WORDS, 32, 14),
+            (1, STATE_WORDS, 4, 1),
+            (2, STATE_WORDS - 1, 4, 1),
+            (3, STATE_WORDS, 3, 1),
+            (4, STATE_WORDS, 4, 1),
+            (7, STATE_WORDS, 4, 0),
+        ] {
+            let call = Call::Load { sheet: idle[..sheet_words].to_vec() };
+            let what = format!("{sheet_words} words on {state} and {memory}");
+            let (mut actual, mut predicted) = (words.clone(), words.clone());
+            let number = self.compare(&call, Lent { state, memory }, &mut actual, &mut predicted)?;
+            if number != expected {
+                return Err(format!("{what}: number {number}, expected {expected}"));
+            }
+            let by_hand = if expected == 0 { loaded_by_no_words(&words) } else { words.clone() };
+            actual.compare(&by_hand).map_err(|difference| format!("{what}, by hand: {difference}"))?;
+        }
+        Ok(())
+    }
+
+    /// What the idle network answers, and that its period is of nine cycles in which only the clock moves.
+    fn call_on_idle_network(&mut self, filler: u32) -> Result<(), String> {
+        let words = Words { state: vec![filler; STATE_WORDS], memory: vec![filler; IDLE_MEMORY_WORDS + 1] };
+        let loaded = loaded_by_no_words(&words);
+        let store = |node, address| Call::Store { node, address, word: 9 };
+        let order = |schedule| Call::Order { schedule, period_number: 3 };
+        let start = |circuit, count| Call::Start { circuit, read: 0, write: 0, count, kind: DATA };
+        let mut calls = vec![
+            (start(0, 1), 4, 15),
+            (start(0, 0), 4, 15),
+            (start(u32::MAX, 1), 4, 15),
+            (Call::WordsLeft { circuit: 0 }, 4, 15),
+            (store(4, 0), 4, 15),
+            (store(0, 1), 4, 15),
+            (Call::Fetch { node: 4, address: 0 }, 4, 15),
+            (Call::Fetch { node: 0, address: 1 }, 4, 15),
+            (Call::WhatLanded { node: 4, field: 0 }, 4, 15),
+            (order(0), 4, 0),
+            (order(1), 4, 15),
+            (order(u32::MAX), 4, 15),
+            (Call::PeriodNumber, 0, 0),
+        ];
+        for node in 0..4 {
+            calls.extend([(store(node, 0), 4, 0), (store(node, 0), 3, 14), (store(node, 0), 5, 14)]);
+            calls.extend([(Call::Fetch { node, address: 0 }, 4, 0), (Call::Fetch { node, address: 0 }, 5, 14)]);
+            calls.push((Call::WhatLanded { node, field: 0 }, 0, 0));
+        }
+        calls.extend([0, 3, 5].map(|memory| (Call::Cycle, memory, 14)));
+        for (call, memory, expected) in calls {
+            let (mut actual, mut predicted) = (loaded.clone(), loaded.clone());
+            let lent = Lent { memory, ..loaded.all() };
+            let number = self.compare(&call, lent, &mut actual, &mut predicted)?;
+            if number != expected {
+                return Err(format!("{call:?}, {lent:?}: number {number}, expected {expected}"));
+            }
+        }
+        let (mut actual, mut predicted) = (loaded.clone(), loaded.clone());
+        for cycles in 1..=20 {
+            let lent = Lent { memory: IDLE_MEMORY_WORDS, ..loaded.all() };
+            let number = self.compare(&Call::Cycle, lent, &mut actual, &mut predicted)?;
+            let clock = [(Row::Clock.at(CYCLE), cycles % 9), (Row::Clock.at(PERIOD_NUMBER), cycles / 9)];
+            let by_hand = written_over(&loaded, &clock);
+            actual.compare(&by_hand).map_err(|what| format!("cycle {cycles}, number {number}, by hand: {what}"))?;
+        }
+        Ok(())
     }
 
     fn run_hand_made_cycles(&mut self) {
@@ -224,8 +389,9 @@ impl<C: Calls> Runner<'_, C> {
         }
     }
 
-    /// Each call on the state as it is, then cycles one behind the other.
-    fn call_all(&mut self, words: &Words) -> Result<(), String> {
+    /// Each call on the state as it is: all but the load have 13 just when it is unsound. Then cycles
+    /// one behind the other.
+    fn call_all(&mut self, made: &HandMade, words: &Words) -> Result<(), String> {
         let mut calls = vec![
             Call::Load { sheet: hand_made_plan().words() },
             Call::Start { circuit: 0, read: 0, write: 0, count: 1, kind: INTERRUPT },
@@ -241,7 +407,11 @@ impl<C: Calls> Runner<'_, C> {
         }
         for call in &calls {
             let (mut actual, mut expected) = (words.clone(), words.clone());
-            self.compare(call, words.all(), &mut actual, &mut expected)?;
+            let number = self.compare(call, words.all(), &mut actual, &mut expected)?;
+            let unsound = matches!(made.expected, Expected::Unsound(_)) && !matches!(call, Call::Load { .. });
+            if (number == 13) != unsound {
+                return Err(format!("{}: number {number} by a state for {:?}", call.start_of_text(), made.expected));
+            }
         }
         let (mut actual, mut expected) = (words.clone(), words.clone());
         for _ in 0..CYCLES_OF_HAND_MADE {
@@ -273,7 +443,7 @@ impl<C: Calls> Runner<'_, C> {
     /// States from the midst of sessions with words written over; the number of those with few.
     fn run_poked(&mut self) -> usize {
         let mut poked = 0;
-        for session in 0..SNAPSHOTS {
+        for session in (0..SNAPSHOTS).chain(NO_WORDS_FROM..NO_WORDS_FROM + SNAPSHOTS_OF_NO_WORDS) {
             let (words, machine) = snapshot(session);
             let mut random = Random::new(0x0909_0000 + session);
             for _ in 0..POKED_STATES_OF_EACH {
@@ -325,6 +495,16 @@ fn written_over(words: &Words, pokes: &[(usize, u32)]) -> Words {
         words.state[place] = value;
     }
     words
+}
+
+/// What a load of no words leaves.
+fn loaded_by_no_words(words: &Words) -> Words {
+    let idle = idle_network().words();
+    let mut loaded = words.clone();
+    loaded.state[..MOVING_WORDS].fill(0);
+    loaded.state[SHEET_LENGTH] = idle.len() as u32;
+    loaded.state[SHEET..SHEET + idle.len()].copy_from_slice(&idle);
+    loaded
 }
 
 /// What a state meets in a cycle.
@@ -431,7 +611,7 @@ fn some_sheet_pokes(random: &mut Random, machine: &Machine) -> Vec<(usize, u32)>
     let place = random.position(length);
     let word = machine.sheet.words[place];
     let changed = random.choose(&[word.wrapping_add(1), word.wrapping_sub(1), 0, u32::MAX]);
-    let stated = random.choose(&[0, length as u32 - 1, length as u32 + 1, 8_597, 8_598, u32::MAX]);
+    let stated = random.choose(&[0, 4, length as u32 - 1, length as u32 + 1, 8_597, 8_598, u32::MAX]);
     vec![random.choose(&[(SHEET + place, changed), (SHEET + place, changed), (SHEET_LENGTH, stated)])]
 }
 
@@ -504,6 +684,7 @@ fn some_call(random: &mut Random, machine: &Machine) -> Call {
     let memory_words = machine.sheet.memory_words() as u32;
     let (node, address) = (random.between(0, nodes), random.between(0, memory_words));
     match random.between(0, 7) {
+        0 if random.once_in(3) => Call::Load { sheet: Vec::new() },
         0 => Call::Load { sheet: machine.sheet.words.clone() },
         1 if circuits > 0 => {
             let circuit = random.between(0, circuits - 1);

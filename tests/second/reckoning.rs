@@ -1,22 +1,38 @@
 //! What one circuit sends, reckoned from the sheet and the calls that were carried out
-//! (document 01, "The lists of demand 3"): no network, no registers, no other circuit.
+//! (document 01, "The lists of demand 3"): no network, no registers, no other circuit. The
+//! calendar alone is what is reckoned of a network without circuits.
 
 use super::checker::{distance, Sheet};
 use std::collections::VecDeque;
 
 /// Schedule in force, period number and cycle, from the orders carried out.
 #[derive(Clone)]
-struct Calendar {
+pub struct Calendar {
     periods: Vec<u64>,
-    schedule: usize,
-    period_number: u32,
-    cycle: u64,
+    pub schedule: usize,
+    pub period_number: u32,
+    pub cycle: u64,
     /// Schedule and period number of the pending order.
     order: Option<(usize, u32)>,
 }
 
 impl Calendar {
-    fn pass_cycle(&mut self) {
+    /// Directly after a load of the sheet.
+    pub fn new(sheet: &Sheet) -> Calendar {
+        Calendar {
+            periods: sheet.schedules.iter().map(|schedule| schedule.period).collect(),
+            schedule: 0,
+            period_number: 0,
+            cycle: 0,
+            order: None,
+        }
+    }
+
+    pub fn order(&mut self, schedule: u32, period_number: u32) {
+        self.order = Some((schedule as usize, period_number));
+    }
+
+    pub fn pass_cycle(&mut self) {
         self.cycle += 1;
         if self.cycle == self.periods[self.schedule] {
             self.cycle = 0;
@@ -104,13 +120,7 @@ impl Reckoning {
         Reckoning {
             hops: distance(sheet, record.source, record.destination),
             slots: (0..sheet.schedules.len()).map(slots_in).collect(),
-            calendar: Calendar {
-                periods: sheet.schedules.iter().map(|schedule| schedule.period).collect(),
-                schedule: 0,
-                period_number: 0,
-                cycle: 0,
-                order: None,
-            },
+            calendar: Calendar::new(sheet),
             cycles: 0,
             transfer: Transfer { read: 0, write: 0, count: 0, kind: 0 },
             gone: 0,
@@ -143,7 +153,7 @@ impl Reckoning {
     }
 
     pub fn order(&mut self, schedule: u32, period_number: u32) {
-        self.calendar.order = Some((schedule as usize, period_number));
+        self.calendar.order(schedule, period_number);
     }
 
     pub fn cycle(&mut self) {

@@ -8,8 +8,9 @@
 //! travel; stores and fetches anywhere, mostly in regions in use; orders 3 and more periods
 //! ahead, 2^31 − 1 ahead, and refused in each way of 15, 18, 19; loads in the midst, carried
 //! out and refused with each of 1 to 12 and 14; states and memories lent too short or too
-//! long; period numbers that wrap, for which the first period's number is written into the
-//! state directly after the load, the only word that no call has written.
+//! long; the idle network, loaded by no words at first or in the midst; period numbers that
+//! wrap, for which the first period's number is written into the state directly after the
+//! load, the only word that no call has written.
 //! Not covered: other states that no calls lead to (tests/states.rs has those), and switches
 //! between schedules of more than some hundred cycles, which three periods would make long.
 
@@ -17,15 +18,20 @@ use super::calls::Call;
 use super::lent::{MOVING_WORDS, STATE_WORDS};
 use super::machine::{Machine, DATA, INTERRUPT};
 use super::near_misses::{add_fault, GRIDS};
-use super::sheets::{largest, passing_plan, some_schedule, Plan, Random, Wish};
+use super::sheets::{idle_network, largest, passing_plan, some_schedule, Plan, Random, Wish};
 use super::words::{Lent, Words};
 
 /// Words behind the published length of a state and behind a memory.
 pub const SPARE_WORDS: usize = 16;
 
-/// All sessions; the last two have the largest sheet.
-pub const SESSIONS: u64 = 2_198;
-const LARGEST_FROM: u64 = SESSIONS - 2;
+/// From here on sessions have the largest sheet.
+const LARGEST_FROM: u64 = 2_196;
+/// From here on no words are loaded first, and another sheet or no words again in the midst.
+pub const NO_WORDS_FROM: u64 = LARGEST_FROM + 2;
+/// From here on another sheet is loaded first, and no words in the midst.
+const NO_WORDS_LATER_FROM: u64 = NO_WORDS_FROM + 72;
+/// All sessions.
+pub const SESSIONS: u64 = NO_WORDS_LATER_FROM + 24;
 
 /// A call with the way it was made and the number that this calls for.
 pub struct Made {
@@ -54,6 +60,8 @@ impl Start {
 pub struct Generator {
     pub random: Random,
     plans: Vec<Plan>,
+    /// Which plan is the idle network, loaded by no words; mostly none.
+    idle: Option<usize>,
     /// Which plan is loaded.
     current: usize,
     /// Circuits that are still to be started at first.
@@ -74,15 +82,25 @@ impl Generator {
         let mut random = Random::new(0x5E55_1000 + session);
         let (columns, rows) = GRIDS[session as usize % GRIDS.len()];
         let style = session / GRIDS.len() as u64 % 24;
-        let plan =
-            if session >= LARGEST_FROM { largest(session) } else { plan_of_style(&mut random, columns, rows, style) };
+        let is_largest = (LARGEST_FROM..NO_WORDS_FROM).contains(&session);
+        let plan = if is_largest { largest(session) } else { plan_of_style(&mut random, columns, rows, style) };
         let (other_columns, other_rows) = random.choose(&GRIDS);
         let other = plan_of_style(&mut random, other_columns, other_rows, 0);
+        let mut plans = vec![plan, other];
+        let idle = match session {
+            NO_WORDS_LATER_FROM.. => Some(1),
+            NO_WORDS_FROM.. => Some(0),
+            _ => None,
+        };
+        if let Some(idle) = idle {
+            plans[idle] = idle_network();
+        }
         let state_words = STATE_WORDS + random.choose(&[0, 0, 0, 1, SPARE_WORDS]);
-        let cycles = if session >= LARGEST_FROM { 300 } else { random.between(40, 170) };
-        let first_period = random.once_in(6).then(|| u32::MAX - random.between(0, 4));
-        let to_start = plan.circuits.len();
-        Generator { random, plans: vec![plan, other], current: 0, to_start, state_words, cycles, first_period }
+        let cycles = if is_largest { 300 } else { random.between(40, 170) };
+        let wraps = random.once_in(if idle == Some(0) { 2 } else { 6 });
+        let first_period = wraps.then(|| u32::MAX - random.between(0, 4));
+        let to_start = plans[0].circuits.len();
+        Generator { random, plans, idle, current: 0, to_start, state_words, cycles, first_period }
     }
 
     /// Lent words of any content: the state's, and memory enough for every sheet of the session.
@@ -93,11 +111,20 @@ impl Generator {
     }
 
     pub fn first_load(&self) -> Made {
-        self.made("first load", Call::Load { sheet: self.plans[0].words() }, 0)
+        self.made("first load", self.load(), 0)
     }
 
     fn plan(&self) -> &Plan {
         &self.plans[self.current]
+    }
+
+    /// The load of the present plan.
+    fn load(&self) -> Call {
+        Call::Load { sheet: if self.is_idle() { Vec::new() } else { self.plan().words() } }
+    }
+
+    fn is_idle(&self) -> bool {
+        self.idle == Some(self.current)
     }
 
     fn made(&self, name: &'static str, call: Call, expected: u32) -> Made {
@@ -122,7 +149,7 @@ impl Generator {
             92..=94 => self.order(machine),
             95 => self.refused_order(machine),
             96 => self.refused_load(),
-            97 if self.random.once_in(12) => self.further_load(),
+            97 if self.random.once_in(if self.idle.is_some() { 2 } else { 12 }) => self.further_load(),
             97 => self.made("cycle", Call::Cycle, 0),
             _ => self.wrong_buffers(machine),
         }
@@ -168,7 +195,10 @@ impl Generator {
     /// A start with one thing wrong. Numbers 15 and 16 come before 17, so the circuit may be busy.
     fn refused_start(&mut self, machine: &Machine) -> Made {
         if machine.senders.is_empty() {
-            let start = Start { circuit: 0, read: 0, write: 0, count: 1, kind: DATA };
+            // The count may be wrong too: 16 comes later.
+            let random = &mut self.random;
+            let (circuit, count) = (random.choose(&[0, 1, 63, u32::MAX]), random.choose(&[1, 1, 0, 2]));
+            let start = Start { circuit, read: 0, write: 0, count, kind: random.choose(&[DATA, INTERRUPT]) };
             return self.made("start: no such circuit", start.call(), 15);
         }
         let circuit = self.random.position(machine.senders.len());
@@ -370,10 +400,10 @@ impl Generator {
         if !rich(&self.plans[plan]) {
             plan = 1 - plan;
         }
-        let number = self.random.between(1, 11);
+        let number = if self.is_idle() && self.random.once_in(2) { 1 } else { self.random.between(1, 11) };
         let mut changed = self.plans[plan].clone();
         let mut made = if number == 1 || !rich(&changed) {
-            let length = self.random.between(0, 4) as usize;
+            let length = self.random.between(1, 4) as usize;
             let sheet = changed.words()[..length].to_vec();
             self.made("load: fault in the sheet", Call::Load { sheet }, 1)
         } else {
@@ -394,11 +424,13 @@ impl Generator {
         made
     }
 
-    /// A load that is carried out and starts another session.
+    /// A load that is carried out and starts another session. The idle network may follow upon itself.
     fn further_load(&mut self) -> Made {
-        self.current = 1 - self.current;
+        if !(self.is_idle() && self.random.once_in(3)) {
+            self.current = 1 - self.current;
+        }
         self.to_start = self.plan().circuits.len();
-        self.made("further load", Call::Load { sheet: self.plan().words() }, 0)
+        self.made("further load", self.load(), 0)
     }
 
     fn short_state(&mut self) -> usize {
@@ -414,14 +446,16 @@ impl Generator {
     /// A call that would be carried out, or refused with a later number, on slices too short or too long.
     fn wrong_buffers(&mut self, machine: &Machine) -> Made {
         let mut made = match self.random.between(0, 9) {
+            0 if machine.senders.is_empty() => self.refused_start(machine),
             0 => self.start(machine),
             1 => self.store(machine),
             2 => self.fetch(),
             3 => self.question(),
             4 => self.order(machine),
-            5 => self.made("load again", Call::Load { sheet: self.plan().words() }, 0),
+            5 => self.made("load again", self.load(), 0),
             6 => self.refused_place(),
             7 => self.refused_order(machine),
+            8 if machine.senders.is_empty() => self.refused_question(),
             _ => self.made("cycle", Call::Cycle, 0),
         };
         let lends_memory =

@@ -679,6 +679,17 @@ pub fn sheet_a() -> Plan {
     }
 }
 
+/// The idle network that a sheet of no words stands for, as the second checker has it too.
+pub fn idle_network() -> Plan {
+    Plan {
+        columns: 2,
+        rows: 2,
+        memory_words: 1,
+        circuits: Vec::new(),
+        schedules: vec![Schedule { period: 9, entries: Vec::new() }],
+    }
+}
+
 /// The two circuits of examples (h) to (j); the second slot begins at `offset`.
 fn two_circuits(offset: u32) -> Plan {
     let mut plan = sheet_a();
@@ -711,7 +722,7 @@ pub fn examples() -> Vec<Case> {
     one_word_more.push(0);
     vec![
         sheet_a().case("example (a)", 0),
-        Case { name: "example (b)", words: Vec::new(), expected: Some(1) },
+        Case { name: "example (b)", words: Vec::new(), expected: Some(0) },
         with_entry(6, 13).case("example (c)", 0),
         with_entry(7, 13).case("example (d)", 10),
         with_entry(0, 7).case("example (e)", 0),

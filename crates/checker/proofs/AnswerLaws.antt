@@ -3,16 +3,18 @@
 use Prim.Native.Nat.{ℕ, zero, suc, _<_, _≤_}
 use mathlib.Core.Bool.{Bool, true}
 use mathlib.Core.List.{List, [], _++_}
-use mathlib.Core.Path.{_≡_, refl, sym, _∙_, ap}
+use mathlib.Core.Path.{_≡_, refl, sym, _∙_, ap, subst}
 use native.Mathlib.Omega.{arith}
+use lib.ListN.{length}
 use Rattle.words.specs.Words.{pick}
 use Rattle.words.proofs.TestLaws.{yes=, no=, yes<, no<, is<}
 use Rattle.words.proofs.NumberLaws.{then-zero, unless-zero, then-first, then-next, unless-no, unless-yes}
-use Rattle.sheet.specs.Sheet.{schedules, entriesOf}
-use Rattle.sheet.specs.Rules.{rule4, frameRules, circuitRules, entryRules, firstBroken, verdict}
+use Rattle.sheet.specs.Sheet.{blankSheet, meant, schedules, schedulePlace, entriesOf}
+use Rattle.sheet.specs.Rules.{rule4, frameRules, circuitRules, entryRules, firstBroken, verdict, sheetNumber}
 use Rattle.sheet.specs.Inner.Passed.{Framed}
 use Rattle.sheet.proofs.PassedLaws.{headed, framed}
-use Rattle.sheet.proofs.VerdictLaws.{kept, append-kept, append-broken}
+use Rattle.sheet.proofs.VerdictLaws.{kept, append-kept, append-broken, passed-framed}
+use Rattle.sheet.proofs.MeantLaws.{meant-none, meant-some, number-some}
 use Rattle.checker.specs.declared.Outcome.the-variants.{Refused}
 use Rattle.checker.specs.Answers.{outcomeOf, entriesNumber, entriesPart}
 
@@ -51,23 +53,23 @@ refused-is zero ne = absurd (ne refl)
 refused-is (suc n) ne = refl
 
 -- the number of handing back entries
-module _ (z : List ℕ) (j n : ℕ) (e : n ≡ verdict z) where
+module _ (z : List ℕ) (j n : ℕ) (e : n ≡ sheetNumber z) where
   pub sheet-refused : (n ≡ 0 → ⊥) → n ≡ entriesNumber z j
   unfolding entriesNumber
   sheet-refused ne = then-first _ e ne
 
-  pub schedule-there : n ≡ 0 → j < schedules z → 0 ≡ entriesNumber z j
+  pub schedule-there : n ≡ 0 → j < schedules (meant z) → 0 ≡ entriesNumber z j
   unfolding entriesNumber
   schedule-there e₀ h = then-next (sym e ∙ e₀) (unless-yes 15 (yes< h))
 
-  pub schedule-absent : n ≡ 0 → schedules z ≤ j → 15 ≡ entriesNumber z j
+  pub schedule-absent : n ≡ 0 → schedules (meant z) ≤ j → 15 ≡ entriesNumber z j
   unfolding entriesNumber
   schedule-absent e₀ h = then-next (sym e ∙ e₀) (unless-no 15 (no< h))
 
 -- where the number is 0, the sheet passes and the schedule exists
 pub record Handed (z : List ℕ) (j : ℕ) : Type 0 where
-  pub passes : verdict z ≡ 0
-  pub there : j < schedules z
+  pub passes : sheetNumber z ≡ 0
+  pub there : j < schedules (meant z)
 
 pub handed : (z : List ℕ) (j : ℕ) → entriesNumber z j ≡ 0 → Handed z j
 unfolding entriesNumber
@@ -75,12 +77,34 @@ handed z j h =
     let passed = then-zero _ _ h in
     record { passes = passed .0; there = is< _ _ (unless-zero 15 _ (omega arith) (passed .1)) }
 
+-- of words that are there: they stand for themselves
+pub handed-some : (z : List ℕ) (j : ℕ) → entriesNumber z j ≡ 0 → (length z ≡ 0 → ⊥) → Framed z × (j < schedules z)
+handed-some z j h ne =
+    let same = meant-some z ne in
+    let p = handed z j h in
+    (passed-framed z (sym (number-some z ne) ∙ p .passes), subst (λ (x : List ℕ). j < schedules x) same (p .there))
+
+-- of no words: their one schedule has no entries
+blank-entries : (j : ℕ) → j < schedules blankSheet → entriesOf blankSheet j ≡ []
+unfolding entriesOf schedulePlace
+blank-entries zero h = refl
+blank-entries (suc j) h = absurd (omega arith)
+
 -- the part: the entries where the number is 0, else nothing
 module _ (z : List ℕ) (j n : ℕ) (e : n ≡ entriesNumber z j) where
   pub part-empty : (n ≡ 0 → ⊥) → [] ≡ entriesPart z j
   unfolding entriesPart
-  part-empty ne = sym (ap (λ (b : Bool). pick b (entriesOf z j) []) (no= (λ e₀. ne (e ∙ e₀))))
+  part-empty ne = sym (ap (λ (b : Bool). pick b (entriesOf (meant z) j) []) (no= (λ e₀. ne (e ∙ e₀))))
 
-  pub part-whole : n ≡ 0 → entriesOf z j ≡ entriesPart z j
+  part-whole : n ≡ 0 → entriesOf (meant z) j ≡ entriesPart z j
   unfolding entriesPart
-  part-whole e₀ = sym (ap (λ (b : Bool). pick b (entriesOf z j) []) (yes= (sym e ∙ e₀)))
+  part-whole e₀ = sym (ap (λ (b : Bool). pick b (entriesOf (meant z) j) []) (yes= (sym e ∙ e₀)))
+
+  pub part-some : n ≡ 0 → (length z ≡ 0 → ⊥) → entriesOf z j ≡ entriesPart z j
+  part-some e₀ ne = ap (λ (x : List ℕ). entriesOf x j) (sym (meant-some z ne)) ∙ part-whole e₀
+
+  pub part-none : n ≡ 0 → length z ≡ 0 → [] ≡ entriesPart z j
+  part-none e₀ none =
+      let same = meant-none z none in
+      let there = subst (λ (x : List ℕ). j < schedules x) same (handed z j (sym e ∙ e₀) .there) in
+      sym (blank-entries j there) ∙ ap (λ (x : List ℕ). entriesOf x j) (sym same) ∙ part-whole e₀

@@ -2,7 +2,8 @@
 ghost use mathlib.Core.Path.{_≡_};
 ghost use mathlib.Core.Bool.{true};
 ghost use Prim.Native.Nat.{_<_};
-ghost use Rattle.sheet.specs.Rules.{frameRules, circuitRules, entryRules, firstBroken, rule4, verdict as sheetVerdict};
+ghost use Rattle.sheet.specs.Sheet.{blankSheet, meant, schedules};
+ghost use Rattle.sheet.specs.Rules.{frameRules, circuitRules, entryRules, firstBroken, rule4, sheetNumber, verdict as sheetVerdict};
 ghost use Rattle.sheet.specs.Inner.Passed.{Framed};
 ghost use Rattle.checker.specs.Answers.{outcomeOf, entriesNumber, entriesPart};
 
@@ -28,7 +29,7 @@ fn frame_number(z: &[u32]) -> u32
     1
 }
 
-// The first of the numbers 4 to 6 that applies, or 0; verdict_number has tested those before.
+// The first of the numbers 4 to 6 that applies, or 0; rules_number has tested those before.
 fn circuits_number(z: &[u32]) -> u32
     requires { ⌜ Framed (now z) ⌝ }
     ensures { λ r. ⌜ r ≡ firstBroken circuitRules (now (z .entry)) ⌝ }
@@ -45,7 +46,7 @@ fn circuits_number(z: &[u32]) -> u32
     4
 }
 
-// The first of the numbers 7 to 11 that applies, or 0; verdict_number has tested those before.
+// The first of the numbers 7 to 11 that applies, or 0; rules_number has tested those before.
 fn schedules_number(z: &[u32]) -> u32
     requires { ⌜ (Framed (now z)) × (rule4 (now z) ≡ true) ⌝ }
     ensures { λ r. ⌜ r ≡ firstBroken entryRules (now (z .entry)) ⌝ }
@@ -69,8 +70,8 @@ fn schedules_number(z: &[u32]) -> u32
     7
 }
 
-// The number of the verdict upon a sheet: 0, or the first number that applies.
-pub fn verdict_number(z: &[u32]) -> u32
+// The first number that applies to a sheet's words as they stand, which is how a state holds them, or 0.
+pub fn rules_number(z: &[u32]) -> u32
     ensures { λ r. ⌜ r ≡ sheetVerdict (now (z .entry)) ⌝ }
 {
     let frame = frame_number(z);
@@ -82,6 +83,30 @@ pub fn verdict_number(z: &[u32]) -> u32
         return circuits;
     }
     schedules_number(z)
+}
+
+// The sheet that no words stand for: an idle network.
+pub fn blank_sheet() -> [u32; 7]
+    ensures { λ r. ⌜ r ≡ blankSheet ⌝ }
+{
+    [2, 2, 1, 0, 1, 9, 0]
+}
+
+// The first of the numbers 1 to 11 that applies to the sheet that handed-over words stand for, or 0.
+pub fn sheet_number(z: &[u32]) -> u32
+    ensures { λ r. ⌜ r ≡ sheetNumber (now (z .entry)) ⌝ }
+{
+    if z.len() > 0 {
+        return rules_number(z);
+    }
+    0
+}
+
+// The number of the verdict upon a sheet: 0, or the first number that applies.
+pub fn verdict_number(z: &[u32]) -> u32
+    ensures { λ r. ⌜ r ≡ sheetNumber (now (z .entry)) ⌝ }
+{
+    sheet_number(z)
 }
 
 // The outcome of a number.
@@ -96,20 +121,30 @@ fn outcome_of(number: u32) -> Outcome
 
 // The verdict upon a sheet.
 pub fn verdict(z: &[u32]) -> Outcome
-    ensures { λ r. ⌜ r ≡ outcomeOf (sheetVerdict (now (z .entry))) ⌝ }
+    ensures { λ r. ⌜ r ≡ outcomeOf (sheetNumber (now (z .entry))) ⌝ }
 {
     outcome_of(verdict_number(z))
+}
+
+// How many schedules the sheet has that handed-over words stand for.
+fn schedules_meant(z: &[u32]) -> u32
+    ensures { λ r. ⌜ r ≡ schedules (meant (now (z .entry))) ⌝ }
+{
+    if z.len() == 0 {
+        return 1;
+    }
+    sheet::schedules_of(z)
 }
 
 // The number of handing back the entries of schedule j: 1 to 11, then 15 where the schedule does not exist, or 0.
 fn part_number(z: &[u32], j: u32) -> u32
     ensures { λ r. ⌜ r ≡ entriesNumber (now (z .entry)) j ⌝ }
 {
-    let number = verdict_number(z);
+    let number = sheet_number(z);
     if number != 0 {
         return number;
     }
-    if j < sheet::schedules_of(z) {
+    if j < schedules_meant(z) {
         return 0;
     }
     15
@@ -122,12 +157,15 @@ pub fn entries_number(z: &[u32], j: u32) -> Outcome
     outcome_of(part_number(z, j))
 }
 
-// The entries of schedule j as that part of the sheet; empty where a number applies.
+// The entries of schedule j as that part of the sheet; empty where a number applies, and of no words, whose schedule has none.
 pub fn entries(z: &[u32], j: u32) -> &[u32]
     ensures { λ r. ⌜ now r ≡ entriesPart (now (z .entry)) j ⌝ }
 {
     let number = part_number(z, j);
     if number != 0 {
+        return &z[0..0];
+    }
+    if z.len() == 0 {
         return &z[0..0];
     }
     sheet::entries_of(z, j)

@@ -1,9 +1,9 @@
 -- The numbers of the fields of a landing and of a schedule's entries.
 -- Assumes nothing.
 use Prim.Native.Nat.{ℕ, zero, suc, _+_, _*_}
-use mathlib.Core.Path.{_≡_, refl, sym, _∙_, ap}
+use mathlib.Core.Path.{_≡_, refl, sym, ap}
 use mathlib.Core.Bool.{Bool}
-use mathlib.Core.List.{List}
+use mathlib.Core.List.{List, [], _∷_}
 use native.Mathlib.Omega.{arith}
 use lib.ListN.{length}
 use Rattle.words.specs.Words.{pick}
@@ -11,7 +11,7 @@ use Rattle.words.proofs.TestLaws.{yes=, no=}
 use Rattle.sheet.specs.Sheet.{schedulePlace}
 use Rattle.checker.specs.declared.Outcome.the-variants.{Passes, Refused}
 use Rattle.checker.specs.Answers.{outcomeOf, entriesPart}
-use Rattle.exports.specs.Packed.{packed, entriesField, chosen}
+use Rattle.exports.specs.Packed.{packed, entriesPlace, entriesField, chosen}
 
 refused : (n w : ℕ) → suc n * 4294967296 ≡ packed (suc n) w
 unfolding packed
@@ -36,11 +36,22 @@ pub refused-is : (n m v : ℕ) → outcomeOf n ≡ Refused m → m * 4294967296 
 refused-is zero m v e = absurd (let e₀ : _≡_ {A = ℕ} 0 1 = cc in omega arith)
 refused-is (suc n) m v e = let q : m ≡ suc n = cc in rw q (refused n v)
 
+-- the place of a schedule's entries
+pub place-none : (z : List ℕ) (j : ℕ) → length z ≡ 0 → 0 ≡ entriesPlace z j
+unfolding entriesPlace
+place-none [] j e = refl
+place-none (w ∷ z) j e = absurd (omega arith)
+
+pub place-some : (z : List ℕ) (j : ℕ) → (length z ≡ 0 → ⊥) → schedulePlace z j + 2 ≡ entriesPlace z j
+unfolding entriesPlace
+place-some [] j ne = absurd (ne refl)
+place-some (w ∷ z) j ne = refl
+
 -- the fields of a schedule's entries
 module _ (z : List ℕ) (j field : ℕ) where
-  pub entries-at : (p r : ℕ) → field ≡ 0 → p ≡ schedulePlace z j → r ≡ p + 2 → r ≡ entriesField z j field
+  pub entries-at : (r : ℕ) → field ≡ 0 → r ≡ entriesPlace z j → r ≡ entriesField z j field
   unfolding entriesField
-  entries-at p r e₀ e f = rw (yes= e₀) (f ∙ ap (λ (n : ℕ). n + 2) e)
+  entries-at r e₀ e = rw (yes= e₀) e
 
   pub entries-many : (l : List ℕ) → field ≡ 1 → l ≡ entriesPart z j → length l ≡ entriesField z j field
   unfolding entriesField

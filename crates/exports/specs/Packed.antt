@@ -1,7 +1,7 @@
 -- The answers of the exported calls, as numbers: a call without a value answers the number of document 01, 0 where it is carried out; a
 -- call with a value answers number × 2^32 + value in 64 bits, where one of the two is 0.
 use Prim.Native.Nat.{ℕ, _+_, _*_}
-use mathlib.Core.List.{List}
+use mathlib.Core.List.{List, [], _∷_}
 use lib.ListN.{length}
 use Rattle.words.specs.Tests.{_=?_}
 use Rattle.words.specs.Words.{pick}
@@ -15,10 +15,14 @@ use Rattle.session.specs.declared.Landed.the-variants.{Nothing, Word as LandedW
 unfoldable pub packed : ℕ → ℕ → ℕ
 packed number value = pick (number =? 0) value (number * 4294967296)
 
--- a field of the entries that are handed back of schedule j: 0 the place of their first word in the sheet, behind the schedule's period
--- and number of entries; 1 how many words they are; 0 for any other
+-- the place among handed-over words of the first of schedule j's entries, behind its period and number of entries; 0 where there are no words
+unfoldable pub entriesPlace : List ℕ → ℕ → ℕ
+entriesPlace [] j = 0
+entriesPlace (w ∷ z) j = schedulePlace (w ∷ z) j + 2
+
+-- a field of the entries that are handed back of schedule j: 0 that place; 1 how many words they are; 0 for any other
 unfoldable pub entriesField : List ℕ → ℕ → ℕ → ℕ
-entriesField z j field = pick (field =? 0) (schedulePlace z j + 2) (pick (field =? 1) (length (entriesPart z j)) 0)
+entriesField z j field = pick (field =? 0) (entriesPlace z j) (pick (field =? 1) (length (entriesPart z j)) 0)
 
 -- a field of a landing: 0 whether there is one, 1 its kind, 2 its address, 3 its word; 0 for any other, and where nothing landed
 unfoldable pub chosen : ℕ → ℕ → ℕ → ℕ → ℕ

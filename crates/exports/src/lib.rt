@@ -2,12 +2,12 @@
 // numbers (specs/Packed.antt) and its contracts.
 ghost use mathlib.Core.Path.{_≡_};
 ghost use Prim.Native.Nat.{_*_};
-ghost use Rattle.sheet.specs.Rules.{verdict};
+ghost use Rattle.sheet.specs.Rules.{sheetNumber};
 ghost use Rattle.checker.specs.Answers.{entriesNumber};
 ghost use Rattle.network.specs.Registers.{stateWords};
 ghost use Rattle.session.specs.Calls.{lend, lendState, load, start, store, order, cycle, number, after};
 ghost use Rattle.session.specs.Answers.{fetchAnswer, leftAnswer, periodAnswer, landedAnswer};
-ghost use Rattle.exports.specs.Packed.{packed, entriesField, chosen, packedFound, packedLanded};
+ghost use Rattle.exports.specs.Packed.{packed, entriesPlace, entriesField, chosen, packedFound, packedLanded};
 use checker::Outcome;
 use session::Found;
 use session::Landed;
@@ -16,9 +16,20 @@ use session::number_of;
 // The verdict upon a sheet: 0 where it passes, else the number of its refusal.
 #[no_mangle]
 pub extern "C" fn argo_verdict(sheet: &[u32]) -> u32
-    ensures { λ r. ⌜ r ≡ verdict (now (sheet .entry)) ⌝ }
+    ensures { λ r. ⌜ r ≡ sheetNumber (now (sheet .entry)) ⌝ }
 {
     checker::verdict_number(sheet)
+}
+
+// The place in the sheet of a schedule's first entry; entries_field asks only where the number is 0.
+fn entries_place(sheet: &[u32], schedule: u32) -> usize
+    requires { ⌜ entriesNumber (now sheet) schedule ≡ 0 ⌝ }
+    ensures { λ r. ⌜ r ≡ entriesPlace (now (sheet .entry)) schedule ⌝ }
+{
+    if sheet.len() == 0 {
+        return 0;
+    }
+    sheet::schedule_place(sheet, schedule) + 2
 }
 
 // A field of a schedule's entries: the place of their first word in the sheet, or how many words are handed back. argo_entries asks only
@@ -28,7 +39,7 @@ fn entries_field(sheet: &[u32], schedule: u32, field: u32) -> u64
     ensures { λ r. ⌜ r ≡ entriesField (now (sheet .entry)) schedule field ⌝ }
 {
     match field {
-        0 => (sheet::schedule_place(sheet, schedule) + 2) as u64,
+        0 => entries_place(sheet, schedule) as u64,
         1 => checker::entries(sheet, schedule).len() as u64,
         _ => 0,
     }

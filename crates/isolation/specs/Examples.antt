@@ -1,9 +1,10 @@
--- The key's examples (a) to (m) of document 01, one table: what the definitions give beside what the document says.
+-- The key's examples (a) to (m) of document 01, one table: what the definitions give beside what the document says, of which document 02
+-- changes (b).
 use Prim.Native.Nat.{ℕ}
 use mathlib.Core.List.{List, [], _∷_, _++_, map}
 use mathlib.Core.Path.{_≡_}
 use lib.ListN.{set, replicate}
-use Rattle.sheet.specs.Rules.{verdict}
+use Rattle.sheet.specs.Rules.{sheetNumber}
 use Rattle.network.specs.Registers.{stateWords, numberPlace}
 use Rattle.session.specs.Calls.{loaded, orderNumber}
 
@@ -28,7 +29,7 @@ both offset =
 abbrev pub lastPeriod : List ℕ
 lastPeriod = set (loaded (sheetA 0 13 []) (replicate stateWords 0)) numberPlace 4294967295
 
--- a number that the definitions give, and the number of document 01
+-- a number that the definitions give, and the number of the documents
 pub record Example : Type 0 where
   pub given : ℕ
   pub wanted : ℕ
@@ -39,20 +40,20 @@ example number document = record { given = number; wanted = document }
 -- the table, with a state for the order calls of (m)
 abbrev pub tableOn : List ℕ → List Example
 tableOn state =
-    -- (a) sheet A; (b) no words; (c) offset 6; (d) offset 7; (e) route 7, west; (f) route 0; (g) one word more
-    example (verdict (sheetA 0 13 [])) 0
-    ∷ example (verdict []) 1
-    ∷ example (verdict (sheetA 6 13 [])) 0
-    ∷ example (verdict (sheetA 7 13 [])) 10
-    ∷ example (verdict (sheetA 0 7 [])) 0
-    ∷ example (verdict (sheetA 0 0 [])) 9
-    ∷ example (verdict (sheetA 0 13 (0 ∷ []))) 3
+    -- (a) sheet A; (b) no words (document 02, L2); (c) offset 6; (d) offset 7; (e) route 7, west; (f) route 0; (g) one word more
+    example (sheetNumber (sheetA 0 13 [])) 0
+    ∷ example (sheetNumber []) 0
+    ∷ example (sheetNumber (sheetA 6 13 [])) 0
+    ∷ example (sheetNumber (sheetA 7 13 [])) 10
+    ∷ example (sheetNumber (sheetA 0 7 [])) 0
+    ∷ example (sheetNumber (sheetA 0 0 [])) 9
+    ∷ example (sheetNumber (sheetA 0 13 (0 ∷ []))) 3
     -- (h), (i), (j) both circuits, the second at 0, 2 and 5; (k), (l) the first alone at 4 and 5
-    ∷ example (verdict (both 0)) 0
-    ∷ example (verdict (both 2)) 11
-    ∷ example (verdict (both 5)) 0
-    ∷ example (verdict (alone 4)) 0
-    ∷ example (verdict (alone 5)) 10
+    ∷ example (sheetNumber (both 0)) 0
+    ∷ example (sheetNumber (both 2)) 11
+    ∷ example (sheetNumber (both 5)) 0
+    ∷ example (sheetNumber (alone 4)) 0
+    ∷ example (sheetNumber (alone 5)) 10
     -- (m) orders for period 2 and for period 1
     ∷ example (orderNumber state 0 2) 0
     ∷ example (orderNumber state 0 1) 19

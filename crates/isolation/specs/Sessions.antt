@@ -7,6 +7,7 @@ use mathlib.Core.Path.{_≡_}
 use lib.ListN.{take}
 use Rattle.words.specs.Tests.{_=?_}
 use Rattle.words.specs.Words.{pick}
+use Rattle.sheet.specs.Sheet.{meant}
 use Rattle.session.specs.Calls.{Lent, Call, load, start, store, order, cycle, isLoad, number, does, after, ask}
 
 -- the lent words after some calls
@@ -19,16 +20,19 @@ abbrev pub LoadsRefused : List Call → Lent → Type 0
 LoadsRefused [] w = Unit {0}
 LoadsRefused (x ∷ calls) w = (isLoad x ≡ true → number x w ≡ 0 → ⊥) × LoadsRefused calls (after x w)
 
+-- the words handed to the load are given; the session's sheet is what they stand for
 pub record Session : Type 0 where
   pub lent : Lent
+  pub given : List ℕ
   pub sheet : List ℕ
+  pub sheet-is : sheet ≡ meant given
   pub calls : List Call
-  pub carried-out : number (load sheet) lent ≡ 0
-  pub loads-refused : LoadsRefused calls (does (load sheet) lent)
+  pub carried-out : number (load given) lent ≡ 0
+  pub loads-refused : LoadsRefused calls (does (load given) lent)
 
 -- the lent words directly after the load, and after the first k calls behind it
 abbrev pub afterLoad : Session → Lent
-afterLoad l = does (load (l .sheet)) (l .lent)
+afterLoad l = does (load (l .given)) (l .lent)
 
 abbrev pub standing : Session → ℕ → Lent
 standing l k = afterAll (take k (l .calls)) (afterLoad l)

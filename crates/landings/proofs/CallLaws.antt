@@ -12,7 +12,7 @@ use Rattle.words.specs.Tests.{_=?_}
 use Rattle.words.specs.Words.{pick, tab}
 use Rattle.words.proofs.TestLaws.{yes=, no=, is=}
 use Rattle.words.proofs.WordLaws.{length-tab}
-use Rattle.sheet.specs.Rules.{verdict}
+use Rattle.sheet.specs.Rules.{sheetNumber}
 use Rattle.octets.specs.Octets.{wordIn}
 use Rattle.network.specs.Registers.{stateWords}
 use Rattle.session.specs.declared.Answer.{Answer}
@@ -137,8 +137,8 @@ module _ (bytes : List ℕ) {sheet : List ℕ} (z : sheet ≡ sheetOf bytes) whe
       ∙ ap (λ n. tab n (λ k. wordIn bytes (1 + length sheet + k))) l
       ∙ ap (λ n. tab (memorySize bytes) (λ k. wordIn bytes (1 + n + k))) sheet-long
 
-pub sheet-good : (bytes : List ℕ) {sheet : List ℕ} → inputMessage bytes ≡ Runs → sheet ≡ sheetOf bytes → verdict sheet ≡ 0
-sheet-good bytes e z = ap verdict z ∙ whole bytes e .passes
+pub sheet-good : (bytes : List ℕ) {sheet : List ℕ} → inputMessage bytes ≡ Runs → sheet ≡ sheetOf bytes → sheetNumber sheet ≡ 0
+sheet-good bytes e z = ap sheetNumber z ∙ whole bytes e .passes
 
 -- the load, then the starts
 module _ (bytes s m : List ℕ) {sheet : List ℕ} (z : sheet ≡ sheetOf bytes) {o : Answer} {n : ℕ}

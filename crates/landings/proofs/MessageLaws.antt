@@ -9,9 +9,9 @@ use lib.ListN.{length, take, replicate}
 use Rattle.words.specs.Tests.{_<?_, _=?_}
 use Rattle.words.specs.Words.{pick, tab}
 use Rattle.words.proofs.TestLaws.{yes<, no<, yes=, no=, is=, not<}
-use Rattle.sheet.specs.Sheet.{nodes, memoryWords, sheetWords}
+use Rattle.sheet.specs.Sheet.{meant, nodes, memoryWords, sheetWords}
 use Rattle.words.proofs.WordLaws.{length-zeros}
-use Rattle.sheet.specs.Rules.{verdict}
+use Rattle.sheet.specs.Rules.{sheetNumber}
 use Rattle.octets.specs.Octets.{wordIn}
 use Rattle.landings.specs.declared.input.Message.{Message}
 use Rattle.landings.specs.declared.input.Message.the-variants.{TooLarge, InputEnds, Refused, Runs}
@@ -82,9 +82,9 @@ module _ (b : List ℕ) {sheet : List ℕ} {n : ℕ} (l : n ≡ statedLength b) 
   unfolding sheetOf
   sheet-is = q ∙ ap (λ m. tab m (λ k. wordIn b (1 + k))) l
 
-  module _ {number : ℕ} (e : number ≡ verdict sheet) where
-    pub verdict-is : number ≡ verdict (sheetOf b)
-    verdict-is = e ∙ ap verdict sheet-is
+  module _ {number : ℕ} (e : number ≡ sheetNumber sheet) where
+    pub verdict-is : number ≡ sheetNumber (sheetOf b)
+    verdict-is = e ∙ ap sheetNumber sheet-is
 
     pub checked-refused : (number ≡ 0 → ⊥) → Refused number ≡ checkedMessage b
     unfolding checkedMessage
@@ -94,9 +94,9 @@ module _ (b : List ℕ) {sheet : List ℕ} {n : ℕ} (l : n ≡ statedLength b) 
     unfolding checkedMessage
     checked-on z r = r ∙ stops _ _ (yes= (sym verdict-is ∙ z))
 
-  pub memory-size-is : {size : ℕ} → size ≡ nodes sheet * memoryWords sheet → size ≡ memorySize b
+  pub memory-size-is : {size : ℕ} → size ≡ nodes (meant sheet) * memoryWords (meant sheet) → size ≡ memorySize b
   unfolding memorySize
-  memory-size-is e = e ∙ ap (λ (z : List ℕ). nodes z * memoryWords z) sheet-is
+  memory-size-is e = e ∙ ap (λ (z : List ℕ). nodes (meant z) * memoryWords (meant z)) sheet-is
 
 -- the sheet
 module _ (b : List ℕ) where
@@ -130,7 +130,7 @@ pub record Whole (bytes : List ℕ) : Type 0 where
   pub some : 4 ≤ length bytes
   pub small-sheet : statedLength bytes ≤ sheetWords
   pub sheet-there : 4 * memoryPlace bytes ≤ length bytes
-  pub passes : verdict (sheetOf bytes) ≡ 0
+  pub passes : sheetNumber (sheetOf bytes) ≡ 0
   pub small-memory : memorySize bytes ≤ mostMemory
   pub few-transfers : transfers bytes ≤ mostTransfers
   pub long : 4 * (cyclesPlace bytes + 1) ≤ length bytes
@@ -169,9 +169,9 @@ module _ (b : List ℕ) where
   unfolding memoryMessage
   room-passed e = passed (mostMemory <? memorySize b) TooLarge (transfersMessage b) refl e
 
-  checked-passed : checkedMessage b ≡ Runs → ((verdict (sheetOf b) =? 0) ≡ true) × (memoryMessage b ≡ Runs)
+  checked-passed : checkedMessage b ≡ Runs → ((sheetNumber (sheetOf b) =? 0) ≡ true) × (memoryMessage b ≡ Runs)
   unfolding checkedMessage
-  checked-passed e = accepted (verdict (sheetOf b) =? 0) (memoryMessage b) (Refused (verdict (sheetOf b))) refl e
+  checked-passed e = accepted (sheetNumber (sheetOf b) =? 0) (memoryMessage b) (Refused (sheetNumber (sheetOf b))) refl e
 
   sheet-passed : inputMessage b ≡ Runs
       → ((length b <? 4 * 1) ≡ false) × ((sheetWords <? statedLength b) ≡ false) × ((length b <? 4 * memoryPlace b) ≡ false) × (checkedMessage b ≡ Runs)

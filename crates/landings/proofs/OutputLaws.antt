@@ -10,7 +10,7 @@ use lib.ListN.{length, take, drop, replicate, length-append, take-append-drop}
 use lib.Seq.{take-append-seam, drop-at, length-take-le}
 use Rattle.words.specs.Inner.Puts.{putAll}
 use Rattle.words.proofs.WordLaws.{length-putAll, putAll-front}
-use Rattle.sheet.specs.Sheet.{nodes}
+use Rattle.sheet.specs.Sheet.{meant, nodes}
 use Rattle.network.specs.Registers.{stateWords}
 use Rattle.soundness.proofs.SheetLaws.{sheet-bounds}
 use Rattle.session.specs.Calls.{memoryNumber, Lent, cycle, after, lend}
@@ -155,15 +155,15 @@ output-short bytes = go (message bytes) refl
     go (Refused n) e = omega (arith, length-append refused (field n lineEnd), field-short n lineEnd)
     go Runs e =
         let w = whole bytes (runs-whole bytes e) in
-        let few : nodes (sheetOf bytes) ≤ 16 = sheet-bounds (sheetOf bytes) (w .passes) .few-nodes in
-        let lines = cyclesLines (nodes (sheetOf bytes)) 0 (cyclesListed bytes) (beforeCycles bytes) in
+        let few : nodes (meant (sheetOf bytes)) ≤ 16 = sheet-bounds (meant (sheetOf bytes)) (w .passes) .few-nodes in
+        let lines = cyclesLines (nodes (meant (sheetOf bytes))) 0 (cyclesListed bytes) (beforeCycles bytes) in
         omega (
           arith,
           w .few-cycles,
           carried-most (cyclesAsked bytes) (beforeCycles bytes),
           length-append heading (allLines bytes),
           length-append lines (lastLine (cyclesAsked bytes) (beforeCycles bytes)),
-          all-short (nodes (sheetOf bytes)) 0 (cyclesListed bytes) (beforeCycles bytes) few,
+          all-short (nodes (meant (sheetOf bytes))) 0 (cyclesListed bytes) (beforeCycles bytes) few,
           last-short (cyclesAsked bytes) (beforeCycles bytes),
         )
 
@@ -218,7 +218,7 @@ before-ready bytes e f =
     ∙ calls-ready bytes (replicate stateWords 0) (memoryOf bytes) (runs-called bytes e)
 
 -- the output is the heading and the lines, by the nodes and cycles of the input
-pub lines-are : (bytes : List ℕ) (n last : ℕ) → message bytes ≡ Runs → n ≡ nodes (sheetOf bytes) → last ≡ cyclesAsked bytes
+pub lines-are : (bytes : List ℕ) (n last : ℕ) → message bytes ≡ Runs → n ≡ nodes (meant (sheetOf bytes)) → last ≡ cyclesAsked bytes
     → printout bytes
     ≡ heading ++ (cyclesLines n 0 (carriedOut last (beforeCycles bytes)) (beforeCycles bytes) ++ lastLine last (beforeCycles bytes))
 unfolding allLines
@@ -228,8 +228,8 @@ lines-are bytes n last e p q =
     ∙ ap (λ k. heading ++ (cyclesLines k 0 (cyclesListed bytes) w ++ lastLine (cyclesAsked bytes) w)) (sym p)
     ∙ ap (λ k. heading ++ (cyclesLines n 0 (carriedOut k w) w ++ lastLine k w)) (sym q)
 
-pub few-nodes : (bytes : List ℕ) {n : ℕ} → message bytes ≡ Runs → n ≡ nodes (sheetOf bytes) → n ≤ 16
-few-nodes bytes e p = omega (arith, p, sheet-bounds (sheetOf bytes) (whole bytes (runs-whole bytes e) .passes) .few-nodes)
+pub few-nodes : (bytes : List ℕ) {n : ℕ} → message bytes ≡ Runs → n ≡ nodes (meant (sheetOf bytes)) → n ≤ 16
+few-nodes bytes e p = omega (arith, p, sheet-bounds (meant (sheetOf bytes)) (whole bytes (runs-whole bytes e) .passes) .few-nodes)
 
 -- the heading, and a message of one text
 pub heading-has : (bytes : List ℕ) {place : ℕ} → message bytes ≡ Runs → place ≡ 0 → HasAt (printout bytes) place heading

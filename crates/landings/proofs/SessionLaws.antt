@@ -11,6 +11,7 @@ use Rattle.words.specs.Tests.{_=?_}
 use Rattle.words.specs.Words.{pick}
 use Rattle.words.proofs.TestLaws.{yes=, is=}
 use Rattle.network.specs.Registers.{stateWords}
+use Rattle.sheet.specs.Sheet.{meant}
 use Rattle.session.specs.Calls.{loaded, Lent, lend, lendState, Call, load, cycle, isLoad, number, after}
 use Rattle.session.proofs.AloneLaws.{after-alone}
 use Rattle.session.proofs.WritingLaws.{state-written}
@@ -91,7 +92,7 @@ after-all-starts bytes s m (suc k) e = go (startsOn bytes s k .refusal =? 0) ref
 -- the load is carried out where no call is refused, and the starts upon it
 load-first : (bytes s m : List ℕ) → callsOn bytes s m .refusal ≡ 0
     → (number (load (sheetOf bytes)) (lend s m) ≡ 0)
-    × (callsOn bytes s m ≡ startsOn bytes (loaded (sheetOf bytes) s) (transfers bytes))
+    × (callsOn bytes s m ≡ startsOn bytes (loaded (meant (sheetOf bytes)) s) (transfers bytes))
 unfolding callsOn
 load-first bytes s m e = go (number (load (sheetOf bytes)) (lend s m) =? 0) refl e
   where
@@ -102,7 +103,7 @@ load-first bytes s m e = go (number (load (sheetOf bytes)) (lend s m) =? 0) refl
         → pick t (starts (after (load (sheetOf bytes)) (lend s m) .state)) (called (load (sheetOf bytes)) (lend s m)) .refusal ≡ 0
         → (number (load (sheetOf bytes)) (lend s m) ≡ 0)
         × (pick t (starts (after (load (sheetOf bytes)) (lend s m) .state)) (called (load (sheetOf bytes)) (lend s m))
-        ≡ starts (loaded (sheetOf bytes) s))
+        ≡ starts (loaded (meant (sheetOf bytes)) s))
     go true q h = (is= _ _ q, ap starts (sym (state-written (load (sheetOf bytes)) (lend s m) refl (is= _ _ q) refl)))
     go false q h = absurd (false≢true (sym q ∙ yes= h))
 
@@ -116,19 +117,21 @@ module _ (bytes s m : List ℕ) (n : ℕ) (e : callsOn bytes s m .refusal ≡ 0)
   sessionOf : Session
   sessionOf = record {
     lent = lend s m;
-    sheet = sheetOf bytes;
+    given = sheetOf bytes;
+    sheet = meant (sheetOf bytes);
+    sheet-is = refl;
     calls = startCalls bytes (transfers bytes) ++ replicate n cycle;
     carried-out = load-first bytes s m e .0;
     loads-refused =
-        no-load-behind (startCalls bytes (transfers bytes)) (replicate n cycle) (lend (loaded (sheetOf bytes) s) m)
-        (no-load-starts bytes (transfers bytes) (lend (loaded (sheetOf bytes) s) m))
+        no-load-behind (startCalls bytes (transfers bytes)) (replicate n cycle) (lend (loaded (meant (sheetOf bytes)) s) m)
+        (no-load-starts bytes (transfers bytes) (lend (loaded (meant (sheetOf bytes)) s) m))
         (no-load-cycles n);
   }
 
-  started-is : afterAll (startCalls bytes (transfers bytes)) (lend (loaded (sheetOf bytes) s) m) ≡ lend (callsOn bytes s m .state) m
+  started-is : afterAll (startCalls bytes (transfers bytes)) (lend (loaded (meant (sheetOf bytes)) s) m) ≡ lend (callsOn bytes s m .state) m
   started-is =
       let same = load-first bytes s m e .1 in
-      after-all-starts bytes (loaded (sheetOf bytes) s) m (transfers bytes) (sym (ap (λ (c : Called). c .refusal) same) ∙ e)
+      after-all-starts bytes (loaded (meant (sheetOf bytes)) s) m (transfers bytes) (sym (ap (λ (c : Called). c .refusal) same) ∙ e)
       ∙ ap (λ (c : Called). lend (c .state) m) (sym same)
 
   module _ (t : ℕ) (l : t < n) where
@@ -150,7 +153,7 @@ module _ (bytes s m : List ℕ) (n : ℕ) (e : callsOn bytes s m .refusal ≡ 0)
     unfolding sessionOf
     stands-so =
         let starts = startCalls bytes (transfers bytes) in
-        let loaded-words = lend (loaded (sheetOf bytes) s) m in
+        let loaded-words = lend (loaded (meant (sheetOf bytes)) s) m in
         ap (λ (x : List Call). afterAll x loaded-words) (take-append-add starts (replicate n cycle) t)
         ∙ ap (λ (x : List Call). afterAll (starts ++ x) loaded-words) (take-cycles t n (omega arith))
         ∙ after-all-append starts (replicate t cycle) loaded-words

@@ -6,7 +6,7 @@ use mathlib.Core.List.{List}
 use lib.ListN.{length}
 use Rattle.words.specs.Tests.{_<?_}
 use Rattle.words.specs.Words.{tab}
-use Rattle.sheet.specs.Sheet.{nodes, memoryWords}
+use Rattle.sheet.specs.Sheet.{meant, nodes, memoryWords}
 use Rattle.octets.specs.Octets.{wordIn}
 
 -- the most that the program takes, besides a sheet of any length that a sheet can have
@@ -23,7 +23,7 @@ mostCycles = 65536
 abbrev pub ends : List ℕ → ℕ → Bool
 ends bytes n = length bytes <? 4 * n
 
--- the sheet
+-- the sheet, which may be no words
 abbrev pub statedLength : List ℕ → ℕ
 statedLength bytes = wordIn bytes 0
 
@@ -35,7 +35,7 @@ abbrev pub memoryPlace : List ℕ → ℕ
 memoryPlace bytes = 1 + statedLength bytes
 
 unfoldable pub memorySize : List ℕ → ℕ
-memorySize bytes = nodes (sheetOf bytes) * memoryWords (sheetOf bytes)
+memorySize bytes = nodes (meant (sheetOf bytes)) * memoryWords (meant (sheetOf bytes))
 
 unfoldable pub memoryOf : List ℕ → List ℕ
 memoryOf bytes = tab (memorySize bytes) (λ k. wordIn bytes (memoryPlace bytes + k))

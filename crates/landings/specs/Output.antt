@@ -4,7 +4,7 @@ use Prim.Native.Nat.{ℕ, _+_, _≤_}
 use mathlib.Core.List.{List, [], _∷_, _++_}
 use mathlib.Core.Path.{_≡_}
 use lib.ListN.{length, take, drop}
-use Rattle.sheet.specs.Sheet.{nodes}
+use Rattle.sheet.specs.Sheet.{meant, nodes}
 use Rattle.session.specs.Calls.{Lent, lend}
 use Rattle.listing.specs.Text.{tooLarge, inputEnds}
 use Rattle.landings.specs.declared.input.Message.{Message}
@@ -26,7 +26,7 @@ beforeCycles bytes = lend (calls bytes .state) (memoryOf bytes)
 -- the lines of the cycles that are carried out, which are all of them (proofs/SessionLaws, `all-carried-out`), and that of a refusal
 unfoldable pub allLines : List ℕ → List ℕ
 allLines bytes =
-    cyclesLines (nodes (sheetOf bytes)) 0 (carriedOut (cyclesAsked bytes) (beforeCycles bytes)) (beforeCycles bytes)
+    cyclesLines (nodes (meant (sheetOf bytes))) 0 (carriedOut (cyclesAsked bytes) (beforeCycles bytes)) (beforeCycles bytes)
     ++ lastLine (cyclesAsked bytes) (beforeCycles bytes)
 
 -- what is printed for a message; where the input runs, the heading and its lines

@@ -2,8 +2,8 @@
 ghost use mathlib.Core.Path.{_≡_};
 ghost use Prim.Native.Nat.{_+_, _*_, _<_, _≤_};
 ghost use lib.ListN.{length};
-ghost use Rattle.sheet.specs.Sheet.{nodes, memoryWords, sheetWords};
-ghost use Rattle.sheet.specs.Rules.{verdict};
+ghost use Rattle.sheet.specs.Sheet.{meant, nodes, memoryWords, sheetWords};
+ghost use Rattle.sheet.specs.Rules.{sheetNumber};
 ghost use Rattle.landings.specs.Input.{mostMemory, mostTransfers, statedLength, memoryPlace, memorySize, transfersPlace, cyclesPlace, cyclesAsked};
 ghost use Rattle.landings.specs.declared.input.Message.the-variants.{Runs};
 ghost use Rattle.landings.specs.Messages.{cyclesMessage, transfersMessage, memoryMessage, checkedMessage, inputMessage};
@@ -68,9 +68,12 @@ fn memory_message(bytes: &[u8], at: usize, size: u32) -> Message
 
 // Memory words of all nodes; the callers' sheet has passed the checker.
 pub fn memory_size(sheet: &[u32]) -> u32
-    requires { ⌜ verdict (now sheet) ≡ 0 ⌝ }
-    ensures { λ r. ⌜ r ≡ nodes (now (sheet .entry)) * memoryWords (now (sheet .entry)) ⌝ }
+    requires { ⌜ sheetNumber (now sheet) ≡ 0 ⌝ }
+    ensures { λ r. ⌜ r ≡ nodes (meant (now (sheet .entry))) * memoryWords (meant (now (sheet .entry))) ⌝ }
 {
+    if sheet.len() == 0 {
+        return 4;
+    }
     sheet::whole_memory_of(sheet)
 }
 
@@ -109,9 +112,12 @@ pub fn input_message(bytes: &[u8]) -> Message
 
 // How many nodes a sheet has that passes the checker.
 pub fn nodes_of(sheet: &[u32]) -> u32
-    requires { ⌜ verdict (now sheet) ≡ 0 ⌝ }
-    ensures { λ r. ⌜ (r ≡ nodes (now (sheet .entry))) × (r ≤ 16) ⌝ }
+    requires { ⌜ sheetNumber (now sheet) ≡ 0 ⌝ }
+    ensures { λ r. ⌜ (r ≡ nodes (meant (now (sheet .entry)))) × (r ≤ 16) ⌝ }
 {
+    if sheet.len() == 0 {
+        return 4;
+    }
     sheet::nodes_of(sheet)
 }
 

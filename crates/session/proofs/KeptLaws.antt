@@ -12,7 +12,7 @@ use Rattle.words.specs.Words.{pick}
 use Rattle.words.proofs.TestLaws.{is=, yes≤}
 use Rattle.words.proofs.NumberLaws.{zero-then, zero-unless}
 use Rattle.sheet.specs.declared.circuits.Circuit.{Circuit}
-use Rattle.sheet.specs.Sheet.{circuits, nodes, circuitAt}
+use Rattle.sheet.specs.Sheet.{meant, circuits, nodes, circuitAt}
 use Rattle.sheet.specs.Rules.{verdict}
 use Rattle.network.specs.Registers.{reg, sheetIn, clockRow, cyclePlace, inForcePlace, orderMarkPlace, orderSchedulePlace, linkMark, linkWord}
 use Rattle.network.specs.Registers.{headMark, headWord, choiceRow, latchRow, outMark, outWord, receiveMark, receiveKind, landingMark, leftRow}
@@ -22,7 +22,7 @@ use Rattle.network.specs.Inner.Machine.{nextState}
 use Rattle.network.proofs.RowLaws.{sender-same, sheet-kept}
 use Rattle.network.proofs.StepLaws.{state-length, memory-length}
 use Rattle.soundness.specs.Sound.{sound}
-use Rattle.session.specs.Calls.{stateNumber, loadNumber, startNumber, orderNumber, cycleNumber, loaded, started, ordered, stored, Lent, Call}
+use Rattle.session.specs.Calls.{stateNumber, loadWordsNumber, startNumber, orderNumber, cycleNumber, loaded, started, ordered, stored, Lent, Call}
 use Rattle.session.specs.Calls.{load, start, store, fetch, left, periodNumber, whatLanded, order, cycle, number, does, after, isLoad, Question, ask}
 use Rattle.session.specs.Calls.{questionNumber}
 use Rattle.session.proofs.NumberLaws.{state-passed, load-passed, StartPassed, start-passed, place-passed, left-passed, landed-passed, OrderPassed, order-passed, cycle-passed}
@@ -84,12 +84,12 @@ module _ (z s : List ℕ) (b : SheetBounds z) where
         units = load-unit;
       }
 
-pub load-sound : (z s m : List ℕ) → loadNumber z s m ≡ 0 → sound (loaded z s) ≡ true
+pub load-sound : (z s m : List ℕ) → loadWordsNumber z s m ≡ 0 → sound (loaded z s) ≡ true
 load-sound z s m e =
     let p = load-passed z s m e in
     sound-on z (loaded z s) (loaded-sheet z s) (load-parts z s (sheet-bounds z (p .passes)) (p .passes))
 
-pub load-length : (z s m : List ℕ) → loadNumber z s m ≡ 0 → length (loaded z s) ≡ length s
+pub load-length : (z s m : List ℕ) → loadWordsNumber z s m ≡ 0 → length (loaded z s) ≡ length s
 load-length z s m e =
     let p = load-passed z s m e in
     loaded-length z s (sheet-bounds z (p .passes)) (p .long)
@@ -237,7 +237,7 @@ asked-sound (whatLanded node) w e = landed-passed (w .state) node e .state .is-s
 
 -- every call that is carried out leaves a sound state
 pub sound-kept : (x : Call) (w : Lent) → number x w ≡ 0 → sound (does x w .state) ≡ true
-sound-kept (load z) w e = load-sound z (w .state) (w .memory) e
+sound-kept (load z) w e = load-sound (meant z) (w .state) (w .memory) e
 sound-kept (start circuit readAddress writeAddress count kind) w e = start-kept (w .state) circuit readAddress writeAddress count kind e
 sound-kept (store node address new) w e = place-passed (w .state) (w .memory) node address e .memory .state .is-sound
 sound-kept (order schedule period) w e = order-kept (w .state) schedule period e
@@ -255,7 +255,7 @@ sound-after x w e = go (number x w =? 0) refl
 
 -- and the state and the memory stay as long as they were
 pub state-length-kept : (x : Call) (w : Lent) → number x w ≡ 0 → length (does x w .state) ≡ length (w .state)
-state-length-kept (load z) w e = load-length z (w .state) (w .memory) e
+state-length-kept (load z) w e = load-length (meant z) (w .state) (w .memory) e
 state-length-kept (start circuit readAddress writeAddress count kind) w e =
     started-length (w .state) circuit readAddress writeAddress count kind
 state-length-kept (store node address new) w e = refl

@@ -7,11 +7,17 @@ use native.Mathlib.Omega.{arith}
 use native.Mathlib.Numerals.{add-one}
 use lib.ListN.{length, take, drop, set, length-append, length-set}
 use lib.Seq.{drop-cons, set-at, append-snoc, take-at, drop-at, drop-drop, take-length, paste, paste-zero, paste-suc}
-use Rattle.words.specs.Words.{word, tab}
+use Rattle.words.specs.Tests.{_=?_}
+use Rattle.words.specs.Words.{word, pick, tab}
+use Rattle.words.proofs.TestLaws.{yes=, no=}
 use Rattle.words.proofs.WordLaws.{length-tab}
+use Rattle.sheet.specs.Sheet.{blankSheet, meant}
 use Rattle.network.specs.Registers.{movingWords, stateWords, sheetWords}
-use Rattle.session.specs.Calls.{loadNumber, loaded}
+use Rattle.session.specs.declared.Answer.{Answer}
+use Rattle.session.specs.Calls.{loadWordsNumber, loaded, Lent, lend, load, number, after}
+use Rattle.session.specs.Answers.{answerOf}
 use Rattle.session.proofs.NumberLaws.{load-passed}
+use Rattle.session.proofs.WritingLaws.{state-either}
 use Rattle.soundness.proofs.SheetLaws.{sheet-bounds}
 
 -- the loop that clears: so many words are 0, the others as they were
@@ -123,7 +129,30 @@ loaded-is z s long e f g =
     ∙ pasted (zeros movingWords) s z movingWords (length z) (length-tab movingWords _) (omega arith)
 
 -- what a load that is not refused has room for
-pub sheet-fits : (z s m : List ℕ) {n : ℕ} → n ≡ loadNumber z s m → n ≡ 0 → (length z ≤ sheetWords) × (stateWords ≤ length s)
+pub sheet-fits : (z s m : List ℕ) {n : ℕ} → n ≡ loadWordsNumber z s m → n ≡ 0 → (length z ≤ sheetWords) × (stateWords ≤ length s)
 sheet-fits z s m e q =
     let p = load-passed z s m (sym e ∙ q) in
     (sheet-bounds z (p .passes) .fits, p .long)
+
+-- the state afterwards, as the number says: with the sheet, or as it was
+module _ (z s m : List ℕ) {n : ℕ} (e : n ≡ loadWordsNumber z s m) where
+  pub words-loaded : {after : List ℕ} → n ≡ 0 → after ≡ loaded z s → after ≡ pick (loadWordsNumber z s m =? 0) (loaded z s) s
+  words-loaded q f = rw (yes= (sym e ∙ q)) f
+
+  pub words-kept : (n ≡ 0 → ⊥) → s ≡ pick (loadWordsNumber z s m =? 0) (loaded z s) s
+  words-kept ne = rw (no= (λ q. ne (e ∙ q))) refl
+
+-- a load of handed-over words loads what they stand for, as it stands
+module _ (z words s m : List ℕ) (same : words ≡ meant z) where
+  pub load-answers : {r : Answer} → r ≡ answerOf (loadWordsNumber words s m) → r ≡ answerOf (number (load z) (lend s m))
+  load-answers f = f ∙ ap (λ (x : List ℕ). answerOf (loadWordsNumber x s m)) same
+
+  pub load-leaves : {after′ : List ℕ} → after′ ≡ pick (loadWordsNumber words s m =? 0) (loaded words s) s
+      → after′ ≡ after (load z) (lend s m) .state
+  load-leaves f =
+      state-either (load z) (lend s m) refl (f ∙ ap (λ (x : List ℕ). pick (loadWordsNumber x s m =? 0) (loaded x s) s) same)
+
+-- loading no words is loading the idle network: the same answer, and every word the same afterwards
+pub load-blank : (w : Lent) → (number (load []) w ≡ number (load blankSheet) w) × (after (load []) w ≡ after (load blankSheet) w)
+unfolding meant after
+load-blank w = (refl, refl)

@@ -19,7 +19,7 @@ use Rattle.soundness.specs.Sound.{sound, kindTravels}
 use Rattle.soundness.proofs.SoundLaws.{Lies, lies}
 use Rattle.words.specs.Numbers.{_then_}
 use Rattle.words.proofs.NumberLaws.{then-zero, unless-zero, zero-then, zero-unless}
-use Rattle.session.specs.Calls.{stateNumber, memoryNumber, loadNumber, startNamed, startFits, isBusy, startNumber, placeNumber, leftNumber}
+use Rattle.session.specs.Calls.{stateNumber, memoryNumber, loadWordsNumber, startNamed, startFits, isBusy, startNumber, placeNumber, leftNumber}
 use Rattle.session.specs.Calls.{landedNumber, isPending, ahead, orderNumber, cycleNumber}
 
 -- a test that must not hold
@@ -55,8 +55,8 @@ pub record LoadPassed (z s m : List ℕ) : Type 0 where
   pub long : stateWords ≤ length s
   pub whole : length m ≡ nodes z * memoryWords z
 
-pub load-passed : (z s m : List ℕ) → loadNumber z s m ≡ 0 → LoadPassed z s m
-unfolding loadNumber
+pub load-passed : (z s m : List ℕ) → loadWordsNumber z s m ≡ 0 → LoadPassed z s m
+unfolding loadWordsNumber
 load-passed z s m e =
     let p = then-zero _ _ e in
     let q = then-zero _ _ (p .1) in

@@ -8,7 +8,7 @@ use native.Mathlib.Omega.{arith}
 use Rattle.words.specs.Tests.{_=?_}
 use Rattle.words.specs.Words.{pick}
 use Rattle.words.proofs.TestLaws.{yes=, yes≤, is=}
-use Rattle.sheet.specs.Sheet.{nodes, memoryWords}
+use Rattle.sheet.specs.Sheet.{meant, nodes, memoryWords}
 use Rattle.session.specs.Calls.{lend, load, after}
 use Rattle.session.specs.Calls.{stateNumber, memoryNumber, loaded, Lent, Call, number, does, isLoad}
 use Rattle.words.proofs.NumberLaws.{zero-then, zero-unless}
@@ -25,12 +25,12 @@ ready s m p =
 
 pub ready-loaded : (z s m : List ℕ) → number (load z) (lend s m) ≡ 0 → memoryNumber (after (load z) (lend s m) .state) m ≡ 0
 ready-loaded z s m e =
-    let p = load-passed z s m e in
+    let p = load-passed (meant z) s m e in
     ap (λ (x : List ℕ). memoryNumber x m) (sym (state-written (load z) (lend s m) refl e refl))
-    ∙ ready (loaded z s) m
+    ∙ ready (loaded (meant z) s) m
     (record {
-      state = record { long = omega (arith, p .long, load-length z s m e); is-sound = load-sound z s m e };
-      whole = p .whole ∙ sym (ap (λ (x : List ℕ). nodes x * memoryWords x) (loaded-sheet z s));
+      state = record { long = omega (arith, p .long, load-length (meant z) s m e); is-sound = load-sound (meant z) s m e };
+      whole = p .whole ∙ sym (ap (λ (x : List ℕ). nodes x * memoryWords x) (loaded-sheet (meant z) s));
     })
 
 -- what holds of words that stay, and of words after a call that is carried out, holds of the words after a call

@@ -8,7 +8,7 @@ use Rattle.words.specs.Tests.{_and_, _or_, _≤?_, _<?_, _=?_}
 use Rattle.words.specs.Words.{word, pick, tab}
 use Rattle.words.specs.Numbers.{unless, _then_}
 use Rattle.packet.specs.Header.{dataKind}
-use Rattle.sheet.specs.Sheet.{memoryWords, circuits, schedules, nodes, circuitAt}
+use Rattle.sheet.specs.Sheet.{meant, memoryWords, circuits, schedules, nodes, circuitAt}
 use Rattle.sheet.specs.Rules.{verdict}
 use Rattle.network.specs.View.{Landing}
 use Rattle.network.specs.Registers.{reg, put, sheetIn, room, movingWords, stateWords, clockRow, numberPlace, orderMarkPlace, orderSchedulePlace}
@@ -25,9 +25,13 @@ stateNumber s = unless 12 (stateWords ≤? length s) then unless 13 (sound s)
 unfoldable pub memoryNumber : List ℕ → List ℕ → ℕ
 memoryNumber s m = stateNumber s then unless 14 (length m =? nodes (sheetIn s) * room s)
 
--- load: 1 to 12 and 14
-unfoldable pub loadNumber : List ℕ → List ℕ → List ℕ → ℕ
-loadNumber z s m = verdict z then unless 12 (stateWords ≤? length s) then unless 14 (length m =? nodes z * memoryWords z)
+-- load: 1 to 12 and 14, of a sheet's words as they stand
+unfoldable pub loadWordsNumber : List ℕ → List ℕ → List ℕ → ℕ
+loadWordsNumber z s m = verdict z then unless 12 (stateWords ≤? length s) then unless 14 (length m =? nodes z * memoryWords z)
+
+-- and of the words that are handed over
+abbrev pub loadNumber : List ℕ → List ℕ → List ℕ → ℕ
+loadNumber z s m = loadWordsNumber (meant z) s m
 
 -- start: the circuit, both addresses and the kind exist (15); the count and the regions fit (16); the circuit is not busy (17)
 unfoldable pub startNamed : List ℕ → ℕ → ℕ → ℕ → ℕ → Bool
@@ -163,7 +167,7 @@ number (ask question) w = questionNumber question w
 
 -- the lent words after a call that is carried out
 abbrev pub does : Call → Lent → Lent
-does (load z) w = record { state = loaded z (w .state); memory = w .memory }
+does (load z) w = record { state = loaded (meant z) (w .state); memory = w .memory }
 does (start circuit readAddress writeAddress count kind) w =
     record { state = started (w .state) circuit readAddress writeAddress count kind; memory = w .memory }
 does (store node address new) w = record { state = w .state; memory = stored (w .state) (w .memory) node address new }

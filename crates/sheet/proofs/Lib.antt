@@ -4,3 +4,4 @@ pub mod EntryLaws
 pub mod PassedLaws
 pub mod TimeLaws
 pub mod VerdictLaws
+pub mod MeantLaws

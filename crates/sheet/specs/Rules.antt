@@ -9,7 +9,7 @@ use Rattle.torus.specs.Route.{Use, Route, leads, nowhere, routeFrom, routerCycl
 use Rattle.sheet.specs.declared.circuits.Region.{Region}
 use Rattle.sheet.specs.declared.circuits.Circuit.{Circuit}
 use Rattle.sheet.specs.declared.entries.Entry.{Entry}
-use Rattle.sheet.specs.Sheet.{columns, rows, memoryWords, circuits, schedules, nodes, circuitAt, statedEntries, schedulePlace, period, entriesOf, entryCount, entryAt}
+use Rattle.sheet.specs.Sheet.{meant, columns, rows, memoryWords, circuits, schedules, nodes, circuitAt, statedEntries, schedulePlace, period, entriesOf, entryCount, entryAt}
 use Rattle.sheet.specs.Slots.{sourceOf, destinationOf}
 use Rattle.sheet.specs.Flight.{hopsOf}
 use Rattle.sheet.specs.Wires.{WireCycle, occupied, meet}
@@ -177,3 +177,7 @@ firstBroken (r ∷ rules) z = elim (r .keeps z) [ true ↦ firstBroken rules z |
 -- the verdict upon a sheet: 0 where it passes, else the number of its refusal
 unfoldable pub verdict : List ℕ → ℕ
 verdict z = firstBroken sheetRules z
+
+-- the number 1 to 11 of the words that a caller hands over
+abbrev pub sheetNumber : List ℕ → ℕ
+sheetNumber z = verdict (meant z)

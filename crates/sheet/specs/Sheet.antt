@@ -1,10 +1,20 @@
 -- The words of a sheet (document 01, "The sheet"). A word past the end reads as 0.
 use Prim.Native.Nat.{ℕ, zero, suc, _+_, _*_, _/_}
-use mathlib.Core.List.{List}
+use mathlib.Core.List.{List, [], _∷_}
 use lib.ListN.{length, take, drop}
 use Rattle.words.specs.Words.{word}
 use Rattle.sheet.specs.declared.circuits.Circuit.{Circuit}
 use Rattle.sheet.specs.declared.entries.Entry.{Entry}
+
+-- an idle network: 2 columns, 2 rows, 1 memory word a node, no circuits, and one schedule of period 9 without entries
+abbrev pub blankSheet : List ℕ
+blankSheet = 2 ∷ 2 ∷ 1 ∷ 0 ∷ 1 ∷ 9 ∷ 0 ∷ []
+
+-- the sheet that handed-over words stand for: themselves, and no words for the idle network (document 02, L2). A state holds the sheet
+-- that was meant, so the words in a state stand as they are.
+unfoldable pub meant : List ℕ → List ℕ
+meant [] = blankSheet
+meant (w ∷ z) = w ∷ z
 
 -- the head of five words: columns, rows, memory words per node, number of circuits, number of schedules
 abbrev pub columns : List ℕ → ℕ

@@ -266,7 +266,7 @@ pub fn is_sound(s: &[u32]) -> bool
         return false;
     }
     let z = network::sheet_of(s);
-    if checker::verdict_number(z) != 0 {
+    if checker::rules_number(z) != 0 {
         return false;
     }
     if clock_sound(s, z) {

@@ -1,7 +1,6 @@
 -- `checker::circuits_number` meets its contract: Numbers 4 to 6: each test decides where those before it are passed.
 -- Assumes nothing.
 use mathlib.Core.Path.{sym, _∙_}
-use mathlib.Core.Path.{sym, _∙_}
 use Rattle.sheet.proofs.VerdictLaws.{here, on, done}
 use borrow.Author.Needs.{needs}
 use Rattle.checker.proofs.circuits_number.Statement.{statement}

@@ -6,21 +6,21 @@ use borrow.Author.Needs.{needs}
 use Rattle.checker.proofs.part_number.Statement.{statement}
 use Rattle.checker.proofs.part_number.Tie as tie
 
-verdict-number-requires : tie.Need-verdict-number-requires
-verdict-number-requires c κs = search needs
+sheet-number-requires : tie.Need-sheet-number-requires
+sheet-number-requires c κs = search needs
 
 returns : tie.Need-returns
-returns c = sheet-refused _ _ _ (c .before .verdict-number .ensures) (c .if1 .taken)
+returns c = sheet-refused _ _ _ (c .before .sheet-number .ensures) (c .if1 .taken)
 
-schedules-of-requires : tie.Need-schedules-of-requires
-schedules-of-requires c κs = search needs
+schedules-meant-requires : tie.Need-schedules-meant-requires
+schedules-meant-requires c κs = search needs
 
 returns-2 : tie.Need-returns-2
-returns-2 c = schedule-there _ _ _ (c .before .before .before .verdict-number .ensures) (c .before .before .if1 .left) (omega (arith, c .before .schedules-of .ensures))
+returns-2 c = schedule-there _ _ _ (c .before .before .before .sheet-number .ensures) (c .before .before .if1 .left) (omega (arith, c .before .schedules-meant .ensures))
 
 returns-3 : tie.Need-returns-3
-returns-3 c = schedule-absent _ _ _ (c .before .before .before .verdict-number .ensures) (c .before .before .if1 .left) (omega (arith, c .before .schedules-of .ensures))
+returns-3 c = schedule-absent _ _ _ (c .before .before .before .sheet-number .ensures) (c .before .before .if1 .left) (omega (arith, c .before .schedules-meant .ensures))
 
 pub part-number-spec : {M : Type 1} → statement M
 part-number-spec =
-    tie.close (tie.spec verdict-number-requires returns schedules-of-requires returns-2 returns-3)
+    tie.close (tie.spec sheet-number-requires returns schedules-meant-requires returns-2 returns-3)

@@ -18,6 +18,7 @@ use Rattle.sheet.specs.Rules.{eachEntry, entryFits, rule7At, rule7, entryPreced
 use Rattle.sheet.specs.Rules.{entryRoute, entryLeads, rule9, entryEnds, rule10, entryOccupied, rule11At, rule11}
 use Rattle.soundness.specs.Sound.{kindTravels, liesIn}
 use Rattle.session.specs.Calls.{Call, start, cycle}
+use Rattle.sheet.proofs.MeantLaws.{itself}
 use Rattle.isolation.specs.Sessions.{Session}
 use Rattle.isolation.specs.Reckoning.{Item, none, item, reckonedLanding, leavesIn}
 use Rattle.isolation.specs.Demand.{circuitLanding}
@@ -56,9 +57,11 @@ callsA = start 0 0 0 3 0 ∷ replicate 20 cycle
 abbrev pub sessionA : Session
 sessionA = record {
   lent = record { state = zeros; memory = memories };
+  given = sheet;
   sheet = sheet;
+  sheet-is = itself _ _;
   calls = callsA;
-  carried-out = load-zero sheet zeros memories sheet-passes zeros-long memories-long;
+  carried-out = load-zero sheet sheet zeros memories (itself _ _) sheet-passes zeros-long memories-long;
   loads-refused = bad-loads callsA _ refl;
 }
 

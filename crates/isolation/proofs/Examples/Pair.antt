@@ -12,7 +12,7 @@ use Rattle.words.specs.Tests.{all, any, between, _and_, _or_, _≤?_, _<?_, _=?
 use Rattle.torus.specs.Torus.{neighbourOf, walks, distanceOf}
 use Rattle.torus.specs.Route.{outputOf, follow, routeFrom}
 use Rattle.sheet.specs.declared.circuits.Circuit.{Circuit}
-use Rattle.sheet.specs.Sheet.{rows, memoryWords, nodes, schedulePlace, circuitAt, period, entriesOf, entryAt}
+use Rattle.sheet.specs.Sheet.{meant, rows, memoryWords, nodes, schedulePlace, circuitAt, period, entriesOf, entryAt}
 use Rattle.sheet.specs.Slots.{beginsAt, entryBeginning, slotLength, sourceOf, destinationOf}
 use Rattle.sheet.specs.Wires.{sameWire, same, during, occupied, member, meet}
 use Rattle.sheet.specs.Rules.{rule1, rule2, scheduleFits, rule3, firstBroken, verdict}
@@ -24,6 +24,7 @@ use Rattle.session.specs.declared.Found.the-variants.{Word as FoundWord}
 use Rattle.soundness.specs.Sound.{kindTravels, liesIn}
 use Rattle.session.specs.Answers.{fetchAnswer}
 use Rattle.session.specs.Calls.{Call, load, start, store, fetch, left, periodNumber, whatLanded, order, cycle, ask}
+use Rattle.sheet.proofs.MeantLaws.{itself}
 use Rattle.isolation.specs.Sessions.{Session, afterLoad, Event, storeDone, orderDone, cycleDone}
 use Rattle.isolation.specs.Calendar.{calendarAfter, cyclesDone, pointAfter, scheduleIn}
 use Rattle.isolation.specs.Reckoning.{Item, item, reckonedLanding, leavesIn}
@@ -83,7 +84,7 @@ otherMemory = 11 ∷ 22 ∷ 33 ∷ 44 ∷ replicate 5 7 ++ (replicate 4 0 ++ rep
 abbrev pub oneCalls : List Call
 oneCalls =
     (start 0 0 0 4 0 ∷ replicate 3 cycle)
-    ++ (order 1 3 ∷ store 0 3 76 ∷ store 0 3 77 ∷ load [] ∷ replicate 5 cycle)
+    ++ (order 1 3 ∷ store 0 3 76 ∷ store 0 3 77 ∷ load (2 ∷ 2 ∷ 1 ∷ 0 ∷ []) ∷ replicate 5 cycle)
     ++ (start 0 0 0 1 0 ∷ store 1 3 55 ∷ replicate 17 cycle)
     ++ (start 0 1 2 1 2 ∷ replicate 15 cycle)
 
@@ -99,7 +100,7 @@ otherCalls =
 
 -- the loads among them are refused: their sheets have fewer than five words
 pub loads-bad : (badLoads oneCalls ∷ badLoads otherCalls ∷ []) ≡ true ∷ true ∷ []
-unfolding verdict firstBroken rule1 _≤?_ _=?_
+unfolding meant verdict firstBroken rule1 _≤?_ _=?_
 loads-bad = refl
 
 -- the memories have the sheets' lengths, and the grids as many rows
@@ -119,18 +120,22 @@ rows-alike = refl
 abbrev pub oneOn : (s : List ℕ) → stateWords ≤ length s → Session
 oneOn s long = record {
   lent = record { state = s; memory = oneMemory };
+  given = oneSheet;
   sheet = oneSheet;
+  sheet-is = itself _ _;
   calls = oneCalls;
-  carried-out = load-zero oneSheet s oneMemory (ap (λ (l : List ℕ). word l 0) sheets-pass) long one-whole;
+  carried-out = load-zero oneSheet oneSheet s oneMemory (itself _ _) (ap (λ (l : List ℕ). word l 0) sheets-pass) long one-whole;
   loads-refused = bad-loads oneCalls _ (ap (λ (l : List Bool). getD l 0 false) loads-bad);
 }
 
 abbrev pub otherOn : (s : List ℕ) → stateWords ≤ length s → Session
 otherOn s long = record {
   lent = record { state = s; memory = otherMemory };
+  given = otherSheet;
   sheet = otherSheet;
+  sheet-is = itself _ _;
   calls = otherCalls;
-  carried-out = load-zero otherSheet s otherMemory (ap (λ (l : List ℕ). word l 1) sheets-pass) long other-whole;
+  carried-out = load-zero otherSheet otherSheet s otherMemory (itself _ _) (ap (λ (l : List ℕ). word l 1) sheets-pass) long other-whole;
   loads-refused = bad-loads otherCalls _ (ap (λ (l : List Bool). getD l 1 false) loads-bad);
 }
 

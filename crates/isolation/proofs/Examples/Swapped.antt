@@ -13,6 +13,7 @@ use Rattle.sheet.specs.Sheet.{rows, schedulePlace, circuitAt, entriesOf, entryA
 use Rattle.sheet.specs.Slots.{beginsAt, entryBeginning, slotLength}
 use Rattle.soundness.specs.Sound.{kindTravels, liesIn}
 use Rattle.session.specs.Calls.{Call, start, store, cycle}
+use Rattle.sheet.proofs.MeantLaws.{itself}
 use Rattle.isolation.specs.Sessions.{Session, Event, storeDone, cycleDone}
 use Rattle.isolation.specs.Reckoning.{Item, none, item, reckonedLanding, leavesIn}
 use Rattle.isolation.specs.Calendar.{pointAfter}
@@ -29,9 +30,11 @@ storesThen a b = start 0 0 0 3 0 ∷ store 0 1 a ∷ store 0 1 b ∷ replicate 9
 abbrev pub storing : ℕ → ℕ → Session
 storing a b = record {
   lent = record { state = zeros; memory = memories };
+  given = sheet;
   sheet = sheet;
+  sheet-is = itself _ _;
   calls = storesThen a b;
-  carried-out = load-zero sheet zeros memories sheet-passes zeros-long memories-long;
+  carried-out = load-zero sheet sheet zeros memories (itself _ _) sheet-passes zeros-long memories-long;
   loads-refused = bad-loads (storesThen a b) _ refl;
 }
 

@@ -15,7 +15,7 @@ use Rattle.words.specs.Numbers.{unless, _then_}
 use Rattle.words.proofs.TableLaws.{tab-zeros}
 use Rattle.session.specs.Calls.{stateNumber, isPending, ahead, orderNumber, loaded}
 use Rattle.isolation.specs.Examples.{sheetA, lastPeriod, Example, tableOn, TableHolds}
-use Rattle.sheet.specs.Sheet.{schedulePlace, circuitAt, entriesOf, entryAt, rows, sheetWords}
+use Rattle.sheet.specs.Sheet.{meant, schedulePlace, circuitAt, entriesOf, entryAt, rows, sheetWords}
 use Rattle.sheet.specs.Wires.{sameWire, same, during, occupied, member, meet}
 use Rattle.sheet.specs.Rules.{rule1, rule2, scheduleFits, rule3, firstBroken, verdict}
 use Rattle.sheet.specs.Rules.{regionFits, circuitFits, rule4, precedes, circuitPrecedes, rule5, apart, receiveApart, rule6}
@@ -29,7 +29,7 @@ written = 0 ∷ 4294967295 ∷ replicate (movingWords - 2) 0 ++ (17 ∷ sheetA 0
 computed : map (λ (r : Example). r .given) (tableOn written) ≡ map (λ (r : Example). r .wanted) (tableOn written)
 unfolding orderNumber stateNumber unless _then_ ahead isPending sound sheetSound clockSound orderSound transferSound kindTravels liesIn routerSound cellSound nodeSound
     loaded tab reg sheetLength sheetIn
-    verdict firstBroken
+    meant verdict firstBroken
     rule1 rule2 scheduleFits rule3
     regionFits circuitFits rule4 precedes circuitPrecedes rule5 apart receiveApart rule6
     eachEntry entryFits rule7At rule7 entryPrecedes rule8At rule8

@@ -10,7 +10,7 @@ use lib.ListN.{length}
 use Rattle.words.specs.Tests.{_=?_}
 use Rattle.words.specs.Words.{pick}
 use Rattle.words.proofs.TestLaws.{is=}
-use Rattle.sheet.specs.Sheet.{memoryWords, circuits, schedules, nodes, circuitAt}
+use Rattle.sheet.specs.Sheet.{meant, memoryWords, circuits, schedules, nodes, circuitAt}
 use Rattle.sheet.specs.Rules.{verdict}
 use Rattle.network.specs.View.{View, empty, Order, noOrder, pending, ports}
 use Rattle.network.specs.Cycle.{tick, faulty}
@@ -71,12 +71,12 @@ fine-cycle z w f = record {
 -- a session's words after its load
 pub fine-opened : (l : Session) → Fine (l .sheet) (afterLoad l)
 fine-opened l =
-    let p = load-passed (l .sheet) (l .lent .state) (l .lent .memory) (l .carried-out) in
+    let p = load-passed (meant (l .given)) (l .lent .state) (l .lent .memory) (l .carried-out) in
     record {
-      long = omega (arith, p .long, state-length-kept (load (l .sheet)) (l .lent) (l .carried-out));
-      is-sound = sound-kept (load (l .sheet)) (l .lent) (l .carried-out);
-      sheet-is = loaded-sheet (l .sheet) (l .lent .state);
-      whole = p .whole;
+      long = omega (arith, p .long, state-length-kept (load (l .given)) (l .lent) (l .carried-out));
+      is-sound = sound-kept (load (l .given)) (l .lent) (l .carried-out);
+      sheet-is = loaded-sheet (meant (l .given)) (l .lent .state) ∙ sym (l .sheet-is);
+      whole = p .whole ∙ sym (ap (λ (z : List ℕ). nodes z * memoryWords z) (l .sheet-is));
     }
 
 -- whether a call is a cycle
@@ -343,10 +343,10 @@ module _ (l : Session) where
 
   -- every register is 0 directly after the load
   pub zero-at : (row k : ℕ) → row < rowCount → k < rowWords → reg (afterLoad l .state) row k ≡ 0
-  zero-at = loaded-register sheet (l .lent .state)
+  zero-at = loaded-register (meant (l .given)) (l .lent .state)
 
   pub session-passes : verdict sheet ≡ 0
-  session-passes = load-passed sheet (l .lent .state) (l .lent .memory) (l .carried-out) .passes
+  session-passes = ap verdict (l .sheet-is) ∙ load-passed (meant (l .given)) (l .lent .state) (l .lent .memory) (l .carried-out) .passes
 
   bounds : SheetBounds sheet
   bounds = sheet-bounds sheet session-passes

@@ -3,8 +3,10 @@
 use Rattle.landings.proofs.CallLaws.{place-is, sheet-good}
 use Rattle.landings.proofs.OutputLaws.{line-has, line-done, refusal-is, no-refusal-is, before-is, end-refused, end-runs}
 use native.Mathlib.Omega.{arith}
+use Prim.Native.Nat.{ℕ}
+use mathlib.Core.List.{List}
 use mathlib.Core.Path.{_∙_, ap}
-use Rattle.sheet.specs.Sheet.{nodes}
+use Rattle.sheet.specs.Sheet.{meant, nodes}
 use borrow.Author.Needs.{needs}
 use Rattle.landings.proofs.run_session.Statement.{statement}
 use Rattle.landings.proofs.run_session.Tie as tie
@@ -61,7 +63,7 @@ list-requires c κs =
         runs = no-refusal-is _ _ (at-if1 .if1 .left) (at-prepare .prepare .ensures .0);
         words = before-is _
             (at-prepare .prepare .ensures .1 .0) (at-prepare .prepare .ensures .1 .1);
-        all-nodes = at-nodes-of .nodes-of .ensures .0 ∙ ap nodes
+        all-nodes = at-nodes-of .nodes-of .ensures .0 ∙ ap (λ (z : List ℕ). nodes (meant z))
             (entry .pre .0 .own-sheet);
         all-cycles = omega (arith, at-cycles-in .cycles-in .ensures);
       },

@@ -4,7 +4,7 @@ use Prim.Native.Nat.{ℕ, _+_, _≤_, _<_}
 use mathlib.Core.List.{List}
 use mathlib.Core.Path.{_≡_}
 use lib.ListN.{length, replicate}
-use Rattle.sheet.specs.Sheet.{nodes}
+use Rattle.sheet.specs.Sheet.{meant, nodes}
 use Rattle.network.specs.Registers.{stateWords}
 use Rattle.session.specs.Calls.{Lent, lend, cycle, number}
 use Rattle.landings.specs.declared.input.Message.the-variants.{Runs}
@@ -24,7 +24,7 @@ pub record Lendable (bytes sheet s m : List ℕ) : Type 0 where
 pub record ReadyToList (bytes s m : List ℕ) (count last : ℕ) : Type 0 where
   pub runs : message bytes ≡ Runs
   pub words : lend s m ≡ beforeCycles bytes
-  pub all-nodes : count ≡ nodes (sheetOf bytes)
+  pub all-nodes : count ≡ nodes (meant (sheetOf bytes))
   pub all-cycles : last ≡ cyclesAsked bytes
 
 -- a page of so many cycles, of which none is refused; where it is not ended by the refusal of the next, it has at least one

@@ -1,10 +1,10 @@
--- `checker::verdict_number` meets its contract: the three groups of rules follow each other in the list of rules.
+-- `checker::rules_number` meets its contract: the three groups of rules follow each other in the list of rules.
 -- Assumes nothing.
 use mathlib.Core.Path.{sym, _∙_}
 use Rattle.checker.proofs.AnswerLaws.{frame-kept, circuits-kept, frame-decides, circuits-decide, entries-decide}
 use borrow.Author.Needs.{needs}
-use Rattle.checker.proofs.verdict_number.Statement.{statement}
-use Rattle.checker.proofs.verdict_number.Tie as tie
+use Rattle.checker.proofs.rules_number.Statement.{statement}
+use Rattle.checker.proofs.rules_number.Tie as tie
 
 frame-number-requires : tie.Need-frame-number-requires
 frame-number-requires c κs = search needs
@@ -35,8 +35,8 @@ returns-3 c =
     entries-decide _ _ (at-frame-number .frame-number .ensures) (at-if1 .if1 .left) _ (at-circuits-number .circuits-number .ensures)
     (c .before .if2 .left) _ (c .schedules-number .ensures)
 
-pub verdict-number-spec : {M : Type 1} → statement M
-verdict-number-spec =
+pub rules-number-spec : {M : Type 1} → statement M
+rules-number-spec =
     tie.close
     (tie.spec
     frame-number-requires
