@@ -93,10 +93,10 @@ impl Table for Tuned {
     }
 }
 
-/// Larger than every number of a refusal.
+/// Larger than every number that one entry can give.
 const NOTHING_FOUND: u32 = 12;
 
-/// 0 when the sheet passes, else the first of the numbers 1 to 11 that applies.
+/// 0 when the sheet passes, else the first of the numbers 1 to 11 and 26 that applies.
 pub fn verdict(sheet: &[u32]) -> u32 {
     verdict_with::<Plain>(sheet)
 }
@@ -214,7 +214,7 @@ fn distance(columns: u32, rows: u32, source: u32, destination: u32) -> u32 {
     column_steps.min(columns - column_steps) + row_steps.min(rows - row_steps)
 }
 
-/// Numbers 7 to 11, or 0. One pass over all entries: once a number is found, only what
+/// Numbers 7 to 11 and 26, or 0. One pass over all entries: once a number is found, only what
 /// would give a lower one is still tested.
 fn schedules_verdict<T: Table>(
     columns: u32,
@@ -239,6 +239,8 @@ fn schedules_verdict<T: Table>(
     let mut table = T::open(occupied, nodes * WIRES_PER_NODE, longest_period);
 
     let mut found = NOTHING_FOUND;
+    // A bit for each circuit that has an entry.
+    let mut served = 0u64;
     let mut schedule = 0;
     let mut rest = schedule_words;
     while let &[period, entry_count, ref following @ ..] = rest {
@@ -254,6 +256,7 @@ fn schedules_verdict<T: Table>(
             if offset >= period || !(2..=16).contains(&length) || circuit as usize >= circuits.len() || route > 65_535 {
                 return 7;
             }
+            served |= 1 << circuit;
 
             let key = (offset << 6 | circuit) as i32;
             if key <= previous {
@@ -307,9 +310,11 @@ fn schedules_verdict<T: Table>(
         }
         schedule += 1;
     }
-    if found == NOTHING_FOUND {
-        0
-    } else {
+    if found != NOTHING_FOUND {
         found
+    } else if (served.trailing_ones() as usize) < circuits.len() {
+        26
+    } else {
+        0
     }
 }

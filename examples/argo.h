@@ -15,10 +15,10 @@ extern "C" {
 /* The length in words that a state must have at least. */
 uint32_t argo_state_words(void);
 
-/* Judges a sheet: 0, or the first of the numbers 1 to 11 that applies. */
+/* Judges a sheet: 0, or the first of the numbers 1 to 11 and then 26 that applies. */
 uint32_t argo_verdict(const uint32_t *sheet, size_t sheet_words);
 
-/* The entries of a schedule in a sheet. Field 0: the place of their first word in the sheet; 1: how many words they have. */
+/* The entries of a schedule in a sheet that keeps 1 to 11, also where 26 refuses it. Field 0: the place of their first word in the sheet; 1: how many words they have. */
 uint64_t argo_entries(const uint32_t *sheet, size_t sheet_words, uint32_t schedule, uint32_t field);
 
 /* Loads a sheet into a state, for a memory of columns * rows * M words, node by node: cycle 0, period 0, schedule 0. */

@@ -89,9 +89,10 @@ fn main() -> ExitCode {
     let mut complaints = Vec::new();
     let mut judge = |holds: bool, complaint: String| if holds { passed += 1 } else { complaints.push(complaint) };
 
-    for number in 1..=20 {
+    for number in (1..=20).chain([26]) {
         let found = gives(&book, number);
-        judge(if number <= 11 { found == 1 } else { found >= 1 }, format!("number {number} is given by {found} lines of the book"));
+        let is_rule = number <= 11 || number == 26;
+        judge(if is_rule { found == 1 } else { found >= 1 }, format!("number {number} is given by {found} lines of the book"));
     }
     // where a name stands: in the book, and in the contracts of the sources
     let uses: Vec<Vec<BTreeSet<&str>>> = book

@@ -25,8 +25,12 @@ extern "C" {
 
 const SHEETS_REQUIRED: usize = 6_000;
 const SHEETS_REQUIRED_OF_EACH_NUMBER: usize = 100;
+/// Sheets of 26, and schedules whose entries such sheets hand back.
+const REQUIRED_OF_26: usize = 300;
 const INPUTS_REQUIRED: usize = 250;
 const MOST_SHEET_WORDS: u32 = 8_597;
+/// What the checker can answer.
+const SHEET_NUMBERS: [u32; 13] = [0, 1, 2, 3, 4, 5, 6, 7, 8, 9, 10, 11, 26];
 const DIFFERENCES_SHOWN: usize = 10;
 const SCHEDULES_ASKED: [u32; 10] = [0, 1, 2, 3, 4, 5, 6, 7, 8, u32::MAX];
 const FIELDS_ASKED: [u32; 5] = [0, 1, 2, 3, u32::MAX];
@@ -49,13 +53,14 @@ fn main() -> ExitCode {
     let mut differences: Vec<String> = Vec::new();
 
     let cases = near_misses::all_cases();
-    let mut sheets_by_number = [0; 12];
+    let mut sheets_by_number: BTreeMap<u32, usize> = BTreeMap::new();
     let mut entries_by_number: BTreeMap<u32, usize> = BTreeMap::new();
+    let mut entries_by_sheets_of_26 = 0;
     let mut numbers = Vec::new();
     for case in &cases {
         let second = checker::verdict(&case.words);
         let ours = our_verdict(&case.words);
-        sheets_by_number[second as usize] += 1;
+        *sheets_by_number.entry(second).or_default() += 1;
         numbers.push(second);
         if ours == second && case.expected.is_none_or(|expected| expected == second) {
             passed += 1;
@@ -65,13 +70,15 @@ fn main() -> ExitCode {
                 case.name, case.expected, case.words
             ));
         }
+        let to_11 = checker::verdict_to_11(&case.words);
         let asked: Result<Vec<u32>, String> =
-            SCHEDULES_ASKED.iter().map(|&schedule| entries_agree(&case.words, second, schedule)).collect();
+            SCHEDULES_ASKED.iter().map(|&schedule| entries_agree(&case.words, to_11, schedule)).collect();
         match asked {
             Ok(numbers) => {
                 passed += 1;
                 for number in numbers {
-                    *entries_by_number.entry(number).or_insert(0) += 1;
+                    *entries_by_number.entry(number).or_default() += 1;
+                    entries_by_sheets_of_26 += usize::from(second == 26 && number == 0);
                 }
             }
             Err(said) => differences.push(format!("entries ({}): {said}\n  words {:?}", case.name, case.words)),
@@ -101,7 +108,12 @@ fn main() -> ExitCode {
     let mut inputs_by_line: Vec<(String, usize)> = Vec::new();
     for (name, input) in &inputs {
         let wanted = wanted_line(input);
-        if *name == "no words" && wanted != "passes" {
+        let settled = match *name {
+            "no words" => "passes",
+            "unserved circuit" => "refused 26",
+            _ => &wanted,
+        };
+        if wanted != settled {
             differences.push(format!("input ({name}): the second checker has {wanted:?}\n  {input:?}"));
         }
         match inputs_by_line.iter_mut().find(|(line, _)| *line == wanted) {
@@ -121,7 +133,7 @@ fn main() -> ExitCode {
     }
 
     println!("number  sheets");
-    for (number, count) in sheets_by_number.iter().enumerate() {
+    for (number, count) in &sheets_by_number {
         println!("{number:>6}  {count:>6}");
     }
     println!(" total  {:>6}", cases.len());
@@ -134,6 +146,7 @@ fn main() -> ExitCode {
     for (number, count) in &entries_by_number {
         println!("{number:>6}  {count:>6}");
     }
+    println!("{entries_by_sheets_of_26} of them with 0 by a sheet of 26");
     println!("line of sheet_check  inputs");
     inputs_by_line.sort();
     for (line, count) in &inputs_by_line {
@@ -153,8 +166,9 @@ fn main() -> ExitCode {
         println!("{verdicts} routes between {pairs} pairs of nodes agree, not all");
         enough = false;
     }
-    for (number, &count) in sheets_by_number.iter().enumerate() {
-        if count < SHEETS_REQUIRED_OF_EACH_NUMBER {
+    for number in SHEET_NUMBERS {
+        let required = if number == 26 { REQUIRED_OF_26 } else { SHEETS_REQUIRED_OF_EACH_NUMBER };
+        if sheets_by_number.get(&number).copied().unwrap_or(0) < required {
             println!("too few sheets have number {number}");
             enough = false;
         }
@@ -164,6 +178,10 @@ fn main() -> ExitCode {
             println!("too few entries were asked for with number {number}");
             enough = false;
         }
+    }
+    if entries_by_sheets_of_26 < REQUIRED_OF_26 {
+        println!("too few entries were handed back by sheets of 26");
+        enough = false;
     }
     println!("{passed} passed, {} failed", differences.len());
     if enough && differences.is_empty() {
@@ -208,9 +226,10 @@ fn routes_agree(columns: u32, rows: u32, source: u32, destination: u32, differen
 }
 
 /// The number beside one schedule's entries, where every field of ours is the second
-/// checker's and the words at our place are its words; else what differs.
-fn entries_agree(words: &[u32], verdict: u32, schedule: u32) -> Result<u32, String> {
-    let second = checker::entries(words, verdict, schedule);
+/// checker's and the words at our place are its words; else what differs. The sheet's own
+/// number is that of 1 to 11.
+fn entries_agree(words: &[u32], to_11: u32, schedule: u32) -> Result<u32, String> {
+    let second = checker::entries(words, to_11, schedule);
     for field in FIELDS_ASKED {
         let wanted = match (&second, field) {
             (Err(number), _) => u64::from(*number) << 32,
@@ -303,7 +322,7 @@ fn inputs(cases: &[Case], numbers: &[u32]) -> Vec<(&'static str, Vec<u8>)> {
     let mut list: Vec<(&'static str, Vec<u8>)> = Vec::new();
 
     // Sheets of every number, spread over all those compared.
-    for number in 0..12 {
+    for number in SHEET_NUMBERS {
         let of_number: Vec<&Case> = cases
             .iter()
             .zip(numbers)
@@ -342,6 +361,18 @@ fn inputs(cases: &[Case], numbers: &[u32]) -> Vec<(&'static str, Vec<u8>)> {
         list.push(("bytes behind sheet A", [whole.clone(), tail].concat()));
     }
     list.push(("many bytes behind sheet A", [whole.clone(), vec![7; 100_000]].concat()));
+
+    // Sheet A without its entry, cut after every byte of its last word, and bytes behind it.
+    let mut unserved = sheet_a();
+    unserved.unserve(0);
+    let words = unserved.words();
+    let whole_unserved = input_of(words.len() as u32, &words);
+    for missing in 1..=4 {
+        list.push(("unserved circuit, input cut", whole_unserved[..whole_unserved.len() - missing].to_vec()));
+    }
+    for tail in [vec![], vec![0], vec![255; 1_000]] {
+        list.push(("unserved circuit", [whole_unserved.clone(), tail].concat()));
+    }
 
     // A stated length that is not that of the words.
     for stated in 0..small.len() as u32 {

@@ -18,7 +18,7 @@ use second::inputs::{
 };
 use second::listing::listing;
 use second::near_misses::{all_cases, GRIDS};
-use second::sheets::{passing_plan, sheet_a, Plan, Random, Schedule, Wish};
+use second::sheets::{passing_plan, sheet_a, sixty_four_circuits, Circuit, Plan, Random, Schedule, Wish};
 use std::collections::BTreeMap;
 use std::io::Write;
 use std::process::{Command, ExitCode, Stdio};
@@ -67,6 +67,7 @@ fn main() -> ExitCode {
     example(&mut cases);
     generated(&mut cases);
     refused_sheets(&mut cases);
+    unserved_circuits(&mut cases);
     refused_starts(&mut cases);
     sheet_limit(&mut cases);
     memory_limit(&mut cases);
@@ -128,7 +129,8 @@ fn is_complete(kinds: &BTreeMap<String, usize>) -> bool {
     for (kind, count) in kinds {
         println!("{count:>6}  {kind}");
     }
-    let mut wanted: Vec<String> = (1..=11).chain(15..=17).map(|number| format!("refused {number}")).collect();
+    let mut wanted: Vec<String> =
+        (1..=11).chain(15..=17).chain([26]).map(|number| format!("refused {number}")).collect();
     wanted.extend(["too large", "input ends", "listing without a landing", "listing with landings"].map(String::from));
     let missing: Vec<String> = wanted.into_iter().filter(|kind| !kinds.contains_key(kind)).collect();
     for kind in &missing {
@@ -246,7 +248,7 @@ fn some_transfers(random: &mut Random, plan: &Plan) -> Vec<Transfer> {
 /// A sheet is refused as soon as it is read, whatever follows or does not.
 fn refused_sheets(cases: &mut Cases) {
     let sheets = all_cases();
-    for number in 1..=11 {
+    for number in (1..=11).chain([26]) {
         let printed = format!("refused {number}\n");
         let fits = |length: usize| length <= 8_597;
         let of_number: Vec<_> =
@@ -259,6 +261,54 @@ fn refused_sheets(cases: &mut Cases) {
             let large = [words, vec![u32::MAX; 3]].concat();
             cases.settled("refused sheet, large numbers behind", bytes_of(&large), &printed);
         }
+    }
+}
+
+/// Number 26 comes where the sheet is checked, so that nothing behind the sheet is read: neither the
+/// memory, however large, nor transfers, nor cycles.
+fn unserved_circuits(cases: &mut Cases) {
+    let mut no_entry = sheet_a();
+    no_entry.unserve(0);
+    let mut two_schedules = sheet_a();
+    two_schedules.circuits.push(Circuit { destination: 3, ..sheet_a().circuits[0] });
+    two_schedules.schedules.push(Schedule { period: 12, entries: Vec::new() });
+    let mut one_of_64 = sixty_four_circuits(2);
+    for circuit in 0..63 {
+        one_of_64.add_slot(circuit % 2, circuit);
+    }
+    for plan in [no_entry, two_schedules, one_of_64] {
+        let refused = "refused 26\n";
+        let sheet = plan.words();
+        let memory = some_memory(&mut Random::new(26), &plan);
+        let unserved = plan.unserved()[0];
+        let Circuit { read_offset, receive_offset, .. } = plan.circuits[unserved];
+        let transfer = [unserved as u32, read_offset, receive_offset, 1, 0];
+        for (transfers, cycles) in [(vec![], 0), (vec![transfer], 20), (vec![[u32::MAX; 5]], 20), (vec![], 65_537)] {
+            let words = input_words(&sheet, &memory, &transfers, cycles);
+            cases.settled("unserved circuit", bytes_of(&words), refused);
+        }
+        let too_many = input_words(&sheet, &memory, &[transfer; 65], 20);
+        cases.settled("unserved circuit, too many transfers", bytes_of(&too_many), refused);
+        let alone = bytes_of(&[&[sheet.len() as u32], &sheet[..]].concat());
+        cases.settled("unserved circuit, cut behind the sheet", alone.clone(), refused);
+        cases.settled("unserved circuit, cut in the memory", [&alone[..], &[1; 7]].concat(), refused);
+        for missing in 1..=4 {
+            let cut = alone[..alone.len() - missing].to_vec();
+            cases.settled("unserved circuit, cut in the sheet", cut, INPUT_ENDS);
+        }
+        let large = Plan { memory_words: 16_384, ..plan.clone() }.words();
+        let words = [&[large.len() as u32], &large[..], &[0; 40]].concat();
+        cases.settled("unserved circuit, memory too large", bytes_of(&words), refused);
+        cases.settled("unserved circuit, memory too large, none there", bytes_of(&words[..1 + large.len()]), refused);
+
+        // All circuits served by a schedule that is never in force: the sheet passes.
+        let mut served = plan.clone();
+        served.schedules.push(Schedule { period: 9, entries: Vec::new() });
+        for circuit in plan.unserved() {
+            served.add_slot(plan.schedules.len(), circuit);
+        }
+        let words = input_words(&served.words(), &memory, &[transfer], 100);
+        cases.settled("circuit served by the last schedule", bytes_of(&words), NO_LANDING);
     }
 }
 

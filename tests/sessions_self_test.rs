@@ -1,7 +1,7 @@
 //! Plays the same sessions through the second machine itself, read from the lent words anew
 //! for each call: against the machine that lives on, and against the reckoning of every
-//! circuit. Then machines that are wrong about sheets of no words have to be noticed. It needs
-//! no library of ours.
+//! circuit. Then machines that are wrong about sheets of no words or about unserved circuits have
+//! to be noticed. It needs no library of ours.
 
 #[allow(dead_code)]
 mod second {

@@ -1,5 +1,6 @@
 //! Holds the second machine against what each hand-made state was made for; machines that are
-//! wrong about sheets of no words have to be noticed. It needs no library of ours.
+//! wrong about sheets of no words or about unserved circuits have to be noticed. It needs no
+//! library of ours.
 
 #[allow(dead_code)]
 mod second {
@@ -17,11 +18,11 @@ mod second {
     pub mod words;
 }
 
-use second::planted::{are_noticed, Wrong, WRONG_LOADS};
+use second::planted::{are_noticed, WRONG_LOADS, WRONG_ON_STATES};
 use std::process::ExitCode;
 
 fn main() -> ExitCode {
-    let wrongs = [&WRONG_LOADS[..], &[Wrong::TakesStatesWithoutSheet]].concat();
+    let wrongs = [&WRONG_LOADS[..], &WRONG_ON_STATES].concat();
     if !are_noticed(&wrongs, second::pokes::is_noticed) {
         return ExitCode::FAILURE;
     }

@@ -1,6 +1,6 @@
 // The commands check and explain: the verdict upon sheets, and why one is refused.
 import { explain } from '../lib/explain.js';
-import { placeOfWord } from '../lib/document.js';
+import { placeOfMark } from '../lib/document.js';
 import { verdictText } from '../lib/paper.js';
 import { holdCount } from './arguments.js';
 import { complaintsOf, readableSheet, readSheet } from './files.js';
@@ -45,7 +45,7 @@ export async function explainFile(paths, options) {
   const calls = await openProved();
   const explanation = explain(sheet.document, calls.verdict);
   if (options['--json']) {
-    const cells = (explanation?.marks ?? []).map(({ at, text }) => ({ cell: placeOfWord(sheet.document, at), text }));
+    const cells = (explanation?.marks ?? []).map((mark) => ({ cell: placeOfMark(sheet.document, mark), text: mark.text }));
     printJson({ file: sheet.path, answer: explanation ? 'refused' : 'passes', ...explanationData(explanation), cells });
   } else print(explanation ? [verdictText(explanation.number), ...explanationLines(explanation)].join('\n') : 'passes');
   return explanation ? 1 : 0;

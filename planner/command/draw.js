@@ -6,7 +6,7 @@ import { HEAD_LIMITS } from '../lib/limits.js';
 import { MOST_CYCLES } from '../lib/listing.js';
 import { svgFile } from '../lib/markup.js';
 import { MOST_NAME, nameOf } from '../lib/plan.js';
-import { callsOfPlan, openRun, sheetOfMode } from '../lib/run.js';
+import { callsOfPlan, openRun, sheetBeginningIn } from '../lib/run.js';
 import { partsOf } from '../lib/sheet.js';
 import { slotsPicture } from '../lib/slots_picture.js';
 import { holdCount, numberOption } from './arguments.js';
@@ -89,7 +89,7 @@ function grid(sheet, calls, mode, cycles, still) {
   const alone = acting ? null : (mode ?? 0);
   const run = acting
     ? openRun(calls, document.words, callsOfPlan(document))
-    : openRun(calls, sheetOfMode(document.words, alone), { sending: true });
+    : openRun(calls, sheetBeginningIn(document.words, alone), { sending: true });
   const usual = Math.min(USUAL_PERIODS * partsOf(document.words).schedules[alone ?? 0].period, USUAL_CYCLES);
   const frames = framesOf(run, still === null ? (cycles ?? usual) : still + 1, still === null);
   if (run.refused) {

@@ -46,7 +46,7 @@ function callsOf(exported) {
   return {
     stateWords,
 
-    // 0 where the sheet passes, else the first of the numbers 1 to 11 that applies.
+    // 0 where the sheet passes, else the first of the numbers 1 to 11 and 26 that applies, in this order.
     verdict: (sheet) => exported.argo_verdict(...lendSheet(sheet)),
 
     // Where a schedule's entries begin in a sheet, and how many words they are.

@@ -12,7 +12,7 @@ import { rowsOfWords } from './words.js';
 const PLAIN_COLUMNS = 8;
 const WORDS_A_LINE = 16;
 // So many of the statements, the first, are about the verdict.
-const OF_VERDICT = 3;
+const OF_VERDICT = 4;
 
 const named = (name) => cut(name, MOST_NAME);
 const row = (cells, kind = 'td') => element('tr', {}, cells.map((cell) => element(kind, kind === 'th' ? { scope: 'col' } : {}, cell)));
@@ -50,7 +50,7 @@ function identity(document, about, fileHash) {
 }
 
 function verdictPart(verdict, explanation) {
-  if (verdict === 0) return element('p', { class: 'verdict' }, 'The sheet passes: it keeps the rules 1 to 11.');
+  if (verdict === 0) return element('p', { class: 'verdict' }, 'The sheet passes: it keeps the rules 1 to 11 and 26.');
   const { title, lines, help } = explanation;
   return [
     element('p', { class: 'verdict' }, `The sheet is refused with number ${verdict}: ${title}.`),

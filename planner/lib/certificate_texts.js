@@ -2,8 +2,14 @@
 
 // Each statement, the file that has it, and what it says.
 export const STATEMENTS = [
-  ['verdict', 'crates/sheet/specs/Rules.antt', 'the rules 1 to 11, and the first of them that a sheet does not keep'],
-  ['sheetNumber', 'crates/sheet/specs/Rules.antt', "that number of the sheet that a file's words stand for: themselves, and no words for an idle network"],
+  ['sheetRules', 'crates/sheet/specs/Rules.antt', 'the rules 1 to 11, in checking order'],
+  ['rule26', 'crates/sheet/specs/Rules.antt', 'number 26, tested directly after them: each circuit has an entry in some schedule'],
+  [
+    'checkNumber',
+    'crates/sheet/specs/Rules.antt',
+    "the first of 1 to 11 and 26 that the sheet does not keep, 0 where it keeps them all; the sheet is what a file's words stand for: " +
+      'themselves, and no words for an idle network',
+  ],
   ['argo_verdict', 'crates/exports/src/lib.rt', 'the call that judged this sheet: by its contract, proved, its answer is just this number'],
   ['demand3', 'crates/isolation/proofs/DemandProved.antt', 'the theorem, proved: demand 3 holds'],
   ['Demand3', 'crates/isolation/specs/Demand.antt', 'what it states, one claim about lists of calls on a sheet that passes; of its parts:'],

@@ -62,12 +62,22 @@ function placed(problem, named) {
   return { ...problem, place: named(problem.row, problem.column) };
 }
 
-// The name of the cell that a word of the sheet stands for.
-export function placeOfWord(document, at) {
+// The row and the column of a mark: those of the word of the sheet that it is at, or in a plan another column of that row. Behind the last
+// word it is that one; null where there are no words.
+export function cellOfMark(document, { at, column }) {
   const place = document.places[Math.min(at, document.places.length - 1)];
+  return place ? { row: place.row, column: column ?? place.column } : null;
+}
+
+// The name of a mark's cell.
+export function placeOfMark(document, mark) {
+  const place = cellOfMark(document, mark);
   if (!place) return 'the file';
   return document.kind === 'plan' ? cellName(place.row, place.column) : placeName(place);
 }
+
+// The name of the cell that a word of the sheet stands for.
+export const placeOfWord = (document, at) => placeOfMark(document, { at });
 
 // A problem as one line: where, what stands there, what is wanted.
 export function problemLine(name, problem) {

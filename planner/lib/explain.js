@@ -4,28 +4,31 @@ import { explainClash } from './explain_clash.js';
 import { explainDivision, explainHead, explainShort } from './explain_head.js';
 import { explainRegions } from './explain_regions.js';
 import { explainEnd, explainRoute } from './explain_routes.js';
+import { explainUnserved } from './explain_served.js';
 import { explainRanges, explainSlotOrder } from './explain_slots.js';
 import { PERIOD_LIMITS } from './limits.js';
 import { RULES } from './rules.js';
+import { UNSERVED_NUMBER } from './served.js';
 import { partsOf } from './sheet.js';
 import { shrink, withCircuits, withEntries, wordsOfSome } from './shrink.js';
 import { changedWords, put } from './trials.js';
 
-const EXPLANATIONS = [
-  null,
-  explainShort,
-  explainHead,
-  explainDivision,
-  explainCircuit,
-  explainOrder,
-  explainRegions,
-  explainRanges,
-  explainSlotOrder,
-  explainRoute,
-  explainEnd,
-  explainClash,
-];
-const [FIRST_OF_CIRCUITS, LAST_OF_CIRCUITS, LAST_OF_SLOTS] = [4, 6, 11];
+const EXPLANATIONS = {
+  1: explainShort,
+  2: explainHead,
+  3: explainDivision,
+  4: explainCircuit,
+  5: explainOrder,
+  6: explainRegions,
+  7: explainRanges,
+  8: explainSlotOrder,
+  9: explainRoute,
+  10: explainEnd,
+  11: explainClash,
+  [UNSERVED_NUMBER]: explainUnserved,
+};
+const NUMBERS_OF_CIRCUITS = [4, 5, 6, UNSERVED_NUMBER];
+const NUMBERS_OF_SLOTS = [7, 8, 9, 10, 11];
 
 // The explanation of a document's refusal; null where its sheet passes, and where it has none. `verdict` is the proved checker.
 export function explain(document, verdict) {
@@ -46,10 +49,11 @@ function onceEach(help) {
 // Whether the sheet gets the same number without one of the parts that were found; every other fault lacks one of them.
 function isElsewhere(document, verdict, found) {
   const { number } = found;
-  if (number < FIRST_OF_CIRCUITS || number > LAST_OF_SLOTS) return false;
+  const ofCircuits = NUMBERS_OF_CIRCUITS.includes(number);
+  if (!ofCircuits && !NUMBERS_OF_SLOTS.includes(number)) return false;
   const parts = partsOf(document.words);
   const count = parts.circuits.length;
-  if (number <= LAST_OF_CIRCUITS) {
+  if (ofCircuits) {
     const without = (gone) => withCircuits(parts, parts.circuits.filter((circuit) => circuit.number !== gone.number), count);
     return found.circuits.some((circuit) => verdict(wordsOfSome(without(circuit), count)) === number);
   }

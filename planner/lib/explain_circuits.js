@@ -3,6 +3,7 @@ import { placeOfWord } from './document.js';
 import { DESTINATION, READ_OFFSET, RECEIVE_OFFSET, REGION_NAMES, SOURCE, freeReceiveOffsets, recordIn } from './explain_regions.js';
 import { HARMLESS_RECORD } from './limits.js';
 import { capital, circuitName, circuitWithRow, counted, valueAt } from './naming.js';
+import { keepsRules1To11 } from './served.js';
 import { CIRCUIT_WORDS, HEAD_WORDS, compareCircuits } from './sheet.js';
 import { NEW_NUMBERS, isSortedByTool, put, tried } from './trials.js';
 
@@ -82,8 +83,8 @@ function regionHelp(context, circuit, at, offset, length) {
     else change(at + 1, memory - offset, 'the largest length at this offset');
   }
   if (length > 0 && length <= memory) change(at, memory - length, 'the largest offset for this length');
-  const passes = changes.some((trial) => trial.number === 0);
-  return at === RECEIVE_OFFSET && length > 0 && !passes ? [...changes, ...freeReceiveOffsets(context, circuit)] : changes;
+  const fits = changes.some((trial) => keepsRules1To11(trial.number));
+  return at === RECEIVE_OFFSET && length > 0 && !fits ? [...changes, ...freeReceiveOffsets(context, circuit)] : changes;
 }
 
 // Number 5: two circuits that are out of order, or equal in what orders them.

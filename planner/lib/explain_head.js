@@ -2,6 +2,7 @@
 import { placeOfWord } from './document.js';
 import { HEAD_LIMITS } from './limits.js';
 import { capital, circuitName, counted, limitsText, modeName, valueAt } from './naming.js';
+import { keepsRules1To11 } from './served.js';
 import { CIRCUIT_WORDS, ENTRY_WORDS, MOST_ENTRIES, divide } from './sheet.js';
 import { headFaults } from './shrink.js';
 import { nearest, tried } from './trials.js';
@@ -58,7 +59,7 @@ function headHelp({ document, verdict }, faults) {
   for (const at of sizes) choices = choices.flatMap((choice) => headValues(document, at).map((word) => [...choice, { at, word }]));
   const text = (choice) => choice.map(({ at, word }) => `put ${word} into ${placeOfWord(document, at)} (${HEAD_NAMES[at]})`).join(' and ');
   const trials = choices.map((choice) => tried(document, capital(text(choice)), { put: choice }, verdict));
-  return [trials.find((trial) => trial.number === 0) ?? trials[0]];
+  return [trials.find((trial) => keepsRules1To11(trial.number)) ?? trials[0]];
 }
 
 // Values to try: for the memory the least that holds every region, else what is in range.

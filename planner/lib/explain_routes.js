@@ -3,6 +3,7 @@ import { placeOfWord } from './document.js';
 import { LENGTH_LIMITS, PERIOD_LIMITS } from './limits.js';
 import { capital, counted, slotName, typedAt, valueAt } from './naming.js';
 import { LETTERS, SIDES, distance, routeOfLetters, shortestRoutes, walk } from './route.js';
+import { keepsRules1To11 } from './served.js';
 import { partsOf } from './sheet.js';
 import { freeSlotOffsets } from './free_offsets.js';
 import { bestTrial, entryAt, put, tried } from './trials.js';
@@ -116,7 +117,7 @@ function endHelp(context, entry) {
   const offsets = search(offsetAt, 0, -1).map(change(entry.at + OFFSET, 'the last offset at which this slot ends in time'));
   return [
     ...offsets,
-    ...(offsets.some((trial) => trial.number === 0) ? [] : freeSlotOffsets(context, entry)),
+    ...(offsets.some((trial) => keepsRules1To11(trial.number)) ? [] : freeSlotOffsets(context, entry)),
     ...search(offsetAt + LENGTH, LENGTH_LIMITS[0], -1).map(change(entry.at + LENGTH, 'the greatest length at this offset')),
     ...search(periodAt, PERIOD_LIMITS[1], 1).map(change(found.schedules[0].at, 'the least period for this slot')),
   ];

@@ -2,8 +2,8 @@
 import { cut } from './document.js';
 import { landingLine, landingsOf } from './listing.js';
 import { readPaper, verdictText } from './paper.js';
+import { SHEET_NUMBERS } from './rules.js';
 
-const FIRST_CALL_NUMBER = 12;
 const MOST_SHOWN = 80;
 const MOST_NAME_SHOWN = 255;
 // So many surplus lines are listed; further ones are counted.
@@ -38,10 +38,10 @@ function surplus(key, line, note) {
   return { mark: 'surplus', sheet: key?.name ?? null, text: line.text, key: null, at: line.at, note };
 }
 
-// The verdict, and beside it a refused call where the key has one. With a listing, a number from 12 on answers a call, a lower one the
-// verdict; and the listing of a refused sheet is the line of its verdict, which may so stand twice.
+// The verdict, and beside it a refused call where the key has one. With a listing, a number by which sheets are refused answers the verdict,
+// any other a call; and the listing of a refused sheet is the line of its verdict, which may so stand twice.
 function markVerdicts(key, lines, withListing) {
-  const isCall = (line) => withListing && line.number >= FIRST_CALL_NUMBER;
+  const isCall = (line) => withListing && line.number !== 0 && !SHEET_NUMBERS.includes(line.number);
   const textOf = (line) => verdictText(line.number);
   const [verdicts, ofCalls] = [lines.filter((line) => !isCall(line)), lines.filter(isCall)];
   const free = withListing && key.verdict !== 0 ? 1 : 0;

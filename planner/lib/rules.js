@@ -1,4 +1,4 @@
-// The numbers of a refusal, 1 to 20, in a planner's words; and why a call of a run was refused.
+// The numbers of a refusal, 1 to 20 and 26, in a planner's words; and why a call of a run was refused.
 import { cellName } from './cells.js';
 import { ROWS } from './calls.js';
 import { capital, circuitName, counted, modeName } from './naming.js';
@@ -8,74 +8,80 @@ import { partsOf } from './sheet.js';
 const rule = (title, text) => ({ title, text });
 
 // RULES[number] is the rule of that number.
-export const RULES = [
-  null,
-  rule(
+export const RULES = {
+  1: rule(
     'The head of the sheet is not whole',
     'A sheet begins with five words: columns, rows, memory words of a node, number of circuits, number of schedules. No words at all are an idle network.',
   ),
-  rule(
+  2: rule(
     'A number of the head is out of range',
     'Columns and rows are 2 to 4 each, the memory of a node 1 to 16,384 words; there are 0 to 64 circuits and 1 to 8 modes.',
   ),
-  rule(
+  3: rule(
     'The words do not divide into circuits and modes',
     'The sheet ends too early, has words left over, or states more than 256 slots for a mode.',
   ),
-  rule(
+  4: rule(
     'A circuit does not fit the network',
     'Source and destination are two nodes of the grid; the read and the receive region have at least one word and end within the memory.',
   ),
-  rule(
+  5: rule(
     'Two circuits are out of order or the same',
     'Circuits stand in the order of their destinations and, at one destination, of their receive offsets; no two have both the same.',
   ),
-  rule(
+  6: rule(
     'Two regions share words of a memory',
     'What a circuit receives must not lie where another circuit receives or reads: each receive region has its addresses to itself.',
   ),
-  rule(
+  7: rule(
     'A period or a slot has a number out of range',
     'A period is 9 to 1,024 cycles, an offset lies within it, a length is 2 to 16 words with the header, and a route is at most 65,535.',
   ),
-  rule(
+  8: rule(
     'Two slots are out of order or the same',
     'The slots of a mode stand in the order of their offsets and, at one offset, of their circuits; no two have both the same.',
   ),
-  rule(
+  9: rule(
     'A route does not lead to the destination by a shortest way',
     "A slot's route leads from its circuit's source to its destination in the fewest hops, and has no bits left behind its end.",
   ),
-  rule(
+  10: rule(
     'A slot ends too late for the next period',
     'Offset + length - 1 + 3 x hops is at most the period + 2, so that no packet meets those of the next period, whatever its mode.',
   ),
-  rule(
+  11: rule(
     'Two slots use one wire in one cycle',
     'Each wire carries one word in a cycle: slots of one mode must not be on the same wire at the same time.',
   ),
-  rule('The state of the run is too short', 'The words lent for the state of the network are fewer than the calls need.'),
-  rule('The state of the run is not sound', 'The words lent for the state of the network are not those that a run leaves.'),
-  rule('The memory has the wrong size', 'The memory has to have columns x rows x memory words of a node.'),
-  rule(
+  12: rule('The state of the run is too short', 'The words lent for the state of the network are fewer than the calls need.'),
+  13: rule('The state of the run is not sound', 'The words lent for the state of the network are not those that a run leaves.'),
+  14: rule('The memory has the wrong size', 'The memory has to have columns x rows x memory words of a node.'),
+  15: rule(
     'Something that is named does not exist',
     'There is no such circuit, node, address, mode or kind; a transfer sends data or an interrupt.',
   ),
-  rule(
+  16: rule(
     'A transfer does not fit its circuit',
     'A transfer has at least one word, an interrupt exactly one; all are read in the read region and written in the receive region.',
   ),
-  rule('The circuit is still sending', 'A transfer can start when no words of the one before are left.'),
-  rule('A switch is ordered already', 'One order can be pending; the next can be given when its period has begun.'),
-  rule(
+  17: rule('The circuit is still sending', 'A transfer can start when no words of the one before are left.'),
+  18: rule('A switch is ordered already', 'One order can be pending; the next can be given when its period has begun.'),
+  19: rule(
     'A switch is ordered for a period that is too near or past',
     'A switch is ordered for a period at least three after the present one, and less than 2,147,483,648 after it.',
   ),
-  rule(
+  20: rule(
     'Words meet on a wire, or a word is lost',
     'Two words want one wire, a word has no header, or a word would land beyond the memory; a run of a sheet that passes never gets there.',
   ),
-];
+  26: rule(
+    'A circuit has no slot',
+    'Every circuit has a slot in at least one mode: what a circuit without any sends would never leave.',
+  ),
+};
+
+// The numbers by which a sheet is refused, in checking order; the others are those of calls.
+export const SHEET_NUMBERS = [1, 2, 3, 4, 5, 6, 7, 8, 9, 10, 11, 26];
 
 // The columns of the cells of a row, as plan.js reads them.
 const START = { circuit: 3, read: 4, write: 5, count: 6, kind: 7 };

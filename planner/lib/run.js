@@ -1,6 +1,7 @@
 // A run of a sheet by the proved calls: the load, the memory rows as stores, then cycle after cycle, each behind the acts of its rows.
 // What is on a wire and what landed is read from the session; nothing is stepped here.
 import { ROWS } from './calls.js';
+import { unservedCircuits } from './served.js';
 import { partsOf, wordsOf } from './sheet.js';
 
 export const MARKS = ['empty', 'header', 'payload', 'last payload'];
@@ -33,6 +34,20 @@ function argumentsOf(act, document) {
 export function sheetOfMode(words, mode) {
   const parts = partsOf(words);
   return wordsOf({ ...parts, schedules: [parts.schedules[mode]] });
+}
+
+// The words of a sheet that begins in a schedule of another, for a run without orders: that schedule stands first. Of the others it keeps
+// the first entry of each circuit that has none before, since without any the load would be refused (number 26).
+export function sheetBeginningIn(words, mode) {
+  const parts = partsOf(words);
+  const others = parts.schedules.filter((_, number) => number !== mode);
+  const schedules = [parts.schedules[mode]];
+  for (const schedule of others) {
+    const missing = new Set(unservedCircuits({ ...parts, schedules }).map(({ number }) => number));
+    const entries = schedule.entries.filter(({ words: [, , circuit] }) => missing.delete(circuit));
+    if (entries.length > 0) schedules.push({ ...schedule, entries });
+  }
+  return wordsOf({ ...parts, schedules });
 }
 
 // For pictures: what the nodes hold when every circuit sends all the time, words that tell circuit and place apart.

@@ -1,5 +1,6 @@
 // The smallest part of a refused sheet that is still refused by the same number: schedules, entries and circuits are dropped as long as
 // the proved checker gives that number.
+import { UNSERVED_NUMBER } from './served.js';
 import { BLANK_SHEET, partsOf, wordsOf } from './sheet.js';
 
 const HEAD_NUMBER = 2;
@@ -13,7 +14,8 @@ export function shrink(words, verdict) {
   if (number === HEAD_NUMBER) return { ...found, left: withHeadWord(words, headFaults(words, verdict)[0]) };
   if (number < FIRST_DIVIDED_NUMBER) return found;
   const whole = partsOf(words);
-  const parts = smallest(whole, (some) => verdict(wordsOfSome(some, whole.circuits.length)) === number);
+  const stays = (some) => verdict(wordsOfSome(some, whole.circuits.length)) === number;
+  const parts = number === UNSERVED_NUMBER ? firstUnserved(whole, stays) : smallest(whole, stays);
   return {
     number,
     left: wordsOfSome(parts, whole.circuits.length),
@@ -35,7 +37,16 @@ export function headFaults(words, verdict) {
   return [0, 1, 2, 3, 4].filter((at) => verdict(withHeadWord(words, at)) === HEAD_NUMBER);
 }
 
-// Drops what can be dropped. Fewer parts have no faults that more parts lack, so what has to stay once has to stay for good.
+// The first circuit that is refused alone with its own slots: it has none, and is left in the first schedule. Number 26 is not found by
+// dropping, since without a slot another circuit may have none.
+function firstUnserved(whole, stays) {
+  const alone = (circuit) => withCircuits(whole, [circuit], whole.circuits.length);
+  const parts = alone(whole.circuits.find((circuit) => stays(alone(circuit))));
+  return { ...parts, schedules: parts.schedules.slice(0, 1) };
+}
+
+// Drops what can be dropped. Fewer parts have no faults of the numbers up to 11 that more parts lack, so what has to stay once has to stay
+// for good.
 function smallest(whole, stays) {
   let parts = droppedFrom(whole.schedules, whole, (schedules) => ({ ...whole, schedules }), stays);
   for (const { number, entries } of parts.schedules) {

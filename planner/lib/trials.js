@@ -1,5 +1,7 @@
 // Changes of a sheet that may help, each tried with the proved checker on the whole sheet, sorted again where the tool sorts.
+import { keepsRules1To11 } from './served.js';
 import { compareCircuits, partsOf, wordsOf } from './sheet.js';
+import { withCircuits, wordsOfSome } from './shrink.js';
 
 const ORDER_NUMBERS = [5, 8];
 const MOST_TRIALS = 24;
@@ -7,15 +9,20 @@ const MOST_TRIALS = 24;
 export const NEW_NUMBERS = "with the circuits' new numbers";
 const CIRCUIT_WORD = 2;
 
-// The words of a changed sheet. A change puts words at places (`put`), takes entries out by the place of their first word (`drop`), keeps
-// the sheet's first words only (`length`), or puts circuits and entries in order (`sort`).
-export function changedWords(words, { put = [], drop = [], length = words.length, sort = false }) {
+// The words of a changed sheet. A change puts words at places (`put`), takes circuits and entries out by the place of their first word
+// (`drop`), puts entries into schedules, where they get the number that is told (`add`), keeps the sheet's first words only (`length`), or
+// puts circuits and entries in order (`sort`).
+export function changedWords(words, { put = [], drop = [], add = [], length = words.length, sort = false }) {
   const changed = words.slice(0, length);
   for (const { at, word } of put) changed[at] = word;
-  const parts = drop.length > 0 || sort ? partsOf(changed) : null;
-  if (!parts) return changed;
-  for (const schedule of parts.schedules) schedule.entries = schedule.entries.filter((entry) => !drop.includes(entry.at));
-  return wordsOf(sort ? sorted(parts) : parts);
+  const whole = drop.length > 0 || add.length > 0 || sort ? partsOf(changed) : null;
+  if (!whole) return changed;
+  const stays = ({ at }) => !drop.includes(at);
+  const count = whole.circuits.length;
+  const parts = withCircuits(whole, whole.circuits.filter(stays), count);
+  for (const schedule of parts.schedules) schedule.entries = schedule.entries.filter(stays);
+  for (const { schedule, number, words: entry } of add) parts.schedules[schedule].entries.splice(number, 0, { words: entry });
+  return sort ? wordsOf(sorted(parts)) : wordsOfSome(parts, count);
 }
 
 // Parts in the order that the rules want, entries with the new numbers of their circuits.
@@ -53,10 +60,11 @@ function triedAs(document, text, change, verdict) {
   return { text, number: verdict(changedWords(document.words, change)), change };
 }
 
-// The best of some changes, of which the first few are tried: one after which the sheet passes, else one with another number than now.
+// The best of some changes, of which the first few are tried: one after which the sheet keeps the rules 1 to 11, else one with another
+// number than now. Whether every circuit has a slot does not depend on which of them is taken, so 26 is no reason to look further.
 export function bestTrial(document, number, changes, verdict) {
   const isMoved = (trial) => trial.change.sort && !isSortedByTool(document);
-  const rank = (trial) => (trial.number === 0 ? 0 : trial.number === number ? 4 : 2) + (isMoved(trial) ? 1 : 0);
+  const rank = (trial) => (keepsRules1To11(trial.number) ? 0 : trial.number === number ? 4 : 2) + (isMoved(trial) ? 1 : 0);
   let best = null;
   for (const { text, change } of changes.slice(0, MOST_TRIALS)) {
     const trial = tried(document, text, change, verdict);

@@ -1,5 +1,5 @@
 // What is said of the open plan: unreadable cells, the verdict and its explanation, and the cells to be marked.
-import { documentOfRows, documentOfWords } from '../lib/document.js';
+import { cellOfMark, documentOfRows, documentOfWords } from '../lib/document.js';
 import { explain } from '../lib/explain.js';
 
 // The document of the open plan's rows. Lines of a file of words are rows of one word a cell.
@@ -26,9 +26,9 @@ export function judge(opened, verdict) {
   const number = verdict(opened.words);
   if (number === 0) return { answer: 'passes', number, marks: [] };
   const explanation = explain(opened, verdict);
-  const marks = explanation.marks.flatMap(({ at, text }) => {
-    const place = opened.places[Math.min(at, opened.places.length - 1)];
-    return place ? [{ ...place, text }] : [];
+  const marks = explanation.marks.flatMap((mark) => {
+    const place = cellOfMark(opened, mark);
+    return place ? [{ ...place, text: mark.text }] : [];
   });
   return { answer: 'refused', number, explanation, marks };
 }

@@ -1,7 +1,7 @@
 // The network cycle by cycle: frames of a run, recorded as they are asked for, so that one can step back; play, pause, step, speed.
 import { gridPicture } from '../lib/grid_picture.js';
 import { svgFile } from '../lib/markup.js';
-import { callsOfPlan, openRun, sheetOfMode } from '../lib/run.js';
+import { callsOfPlan, openRun, sheetBeginningIn, sheetOfMode } from '../lib/run.js';
 import { byId, choices, download, fill } from './dom.js';
 
 const MOST_FRAMES = 20000;
@@ -20,9 +20,8 @@ function openTraffic(calls, opened) {
   const chosen = byId('traffic').value;
   if (chosen === ROWS) return { run: openRun(calls, opened.words, callsOfPlan(opened)), shown: opened };
   const mode = opened.modeNames.indexOf(chosen);
-  const words = sheetOfMode(opened.words, mode);
-  const run = openRun(calls, words, { ...callsOfPlan(opened), acts: [], sending: true });
-  return { run, shown: { ...opened, words, modeNames: [opened.modeNames[mode]] } };
+  const run = openRun(calls, sheetBeginningIn(opened.words, mode), { ...callsOfPlan(opened), acts: [], sending: true });
+  return { run, shown: { ...opened, words: sheetOfMode(opened.words, mode), modeNames: [opened.modeNames[mode]] } };
 }
 
 export function makePlayer(calls, refusedText) {

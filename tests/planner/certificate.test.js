@@ -39,7 +39,8 @@ test('a passing sheet: verdict, hashes, circuits, isolation, statements', () => 
   words.forEach((word, at) => little.writeUInt32LE(word, at * 4));
   assert.deepEqual([...wordBytes(words)], [...little]);
   const wanted = [
-    'The sheet passes', hashed(bytesOf('cable-car.csv')), hashed(little), about().version, about().kit, escaped(PREMISE),
+    'The sheet passes: it keeps the rules 1 to 11 and 26.',
+    hashed(bytesOf('cable-car.csv')), hashed(little), about().version, about().kit, escaped(PREMISE),
     '<td>brake</td><td>0</td><td>3</td><td>2</td><td>9 cycles</td><td>evacuation</td><td>12</td><td>4+5</td><td>4</td><td>0.3333</td>',
     '<td>speed</td><td>normal</td><td>high wind</td><td>undisturbed</td>',
     'sha256sum cable-car.csv', './calqetum certificate cable-car.csv -o again.html',
@@ -51,12 +52,16 @@ test('a passing sheet: verdict, hashes, circuits, isolation, statements', () => 
 });
 
 test('a refused sheet gets a certificate of refusal, with its explanation and without claims of isolation', () => {
-  for (const name of ['cable-car-late.csv', 'cable-car-clash.csv', 'f.sheet', 'g.sheet']) {
-    const text = fileOf(name);
-    const document = readFile(name, bytesOf(name));
+  // The cable car's plan, without the slots of its brake.
+  const unserved = Buffer.from(bytesOf('cable-car.csv').toString().replace(/^slot;.*;brake;.*$/gm, '#'));
+  const files = ['cable-car-late.csv', 'cable-car-clash.csv', 'f.sheet', 'g.sheet'].map((name) => [name, bytesOf(name)]);
+  for (const [name, bytes] of [...files, ['unserved.csv', unserved]]) {
+    const text = fileOf(name, bytes);
+    const document = readFile(name, bytes);
     const { number, title, lines } = explain(document, calls.verdict);
     const wanted = ['Certificate of refusal', `refused with number ${number}: ${escaped(title)}`, ...lines.map(escaped)];
     for (const part of wanted) assert.ok(text.includes(part), part);
+    assert.equal(number === 26, name === 'unserved.csv');
     assert.ok(text.includes('argo_verdict') && !/demand ?3/i.test(text) && !text.includes('undisturbed'));
   }
 });
@@ -66,7 +71,7 @@ test('no words are certified as the idle network that they stand for', () => {
   for (const part of ['The sheet passes', 'no words, which stand for an idle network', 'The sheet has no circuits', '2 2 1 0 1\n9 0']) {
     assert.ok(text.includes(part), part);
   }
-  assert.ok(text.includes(hashed('', 'hex')) && text.includes('<code>sheetNumber</code>'));
+  assert.ok(text.includes(hashed('', 'hex')) && text.includes('<code>checkNumber</code>'));
 });
 
 test('an exam says so, and how to check it again', () => {
@@ -119,6 +124,10 @@ test('every statement is in the file that is named, and the tests are there', ()
   }
   const named = STATEMENTS.map(([name, file]) => `${name} ${file}`);
   assert.ok(named.includes('demand3 crates/isolation/proofs/DemandProved.antt') && named.includes('argo_verdict crates/exports/src/lib.rt'));
+  // What judged the sheet is the number that the contract of the call cites, and number 26 is a rule of its own.
+  for (const name of ['checkNumber', 'rule26']) assert.ok(named.includes(`${name} crates/sheet/specs/Rules.antt`), name);
+  const contract = /fn argo_verdict\b[^{]*\{([^}]*)\}/.exec(readFileSync(new URL('crates/exports/src/lib.rt', root), 'utf8'))[1];
+  assert.match(contract, /\bcheckNumber\b/);
   const files = NOT_PROVED.flatMap((text) => text.match(/tests\/planner\/[\w.]+\.js/g) ?? []);
   assert.ok(files.length > 0);
   for (const file of files) assert.ok(existsSync(new URL(file, root)), file);

@@ -10,9 +10,12 @@ test('check: one file, several, an exam', () => {
   gives(['check', example('cable-car-late.csv')], 1, 'refused 10\n', /number 10: A slot ends too late.*\n.*brake.*\n.*D15/);
   const names = [example('key.csv'), example('cable-car-clash.csv'), example('a.sheet')];
   gives(['check', ...names], 1, `${names[0]}: passes\n${names[1]}: refused 11\n${names[2]}: passes\n`, /number 11/);
-  const unsorted = written('unsorted.csv', 'network;2;2;8\ncircuit;b;0;3;0;2;0;2\ncircuit;a;0;1;0;2;0;2\nmode;m;9\n');
+  const circuits = 'network;2;2;8\ncircuit;b;0;3;0;2;0;2\ncircuit;a;0;1;0;2;0;2\nmode;m;12\n';
+  const unsorted = written('unsorted.csv', `${circuits}slot;m;b;0;2;ES\nslot;m;a;2;2;E\n`);
   gives(['check', unsorted], 0, 'passes\n');
   gives(['--exam', 'check', unsorted], 1, 'refused 5\n', /number 5/);
+  const why = /number 26: A circuit has no slot\.\n.*Circuit a \(B3\) has no slot/;
+  gives(['check', written('unserved.csv', circuits)], 1, 'refused 26\n', why);
 });
 
 test('check: a file that cannot be read does not keep the others from being judged', () => {
@@ -63,6 +66,8 @@ test('explain', () => {
   assert.deepEqual([found.answer, found.number], ['refused', 11]);
   assert.deepEqual(found.cells.map(({ cell }) => /^[A-F]1[34]$/.test(cell)).includes(true), true);
   assert.ok(found.help.length > 0 && found.help.every((one) => Object.keys(one).join() === 'text,number'));
+  const unserved = json(['explain', written('unserved.csv', text('cable-car.csv').replace(/^slot;.*;brake;.*$/gm, '#'))], 1);
+  assert.deepEqual([unserved.number, unserved.cells], [26, [{ cell: 'B6', text: 'no mode has a slot row for this circuit' }]]);
 });
 
 test('modes: all circuits, one circuit, one that is not there, a refused sheet', () => {
@@ -128,12 +133,20 @@ test('draw: slots of one mode and of all, the grid still and moving', () => {
   assert.ok(still.includes('cycle 50 (cycle 2 of period 4, mode high wind)') && !still.includes('<animate'));
   const sending = gives(['draw', example('a.sheet'), '--grid', '--cycle', '7', '-o', '-'], 0, /^<\?xml/).stdout;
   assert.ok(sending.includes('schedule 0') && sending.includes('100'));
+  // A mode is drawn alone also where it has no slot for some circuit.
+  for (const [mode, cycle, word] of [['normal', '9', 200], ['evacuation', '8', 300]]) {
+    const alone = gives(['draw', example('cable-car.csv'), '--grid', '--mode', mode, '--cycle', cycle, '-o', '-'], 0, /^<\?xml/).stdout;
+    assert.ok(alone.includes(`mode ${mode})`) && alone.includes(`>${word}<`));
+  }
 });
 
 test('draw: a refused sheet, and what cannot be drawn', () => {
   gives(['draw', example('cable-car-clash.csv'), '-o', '-'], 1, /slots-1-shared/, /number 11/);
   const onlyPassing = /nothing is drawn: words move only on a sheet that passes/;
   gives(['draw', example('cable-car-clash.csv'), '--grid', '-o', 'no.svg'], 1, '', onlyPassing);
+  const begun = written('begun.csv', 'network;2;2;8\ncircuit;a;0;1;0;2;0;2\nmode;m;9\n');
+  gives(['draw', begun, '-o', '-'], 1, /This mode has no slots/, /number 26/);
+  gives(['draw', begun, '--grid', '-o', 'no.svg'], 1, '', onlyPassing);
   gives(['draw', example('g.sheet'), '-o', 'no.svg'], 1, '', /nothing is drawn: its words do not divide/);
   assert.throws(() => readFileSync(path('no.svg')));
   const plan = written('plan.csv', text('key.csv'));

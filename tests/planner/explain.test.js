@@ -2,17 +2,15 @@
 import assert from 'node:assert/strict';
 import test from 'node:test';
 import { openProved } from '../../planner/command/proved.js';
-import { documentOfRows, documentOfWords, placeOfWord } from '../../planner/lib/document.js';
+import { cellOfMark, documentOfRows, documentOfWords, placeOfMark } from '../../planner/lib/document.js';
 import { explain } from '../../planner/lib/explain.js';
-import { lettersOfRoute } from '../../planner/lib/route.js';
-import { RULES } from '../../planner/lib/rules.js';
+import { RULES, SHEET_NUMBERS } from '../../planner/lib/rules.js';
+import { ELSEWHERE, UNSERVED, holdHelp, holdPart, passesWithHelp } from './explanation_checks.js';
 import { nearMisses } from './near_misses.js';
 import { passingSheet } from './passing_sheets.js';
 import { random } from './random.js';
-import { carriedOut, fewerByOne } from './sheet_tools.js';
 import { leastMilliseconds } from './time.js';
 
-const ELSEWHERE = 'This is not the only place: other cells break this rule as well.';
 const NEAR_MISSES = 200;
 const SHEETS = 60;
 const { verdict } = await openProved();
@@ -21,35 +19,13 @@ const sheets = Array.from({ length: SHEETS }, () => passingSheet(source, verdict
 
 const key = ({ row, column }) => `${row} ${column}`;
 
-// The words left, taken from the sheet by the places that the explanation gives.
-function takenFrom(words, { circuits, schedules, entries }) {
-  const taken = [...words.slice(0, 3), circuits.length, schedules.length, ...circuits.flatMap(({ at }) => words.slice(at, at + 6))];
-  const numbers = circuits.map(({ number }) => number);
-  for (const { number, at } of schedules) {
-    const own = entries.filter((entry) => entry.schedule === number);
-    taken.push(words[at], own.length);
-    for (const entry of own) {
-      const [offset, length, circuit, route] = words.slice(entry.at, entry.at + 4);
-      taken.push(offset, length, numbers.includes(circuit) ? numbers.indexOf(circuit) : circuit, route);
-    }
-  }
-  return taken;
-}
-
-function holdPart(document, found) {
-  assert.equal(verdict(found.left), found.number);
-  if (found.number < 4) return;
-  assert.deepEqual(found.left, takenFrom(document.words, found));
-  for (const fewer of fewerByOne(found.left)) assert.notEqual(verdict(fewer), found.number, 'a part could still be dropped');
-}
-
 function holdMarks(document, found, planted) {
-  const marked = new Set(found.marks.map(({ at }) => key(document.places[at])));
+  const marked = new Set(found.marks.map((mark) => key(cellOfMark(document, mark))));
   for (const place of planted) assert.ok(marked.has(key(place)), `row ${place.row}, column ${place.column} is not marked`);
   assert.ok(found.marks.every(({ text }) => text.length > 0 && text.length < 60), 'a mark has a short text');
   // Where one row is at fault, no other is marked.
   const rows = new Set(planted.map(({ row }) => row));
-  if (document.kind === 'plan' && [4, 7, 9].includes(found.number)) {
+  if (document.kind === 'plan' && [4, 7, 9, UNSERVED].includes(found.number)) {
     assert.ok(found.marks.every(({ at }) => rows.has(document.places[at].row)), 'a mark stands in another row');
   }
 }
@@ -59,29 +35,15 @@ function holdLines(document, found) {
   assert.ok(found.lines.length > 0);
   for (const line of found.lines) assert.match(line, /^[A-Z].*\.$/);
   assert.ok(!/undefined|null|NaN|\[object/.test(found.lines.join(' ')), found.lines.join(' '));
-  const cells = found.marks.map(({ at }) => placeOfWord(document, at));
+  const cells = found.marks.map((mark) => placeOfMark(document, mark));
+  const isNamed = (cell) => found.lines.some((line) => line.includes(`(${cell})`));
   if (found.number > 3) assert.ok(cells.some((cell) => found.lines.some((line) => line.includes(cell))), 'no cell is named');
+  if (found.number === UNSERVED) assert.ok(cells.length === 1 && isNamed(cells[0]), "the circuit's cell is not named");
   // Each near miss has one fault; where that is a cell of one row, no other cell breaks the rule.
-  if ([4, 7, 9].includes(found.number)) assert.ok(!found.lines.includes(ELSEWHERE));
+  if ([4, 7, 9, UNSERVED].includes(found.number)) assert.ok(!found.lines.includes(ELSEWHERE));
 }
 
-function holdHelp(document, found) {
-  for (const { text, number, change } of found.help) {
-    const words = carriedOut(document, change);
-    assert.equal(verdict(words), number, text);
-    for (const { at, word } of change.put ?? []) {
-      const cell = placeOfWord(document, at);
-      const letters = lettersOfRoute(word);
-      const typed = [word, letters, `${word} (${letters})`];
-      assert.ok(typed.some((value) => new RegExp(`[Pp]ut ${value}`.replace(/[()]/g, '\\$&') + ` into ${cell}\\b`).test(text)), text);
-    }
-  }
-}
-
-// Numbers and faults for which the sheet as it was before the fault is always among what is tried.
-const passesWithHelp = ({ what }, number) => [6, 9, 11].includes(number) || (number === 10 && what === 'offset');
-
-for (let number = 1; number <= 11; number++) {
+for (const number of SHEET_NUMBERS) {
   test(`near misses of number ${number}`, () => {
     const near = nearMisses(source, verdict, number, NEAR_MISSES, sheets);
     for (const one of near) {
@@ -127,6 +89,7 @@ function largestRows() {
   return rows;
 }
 
+const withoutSlots = (rows, isGone) => rows.splice(0, rows.length, ...rows.filter((cells) => cells[0] !== 'slot' || !isGone(cells)));
 const everySlot = (rows, change) => rows.filter((cells) => cells[0] === 'slot').forEach(change);
 
 // Changes of the largest sheet's rows: one slot, or every slot, so that there are thousands of faults.
@@ -137,6 +100,11 @@ const LARGE_FAULTS = [
   [10, 'every offset', (rows) => everySlot(rows, (cells) => (cells[3] = String(1023 - Number(cells[3]) / 10)))],
   [11, 'one offset', (rows) => (rows[rows.length - 1][3] = '141')],
   [11, 'every offset', (rows) => everySlot(rows, (cells) => (cells[3] = String(Number(cells[3]) / 10)))],
+  [UNSERVED, 'one circuit', (rows) => withoutSlots(rows, (cells) => cells[2] === 'c63')],
+  // Every mode keeps its 256 slots, so that none can be added.
+  [UNSERVED, 'one circuit, no room', (rows) => everySlot(rows, (cells) => (cells[2] = cells[2] === 'c63' ? 'c62' : cells[2]))],
+  [UNSERVED, 'every second circuit', (rows) => withoutSlots(rows, (cells) => Number(cells[2].slice(1)) % 2 === 1)],
+  [UNSERVED, 'every circuit', (rows) => withoutSlots(rows, () => true)],
 ];
 
 test('the largest sheet passes before a fault is planted', () => {
@@ -156,6 +124,8 @@ for (const [number, what, plant] of LARGE_FAULTS) {
       holdPart(document, found);
       holdHelp(document, found);
       assert.equal(found.lines.includes(ELSEWHERE), what.startsWith('every'));
+      if (number === UNSERVED) assert.ok(found.help.some((help) => help.number === 0), 'nothing helps');
+      assert.equal(/no (mode|schedule) has room for one/.test(found.lines.join(' ')), what.endsWith('no room'));
     }
   });
 }
@@ -174,7 +144,7 @@ test('a fault in two places is said to be in more than one', () => {
 
 test('sheets with several faults', () => {
   const odd = [0, 1, 2, 5, 9, 17, 257, 1025, 16385, 65536, 4294967290, 4294967295];
-  for (let number = 1; number <= 11; number++) {
+  for (const number of SHEET_NUMBERS) {
     for (const { document } of nearMisses(source, verdict, number, 40, sheets)) {
       const words = [...document.words];
       for (let turn = source.between(1, 4); turn > 0 && words.length > 0; turn--) words[source.below(words.length)] = source.choose(odd);

@@ -32,7 +32,7 @@ for (const [line, ...expected] of cases) {
 
 test('there is a case for each number', () => {
   const numbers = new Set(cases.map(([, refused]) => Number(/^refused by (\d+)$/.exec(refused)[1])));
-  assert.deepEqual([...numbers].sort((a, b) => a - b), [1, 2, 3, 4, 5, 6, 7, 8, 9, 10, 11]);
+  assert.deepEqual([...numbers].sort((a, b) => a - b), [1, 2, 3, 4, 5, 6, 7, 8, 9, 10, 11, 26]);
 });
 
 test('the plan that the cases change passes', () => assert.equal(explain(plan({}), verdict), null));

@@ -11,7 +11,7 @@ const calls = await openProved();
 const example = (name) => readFileSync(new URL(`../../examples/${name}`, import.meta.url), 'utf8');
 const cableCar = example('cable-car.csv');
 
-// A plan that passes: two circuits with room for all slots that are asked for.
+// A plan that passes: two circuits, each with a slot in some mode and with room for all slots that are asked for.
 function plan({ grid = '2;2', memory = 40, circuits = ['circuit;a;0;1;0;20;0;20', 'circuit;b;2;3;0;20;0;20'], modes }) {
   const rows = [`network;${grid};${memory}`, ...circuits];
   for (const [name, period, ...slots] of modes) {
@@ -78,7 +78,8 @@ test('each answer, and each reason for a difference', () => {
 test('many slots are told by the first that differs', () => {
   const slots = (lengths) => lengths.map((length, at) => `a;${4 * at};${length};E`);
   const lengths = { p: [2, 2, 2, 2, 2, 2, 2], q: [2, 2, 2, 3, 2, 2, 2, 2], r: [2, 2, 2, 2, 2, 2, 2, 2] };
-  const document = plan({ modes: Object.entries(lengths).map(([name, own]) => [name, 60, ...slots(own)]) });
+  const circuits = ['circuit;a;0;1;0;20;0;20'];
+  const document = plan({ circuits, modes: Object.entries(lengths).map(([name, own]) => [name, 60, ...slots(own)]) });
   const [one, two] = pairsOf(document, 'a');
   assert.equal(answerText(one), 'differs: slots part at the 4th: 12+2 and 12+3 (7 slots and 8)');
   assert.equal(answerText(two), 'differs: slots part at the 8th: none and 28+2 (7 slots and 8)');
@@ -106,25 +107,27 @@ test('comparison: what may differ, and what may not', () => {
   assert.equal(answer(plan({ circuits: ['circuit;a;0;1;1;19;0;20', b], modes })), 'differs: read offset 0 and 1; read length 20 and 19');
   const elsewhere = plan({ circuits: ['circuit;a;3;1;20;20;0;20', b], modes: [['m', 20, 'a;0;2;N', 'b;0;2;E']] });
   assert.equal(answer(elsewhere), 'differs: source 0 and 3; read offset 0 and 20');
-  assert.equal(answer(plan({ modes: [['m', 22, 'a;0;2;E']] })), 'differs: period 20 and 22');
-  assert.equal(answer(plan({ modes: [['m', 20, 'a;1;2;E']] })), 'differs: slots 0+2 and 1+2');
-  assert.equal(answer(plan({ modes: [['m', 20]] })), 'differs: slots 0+2 in the old sheet, silent in the new sheet');
-  assert.match(answer(plan({ modes: [['n', 30]] }), 'a', 'n'), /^silent in both/);
-  const shorter = plan({ circuits: ['circuit;a;0;1;0;20;0;19', b], modes: [['n', 30]] });
+  const rest = ['o', 20, 'a;0;2;E', 'b;0;2;E'];
+  assert.equal(answer(plan({ modes: [['m', 22, 'a;0;2;E'], rest] })), 'differs: period 20 and 22');
+  assert.equal(answer(plan({ modes: [['m', 20, 'a;1;2;E'], rest] })), 'differs: slots 0+2 and 1+2');
+  assert.equal(answer(plan({ modes: [['m', 20], rest] })), 'differs: slots 0+2 in the old sheet, silent in the new sheet');
+  assert.match(answer(plan({ modes: [['n', 30], rest] }), 'a', 'n'), /^silent in both/);
+  const shorter = plan({ circuits: ['circuit;a;0;1;0;20;0;19', b], modes: [['n', 30], rest] });
   assert.equal(answer(shorter, 'a', 'n'), 'differs: receive length 20 and 19');
 });
 
 test('comparison: what is in one sheet alone, and grids that differ', () => {
-  const old = plan({ modes: [['m', 20], ['n', 20]] });
-  const changed = plan({ circuits: ['circuit;b;2;3;0;20;0;20', 'circuit;c;0;1;0;20;0;20'], modes: [['n', 20], ['o', 20]] });
+  const old = plan({ modes: [['m', 20, 'a;0;2;E', 'b;0;2;E'], ['n', 20]] });
+  const circuits = ['circuit;b;2;3;0;20;0;20', 'circuit;c;0;1;0;20;0;20'];
+  const changed = plan({ circuits, modes: [['n', 20, 'b;0;2;E', 'c;0;2;E'], ['o', 20]] });
   const found = compareDocuments(old, changed);
   assert.deepEqual(found.circuits.map(({ name, modes }) => [name, modes.map((mode) => mode.name)]), [['b', ['n']]]);
   assert.deepEqual([found.circuitsInOldAlone, found.circuitsInNewAlone], [['a'], ['c']]);
   assert.deepEqual([found.modesInOldAlone, found.modesInNewAlone], [['m'], ['o']]);
-  const wider = compareDocuments(old, plan({ grid: '3;2', modes: [['m', 20]] }));
+  const wider = compareDocuments(old, plan({ grid: '3;2', modes: [['m', 20, 'a;0;2;E', 'b;0;2;ES']] }));
   assert.deepEqual([wider.comparable, wider.circuits.length], [false, 0]);
   assert.match(wider.reason, /grids differ \(2 by 2 and 3 by 2 nodes\)/);
-  assert.equal(compareDocuments(old, plan({ grid: '2;3', modes: [['m', 20]] })).comparable, false);
+  assert.equal(compareDocuments(old, plan({ grid: '2;3', modes: [['m', 20, 'a;0;2;E', 'b;0;2;E']] })).comparable, false);
 });
 
 test('files of words are matched by records and numbers', () => {

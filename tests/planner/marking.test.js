@@ -6,6 +6,7 @@ import { openProved } from '../../planner/command/proved.js';
 import { documentOfText } from '../../planner/lib/document.js';
 import { landingsOf, listingText } from '../../planner/lib/listing.js';
 import { countsLine, keyOf, markLine, markPaper } from '../../planner/lib/marking.js';
+import { SHEET_NUMBERS } from '../../planner/lib/rules.js';
 import { random } from './random.js';
 import { leastMilliseconds } from './time.js';
 
@@ -55,16 +56,16 @@ test('different answers to one line are wrong, whichever comes first; a repeated
 });
 
 test('a paper that gives every verdict has given none', () => {
-  const verdicts = ['passes', ...Array.from({ length: 11 }, (_, at) => `refused ${at + 1}`)];
+  const verdicts = ['passes', ...SHEET_NUMBERS.map((number) => `refused ${number}`)];
   for (const name of ['key.csv', 'cable-car-late.csv']) {
     for (const cycles of [null, 20]) {
       const one = { ...keyNamed(name, cycles), landings: null };
       const result = markPaper([one], verdicts.join('\n'), cycles !== null);
-      assert.deepEqual(counts(result), [0, 1, 0, 11, 1]);
+      assert.deepEqual(counts(result), [0, 1, 0, 12, 1]);
       const right = name === 'key.csv' ? 'passes' : 'refused 10';
-      assert.equal(linesOf(result)[0], `wrong    passes   (the paper has 12 different answers; the key has ${right})`);
+      assert.equal(linesOf(result)[0], `wrong    passes   (the paper has 13 different answers; the key has ${right})`);
       const named = verdicts.map((verdict) => `${name}: ${verdict}`).join('\n');
-      assert.deepEqual(counts(markPaper([one], named, cycles !== null)), [0, 1, 0, 11, 1]);
+      assert.deepEqual(counts(markPaper([one], named, cycles !== null)), [0, 1, 0, 12, 1]);
     }
   }
 });
@@ -138,6 +139,20 @@ test('a refused key: the listing is the line of the verdict, which may stand twi
   assert.deepEqual(counts(markPaper([late], 'refused 10', true)), [1, 0, 0, 0, 1]);
   assert.deepEqual(counts(markPaper([late], 'refused 10\nrefused 10', true)), [1, 0, 0, 0, 1]);
   assert.deepEqual(counts(markPaper([late], 'refused 10\nrefused 10\nrefused 10\n7 1 0 11 0', true)), [1, 0, 0, 2, 1]);
+});
+
+test('a circuit without a slot: 26 is a verdict, with a listing and without, and no refused call', () => {
+  const text = example('cable-car.csv').replace(/^slot;.*;brake;.*$/gm, '#');
+  for (const cycles of [null, 20]) {
+    const unserved = keyOf(calls, documentOfText('plan.csv', text), 'plan.csv', cycles);
+    assert.deepEqual([unserved.verdict, unserved.refusal, unserved.landings], [26, null, null]);
+    const marked = (paper) => linesOf(markPaper([unserved], paper, cycles !== null));
+    assert.deepEqual(marked('refused 26'), ['right    refused 26']);
+    assert.deepEqual(marked('passes'), ['wrong    passes   (the key has refused 26)']);
+    assert.deepEqual(marked('refused 11'), ['wrong    refused 11   (the key has refused 26)']);
+  }
+  // Of a key that passes it is the wrong verdict.
+  assert.deepEqual(linesOf(markPaper([key], 'refused 26', true))[0], 'wrong    refused 26   (the key has passes)');
 });
 
 test('a key whose start is refused: the verdict and the line of the refusal', () => {

@@ -2,6 +2,7 @@
 import test from 'node:test';
 import assert from 'node:assert/strict';
 import { provedBytes, openProved } from '../../planner/command/proved.js';
+import { SHEET_NUMBERS } from '../../planner/lib/rules.js';
 import { wordsOf } from '../../planner/lib/sheet.js';
 import { recordOf } from './native.js';
 import { random as seeded } from './random.js';
@@ -15,7 +16,7 @@ const passes = (words) => calls.verdict(words) === 0;
 
 // How often each number was given.
 function counter() {
-  const counts = new Array(21).fill(0);
+  const counts = new Array(27).fill(0);
   return { counts, add: (number) => counts[number]++, sum: () => counts.reduce((sum, count) => sum + count) };
 }
 
@@ -44,8 +45,9 @@ test('20,000 verdicts, and where entries lie', () => {
     if (numbers.sum() === VERDICTS) break;
   }
   assert.equal(record.difference(), null);
-  numbers.counts.slice(0, 12).forEach((count, number) => assert.ok(count >= 100, `number ${number}: ${count} sheets`));
+  for (const number of [0, ...SHEET_NUMBERS]) assert.ok(numbers.counts[number] >= 100, `number ${number}: ${numbers.counts[number]} sheets`);
   for (const number of [0, 2, 7, 11, 15]) assert.ok(found.counts[number] > 0, `entries: number ${number}`);
+  assert.equal(found.counts[26], 0, 'entries are handed back by 1 to 11 alone');
 });
 
 test('100,000 calls on sessions, with words of the state poked', () => {
@@ -57,6 +59,7 @@ test('100,000 calls on sessions, with words of the state poked', () => {
   const { counts } = numbers;
   assert.ok(counts[0] >= numbers.sum() / 3, `${counts[0]} of ${numbers.sum()} calls were carried out`);
   for (let number = 13; number <= 20; number++) assert.ok(counts[number] >= 100, `number ${number}: ${counts[number]} calls`);
+  assert.ok(counts[26] >= 20, `${counts[26]} loads were refused with number 26`);
   assert.ok(seen.landed >= 1000, `${seen.landed} landings were seen`);
   assert.ok(seen.switched >= 100, `${seen.switched} switches were seen`);
   assert.ok(seen.crowded >= 20, `${seen.crowded} sessions had 16 circuits or more`);

@@ -38,6 +38,7 @@ const FAULTS = {
     slot.offset = random.below(mode.period);
     return { cells: [{ of: slot, field: 'offset' }] };
   },
+  26: (random, sheet) => random.choose([addedCircuit, circuitWithoutSlots])(random, sheet),
 };
 
 // Some near misses of a number: `{ form, what, document, planted }`.
@@ -240,4 +241,25 @@ function equalSlots(random, sheet) {
   const twin = { ...slot, length: random.between(2, 6) };
   mode.slots.push(twin);
   return { cells: [{ of: slot, field: 'offset' }, { of: twin, field: 'offset' }] };
+}
+
+// The cell of a circuit's name; in a file of words its record's first word.
+const circuitCell = (of) => ({ of, field: RECORD.source, column: 1 });
+
+// A circuit without a slot, its regions behind all others in a memory that is made larger.
+export function addedCircuit(random, sheet) {
+  const nodes = sheet.head[0] * sheet.head[1];
+  const [source, offset] = [random.below(nodes), sheet.head[2]];
+  const length = random.between(1, 4);
+  const destination = (source + random.between(1, nodes - 1)) % nodes;
+  sheet.head[2] += length;
+  const circuit = { name: `added ${sheet.circuits.length}`, record: [source, destination, offset, length, offset, length] };
+  sheet.circuits.splice(random.below(sheet.circuits.length + 1), 0, circuit);
+  return { cells: [circuitCell(circuit)] };
+}
+
+function circuitWithoutSlots(random, sheet) {
+  const circuit = random.choose(sheet.circuits);
+  for (const mode of sheet.modes) mode.slots = mode.slots.filter((slot) => slot.circuit !== circuit);
+  return { cells: [circuitCell(circuit)] };
 }

@@ -67,6 +67,41 @@ test('an idle network is offered to start from, and a file without words is one'
   await says('refused 1');
 });
 
+test('a plan whose circuits have no slots yet is explained, drawn, and passes when each has one', async () => {
+  const rows = ['network;2;2;16', 'circuit;speed;1;0;0;4;0;4', 'circuit;brake;0;3;12;4;0;4', 'mode;normal;12', 'mode;high wind;12', '', ''];
+  await upload(written('begun.csv', rows.join('\n')));
+  await says('refused 26: A circuit has no slot');
+  assert.ok((await isMarked('B2')) && !(await isMarked('B3')));
+  assert.match(await textOf('#explanation'), /Circuit speed \(B2\) has no slot: none of the 2 modes.*not the only place/s);
+  assert.match(await textOf('#explanation'), /Add the row slot; normal; speed; 0; 2; E.*Take out the 2 circuits.*Then the sheet passes/s);
+  assert.match(await textOf('#slots'), /This mode has no slots/);
+  assert.equal(await textOf('#grid-caption'), 'The network runs when the sheet passes.');
+  await browser.click(await browser.find('#explanation button.jump'));
+  assert.equal(await browser.property(await browser.focused(), 'id'), 'cell-B2');
+  assert.match(await textOf('#cell-help'), /^B2: name\. no mode has a slot row for this circuit$/);
+  // The row that is offered, and one for the other circuit in the other mode.
+  for (const [row, cells] of [[6, ['slot', 'normal', 'speed', '0', '2', 'E']], [7, ['slot', 'high wind', 'brake', '0', '2', 'ES']]]) {
+    for (const [at, text] of cells.entries()) {
+      await type(`${'ABCDEF'[at]}${row}`, text);
+      await browser.press('Enter');
+    }
+    await says(row === 6 ? 'refused 26' : 'passes');
+    await drawn();
+    assert.equal(await isMarked('B3'), row === 6);
+    assert.match(await textOf('#slots'), /speed/);
+  }
+  // Each mode runs alone, though neither has slots for both circuits.
+  for (const [mode, circuit, other] of [['normal', 'speed', 'brake'], ['high wind', 'brake', 'speed']]) {
+    await browser.script(
+      "const traffic = document.getElementById('traffic'); traffic.value = arguments[0]; traffic.dispatchEvent(new Event('change'))",
+      mode,
+    );
+    assert.match(await textOf('#grid-caption'), new RegExp(`^Cycle 0: cycle 0 of period 0, mode ${mode}\\.`));
+    assert.match(await textOf('#grid'), new RegExp(circuit));
+    assert.doesNotMatch(await textOf('#grid'), new RegExp(other));
+  }
+});
+
 test('a dropped file is opened', async () => {
   const text = readFileSync(example('key.csv'), 'utf8');
   await browser.script(

@@ -24,11 +24,13 @@ export function passingSheet(random, verdict) {
   const modes = random.between(1, 3);
   for (let number = 0; number < modes; number++) sheet.modes.push({ name: `mode ${number}`, period: random.between(14, 60), slots: [] });
   for (const mode of sheet.modes) addSlots(random, verdict, sheet, mode);
+  // A circuit for which no offset was found is left out: number 26 wants a slot of each.
+  sheet.circuits = sheet.circuits.filter((circuit) => sheet.modes.some(({ slots }) => slots.some((slot) => slot.circuit === circuit)));
   if (verdict(wordsOfSheet(sheet)) !== 0) throw new Error('the generator made a sheet that does not pass');
   return sheet;
 }
 
-// Slots for the circuits of a mode, at offsets that pass.
+// Slots for the circuits of a mode, at offsets that keep the rules 1 to 11.
 function addSlots(random, verdict, sheet, mode) {
   for (const circuit of sheet.circuits) {
     const [source, destination] = circuit.record;
@@ -38,7 +40,7 @@ function addSlots(random, verdict, sheet, mode) {
       for (let tries = 0; tries < 8; tries++) {
         slot.offset = random.below(mode.period);
         const alone = { ...sheet, modes: [{ ...mode, slots: [...mode.slots, slot] }] };
-        if (verdict(wordsOfSheet(alone)) !== 0) continue;
+        if (![0, 26].includes(verdict(wordsOfSheet(alone)))) continue;
         mode.slots.push(slot);
         break;
       }

@@ -11,6 +11,7 @@ import { packetsOf, wireName } from '../../planner/lib/slots.js';
 import { slotsPicture } from '../../planner/lib/slots_picture.js';
 import { checkedPicture, everyItem, textIn, toldParts } from './picture_checks.js';
 import { random } from './random.js';
+import { served } from './sheets.js';
 import { anySchedule, circuitsOn, documentOf, gridOf, passingSchedule, sendingFrames } from './slot_sheets.js';
 import { leastMilliseconds } from './time.js';
 
@@ -113,7 +114,7 @@ test('a grid of frames: one size, each word and each landing told, a node and a 
   for (const [columns, rows] of [[2, 2], [3, 2], [4, 4]]) {
     const parts = { columns, rows, memory: 512, circuits: circuitsOn(draw, columns, rows, 8, true), schedules: [] };
     parts.schedules = [passingSchedule(draw, calls, parts, 20, 20)];
-    const document = documentOf(wordsOf(parts), (number) => `c${number}`, () => 'only');
+    const document = documentOf(wordsOf(served(parts)), (number) => `c${number}`, () => 'only');
     const frames = sendingFrames(calls, document.words, 45);
     const sizes = new Set();
     for (const frame of frames) {
@@ -192,7 +193,7 @@ test('the largest mode is drawn in less than a second and 6 million characters',
   const time = leastMilliseconds(() => svgFile(slotsPicture(document, 0, { background: true })), 1000);
   assert.ok(time < 1000, `${time} ms`);
   assert.ok(text.length < 6e6, `${text.length} characters`);
-  const frames = sendingFrames(calls, wordsOf({ ...parts, schedules: [passingSchedule(draw, calls, parts, 40, 60)] }), MOST_FRAMES);
+  const frames = sendingFrames(calls, wordsOf(served({ ...parts, schedules: [passingSchedule(draw, calls, parts, 40, 60)] })), MOST_FRAMES);
   assert.ok(svgFile(gridAnimation(document, frames, { mode: 0 })).length < 6e6);
 });
 

@@ -3,7 +3,7 @@ import assert from 'node:assert/strict';
 import test from 'node:test';
 import { openProved } from '../../planner/command/proved.js';
 import { callsOfPlan, openRun } from '../../planner/lib/run.js';
-import { RULES, callLine } from '../../planner/lib/rules.js';
+import { RULES, SHEET_NUMBERS, callLine } from '../../planner/lib/rules.js';
 import { plan, words } from './cable_car.js';
 
 const CYCLES = 200;
@@ -133,11 +133,15 @@ test('calls that have no row', () => {
   assert.equal(callLine(sheet, cycle), 'A cycle is refused by number 20: words meet on a wire, or a word is lost.');
   const load = { number: 14, what: 'load', row: null, column: null };
   assert.equal(callLine(sheet, load), 'The sheet is refused by number 14: the memory has the wrong size.');
+  const unserved = { number: 26, what: 'load', row: null, column: null };
+  assert.equal(callLine(sheet, unserved), 'The sheet is refused by number 26: a circuit has no slot.');
 });
 
 test('every number has a rule in words', () => {
-  assert.equal(RULES.length, 21);
-  for (const { title, text } of RULES.slice(1)) {
+  const numbers = [...Array.from({ length: 20 }, (_, at) => at + 1), 26];
+  assert.deepEqual(Object.keys(RULES).map(Number), numbers);
+  assert.deepEqual(SHEET_NUMBERS, numbers.filter((number) => number < 12 || number === 26));
+  for (const { title, text } of Object.values(RULES)) {
     assert.match(title, /^[A-Z][^.]{10,70}$/);
     assert.match(text, /^[A-Z].{20,}\.$/);
   }

@@ -5,7 +5,7 @@ import { openProved } from '../../planner/command/proved.js';
 import { documentOfRows, documentOfWords } from '../../planner/lib/document.js';
 import { circuitsOf, compareDocuments, modePairs } from '../../planner/lib/isolation.js';
 import { routeOfLetters, shortestRoutes } from '../../planner/lib/route.js';
-import { openRun, sheetOfMode } from '../../planner/lib/run.js';
+import { openRun, sheetBeginningIn } from '../../planner/lib/run.js';
 import { wordsOf } from '../../planner/lib/sheet.js';
 import { random } from './random.js';
 import { comparisonTable, figures, isolationTable } from './second_isolation.js';
@@ -89,7 +89,7 @@ test('pairs of modes and figures of 600 sheets', () => {
 // What lands in a circuit's receive region in four periods of a mode, every circuit sending, by the proved session.
 function landings(words, mode, circuit, cycles) {
   const [, destination, , , offset, length] = circuit.words;
-  const run = openRun(calls, sheetOfMode(words, mode), { sending: true });
+  const run = openRun(calls, sheetBeginningIn(words, mode), { sending: true });
   const found = [];
   while (run.cycle < cycles) {
     const { cycle, landings } = run.step();

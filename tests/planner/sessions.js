@@ -83,7 +83,7 @@ const HUGE = { ...USUAL, memory: 16384 };
 function openSession(random, record, passes) {
   const most = random.chance(0.005) ? HUGE : random.chance(0.15) ? CROWDED : USUAL;
   // Now and then no words, which stand for an idle network.
-  const none = random.chance(0.05);
+  const none = random.chance(0.08);
   const parts = none ? partsOf([]) : sheetParts(random, passes, most);
   const contents = Array.from({ length: parts.columns * parts.rows * parts.memory }, () => random.word());
   const nodes = parts.columns * parts.rows;

@@ -44,17 +44,54 @@ export function carriedOut(document, change) {
   return document.kind === 'plan' ? changedPlan(document, change) : changedWords(document.words, change);
 }
 
-function changedPlan(document, { put = [], drop = [], sort = false }) {
-  const rows = document.rows.map((cells) => [...cells]);
+function changedPlan(document, { put = [], drop = [], add = [], sort = false }) {
+  let rows = document.rows.map((cells) => [...cells]);
   for (const { at, word } of put) rows[document.places[at].row][document.places[at].column] = String(word);
-  for (const at of drop) rows[document.places[at].row] = ['# taken out'];
+  for (const at of drop) rows = withoutRow(rows, document.places[at].row);
+  for (const entry of add) rows = withSlotRow(document, rows, entry);
   return documentOfRows(document.name, rows, document.exam && !sort).words;
 }
 
-function changedWords(words, { put = [], drop = [], length = words.length, sort = false }) {
+// Rows without a slot's or a circuit's; what starts the circuit goes with it.
+function withoutRow(rows, gone) {
+  const [keyword, name] = rows[gone];
+  const starts = (cells) => cells[0] === 'at' && cells[2] === 'start' && cells[3] === name;
+  return rows.map((cells, row) => (row === gone || (keyword === 'circuit' && starts(cells)) ? ['# taken out'] : cells));
+}
+
+// Rows with a slot's row more: directly below the row of the slot that it follows in its mode, else above all slots.
+function withSlotRow(document, rows, { schedule, number, words: [offset, length, circuit, route] }) {
+  const mode = document.modeNames[schedule];
+  const row = ['slot', mode, document.circuitNames[circuit], offset, length, route].map(String);
+  const own = rows.map((cells, at) => ({ cells, at })).filter(({ cells }) => cells[0] === 'slot' && cells[1] === mode);
+  const sorted = document.exam ? own : own.sort((a, b) => a.cells[3] - b.cells[3]);
+  const place = number > 0 ? sorted[number - 1].at + 1 : rows.findIndex((cells) => cells[0] === 'slot');
+  return place < 0 ? [...rows, row] : [...rows.slice(0, place), row, ...rows.slice(place)];
+}
+
+function changedWords(words, { put = [], drop = [], add = [], length = words.length, sort = false }) {
   let changed = words.map((word, at) => put.find((one) => one.at === at)?.word ?? word).slice(0, length);
-  for (const at of drop) changed = withoutEntry(changed, at);
+  // From the end on, so that the places before stay.
+  for (const at of [...drop].sort((a, b) => b - a)) {
+    changed = at < 5 + 6 * changed[3] ? withoutCircuit(changed, at) : withoutEntry(changed, at);
+  }
+  for (const entry of add) changed = withEntry(changed, entry);
   return sort ? write(inOrder(read(changed))) : changed;
+}
+
+// Words without the circuit of a place, whose entries must be none.
+function withoutCircuit(words, place) {
+  const sheet = read(words);
+  const gone = (place - 5) / 6;
+  const renumbered = ([offset, length, circuit, route]) => [offset, length, circuit > gone ? circuit - 1 : circuit, route];
+  const schedules = sheet.schedules.map(({ period, entries }) => ({ period, entries: entries.map(renumbered) }));
+  return write({ ...sheet, circuits: sheet.circuits.filter((_, at) => at !== gone), schedules });
+}
+
+function withEntry(words, { schedule, number, words: entry }) {
+  const sheet = read(words);
+  sheet.schedules[schedule].entries.splice(number, 0, entry);
+  return write(sheet);
 }
 
 function withoutEntry(words, place) {

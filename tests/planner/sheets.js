@@ -34,23 +34,56 @@ function circuitsOf(random, { columns, rows, memory }, count, most) {
 
 const byOffset = (a, b) => a.words[0] - b.words[0] || a.words[2] - b.words[2];
 
-// A schedule to which slot after slot is added where `passes` takes it.
-function scheduleOf(random, parts, passes, period, slots, longest) {
-  let entries = [];
-  for (let slot = 0; slot < slots && parts.circuits.length > 0; slot++) {
-    const { number, words } = random.choose(parts.circuits);
-    const letters = random.choose(shortestRoutes(parts.columns, parts.rows, words[0], words[1]));
-    const length = random.between(2, longest);
-    const last = Math.min(period - 1, period + 2 - (length - 1) - 3 * letters.length);
-    if (last < 0) continue;
-    const offset = random.chance(0.2) ? last : random.between(0, last);
-    const more = [...entries, { words: [offset, length, number, routeOfLetters(letters)] }].sort(byOffset);
-    if (passes(wordsOf({ ...parts, schedules: [{ period, entries: more }] }))) entries = more;
-  }
-  return { period, entries };
+// Parts without the circuits that no schedule has an entry for, the others numbered anew: number 26 asks for an entry of each.
+export function served(parts) {
+  const sending = new Set(parts.schedules.flatMap(({ entries }) => entries.map(({ words }) => words[2])));
+  const kept = parts.circuits.map((_, number) => number).filter((number) => sending.has(number));
+  const renumbered = ({ words: [offset, length, circuit, route] }) => ({ words: [offset, length, kept.indexOf(circuit), route] });
+  const schedules = parts.schedules.map((schedule) => ({ ...schedule, entries: schedule.entries.map(renumbered) }));
+  return { ...parts, circuits: kept.map((circuit, number) => ({ ...parts.circuits[circuit], number })), schedules };
 }
 
-// The parts of a sheet that passes; `passes` says whether words do. The options are the most of each thing.
+// The words of one schedule with the circuits that it serves.
+const wordsOfOne = (parts, schedule) => wordsOf(served({ ...parts, schedules: [schedule] }));
+
+// A schedule with one more slot of a circuit, where `passes` takes it; else as it is.
+function withSlot(random, parts, passes, schedule, { number, words }, longest) {
+  const { period } = schedule;
+  const letters = random.choose(shortestRoutes(parts.columns, parts.rows, words[0], words[1]));
+  const length = random.between(2, longest);
+  const last = Math.min(period - 1, period + 2 - (length - 1) - 3 * letters.length);
+  if (last < 0) return schedule;
+  const offset = random.chance(0.2) ? last : random.between(0, last);
+  const entries = [...schedule.entries, { words: [offset, length, number, routeOfLetters(letters)] }].sort(byOffset);
+  return passes(wordsOfOne(parts, { period, entries })) ? { period, entries } : schedule;
+}
+
+// A schedule to which slot after slot is added.
+function scheduleOf(random, parts, passes, period, slots, longest) {
+  let schedule = { period, entries: [] };
+  for (let slot = 0; slot < slots && parts.circuits.length > 0; slot++) {
+    schedule = withSlot(random, parts, passes, schedule, random.choose(parts.circuits), longest);
+  }
+  return schedule;
+}
+
+const TRIES = 4;
+
+// The schedules with slots for the circuits that have none, as far as some tries find them.
+function withAllServed(random, parts, passes) {
+  const schedules = [...parts.schedules];
+  for (const circuit of parts.circuits) {
+    const isServed = () => schedules.some(({ entries }) => entries.some(({ words }) => words[2] === circuit.number));
+    for (let tries = 0; tries < TRIES && !isServed(); tries++) {
+      const mode = random.below(schedules.length);
+      schedules[mode] = withSlot(random, parts, passes, schedules[mode], circuit, 3);
+    }
+  }
+  return schedules;
+}
+
+// The parts of a sheet that passes; `passes` says whether words do. The options are the most of each thing. A circuit that gets no slot is
+// left out.
 export function sheetParts(random, passes, most = {}) {
   const { circuits = 6, modes = 3, slots = 6, period = 30, memory = 32, length = 6, region: words = 6 } = most;
   const [columns, rows] = [random.between(2, 4), random.between(2, 4)];
@@ -61,10 +94,11 @@ export function sheetParts(random, passes, most = {}) {
     const schedule = scheduleOf(random, parts, passes, random.between(9, period), random.below(slots + 1), random.between(2, length));
     parts.schedules.push(schedule);
   }
-  return parts;
+  parts.schedules = withAllServed(random, parts, passes);
+  return served(parts);
 }
 
-// The words of a sheet that is as large as sheets can be.
+// The words of a sheet that is as large as sheets can be; among 2,048 slots every circuit has some.
 export function largestSheet(random, passes) {
   const parts = { columns: 4, rows: 4, memory: 16384, schedules: [] };
   parts.circuits = circuitsOf(random, parts, 64, 100);
@@ -81,7 +115,7 @@ function withOneMore(random, parts, passes, { period, entries }) {
   const { number, words } = random.choose(parts.circuits);
   const route = routeOfLetters(random.choose(shortestRoutes(parts.columns, parts.rows, words[0], words[1])));
   const more = [...entries, { words: [random.below(1000), 2, number, route] }].sort(byOffset);
-  return passes(wordsOf({ ...parts, schedules: [{ period, entries: more }] })) ? more : entries;
+  return passes(wordsOfOne(parts, { period, entries: more })) ? more : entries;
 }
 
 // A word near to another, or at a limit, or anything.
@@ -178,6 +212,12 @@ const EDITS = [
     const changed = set(entry.words, random.below(2), random.between(2, schedule.period - 1));
     const entries = schedule.entries.map((one) => (one === entry ? { words: changed } : one)).sort(byOffset);
     return wordsOf({ ...parts, schedules: parts.schedules.map((one) => (one === schedule ? { ...one, entries } : one)) });
+  },
+  // A circuit without its entries.
+  (random, words, parts) => {
+    const gone = random.choose(parts.circuits)?.number;
+    const schedules = parts.schedules.map((one) => ({ ...one, entries: one.entries.filter((entry) => entry.words[2] !== gone) }));
+    return gone === undefined ? undefined : wordsOf({ ...parts, schedules });
   },
   (random, words) => {
     const at = random.below(words.length);

@@ -3,6 +3,7 @@ import assert from 'node:assert/strict';
 import { routeOfLetters, shortestRoutes } from '../../planner/lib/route.js';
 import { openRun } from '../../planner/lib/run.js';
 import { wordsOf } from '../../planner/lib/sheet.js';
+import { served } from './sheets.js';
 
 const MEMORY = 512;
 
@@ -54,7 +55,7 @@ export function passingSchedule(random, calls, parts, period, tries) {
   for (let one = 0; one < tries; one++) {
     const entry = entryOf(random, parts, period, false);
     const more = entry && { period, entries: sorted([...schedule.entries, entry]) };
-    if (more && calls.verdict(wordsOf({ ...parts, schedules: [more] })) === 0) schedule = more;
+    if (more && calls.verdict(wordsOf(served({ ...parts, schedules: [more] }))) === 0) schedule = more;
   }
   return schedule;
 }

@@ -4,12 +4,13 @@ import assert from 'node:assert/strict';
 import { openProved } from '../../planner/command/proved.js';
 import { gridAnimation } from '../../planner/lib/grid_picture.js';
 import { svgFile } from '../../planner/lib/markup.js';
-import { MEMORY_WIRE, sheetOfMode, SOURCE_WIRE } from '../../planner/lib/run.js';
+import { MEMORY_WIRE, sheetBeginningIn, sheetOfMode, SOURCE_WIRE } from '../../planner/lib/run.js';
 import { partsOf, wordsOf } from '../../planner/lib/sheet.js';
 import { circuitFinder, packetsOf, sharedCycles, wireName } from '../../planner/lib/slots.js';
 import { slotsPicture } from '../../planner/lib/slots_picture.js';
 import { checkedPicture, toldParts } from './picture_checks.js';
 import { random } from './random.js';
+import { served } from './sheets.js';
 import { anySchedule, documentOf, gridOf, passingSchedule, sendingFrames } from './slot_sheets.js';
 
 const calls = await openProved();
@@ -38,18 +39,21 @@ const circuitOfPayload = (word) => Math.floor(word / 100) - 1;
 
 test('full slots: a run shows on the wires exactly what is reckoned, and lands it', () => {
   const draw = random(1);
-  let seen = 0;
+  let [seen, silent] = [0, 0];
   for (let sheet = 0; sheet < 300; sheet++) {
     const parts = gridOf(draw, draw.between(1, 8), true);
     const modes = draw.between(1, 3);
     parts.schedules = Array.from({ length: modes }, () => passingSchedule(draw, calls, parts, draw.between(9, 30), 12));
     const mode = draw.below(modes);
-    const words = sheetOfMode(wordsOf(parts), mode);
+    const whole = wordsOf(served(parts));
+    const words = sheetOfMode(whole, mode);
+    if (calls.verdict(words) === 26) silent++;
     const { period } = parts.schedules[mode];
     const cells = reckoned(words, period);
     const found = new Map();
     const landed = new Set();
-    for (const frame of sendingFrames(calls, words, PERIODS * period)) {
+    for (const frame of sendingFrames(calls, sheetBeginningIn(whole, mode), PERIODS * period)) {
+      assert.equal(frame.mode, 0);
       for (const { node, wire, mark, word } of frame.wires) {
         const key = `cycle ${frame.cycle}, node ${node}, wire ${wire}`;
         const cell = cells.get(key);
@@ -65,6 +69,7 @@ test('full slots: a run shows on the wires exactly what is reckoned, and lands i
     seen += cells.size;
   }
   assert.ok(seen > 50000, `only ${seen} cells were compared`);
+  assert.ok(silent > 50, `only ${silent} modes have no slot for some circuit, and would not be loaded alone`);
 });
 
 test('slots of circuits that run out of words: a header first, as many words on every wire of the packet, none outside', () => {
@@ -73,7 +78,7 @@ test('slots of circuits that run out of words: a header first, as many words on 
   for (let sheet = 0; sheet < 300; sheet++) {
     const parts = gridOf(draw, draw.between(1, 8), false);
     parts.schedules = [passingSchedule(draw, calls, parts, draw.between(9, 30), 12)];
-    const words = wordsOf(parts);
+    const words = wordsOf(served(parts));
     const { period } = parts.schedules[0];
     const cells = reckoned(words, period);
     const counts = new Map();
@@ -101,8 +106,8 @@ test('two packets share a wire in a cycle exactly where the verdict is 11, and t
   const draw = random(3);
   const count = { 0: 0, 11: 0 };
   for (let sheet = 0; sheet < 1500; sheet++) {
-    const parts = gridOf(draw, draw.between(1, 6), true);
-    parts.schedules = [anySchedule(draw, parts, draw.between(12, 40), draw.between(1, 5), false)];
+    const grid = gridOf(draw, draw.between(1, 6), true);
+    const parts = served({ ...grid, schedules: [anySchedule(draw, grid, draw.between(12, 40), draw.between(1, 5), false)] });
     const words = wordsOf(parts);
     const verdict = calls.verdict(words);
     const packets = packetsOf(parts, 0);
@@ -143,7 +148,7 @@ test('a packet is on a link behind cycle P + 2 exactly where the verdict is 10, 
 function switchingRun(draw, full) {
   const parts = gridOf(draw, draw.between(2, 8), full);
   parts.schedules = Array.from({ length: 4 }, () => passingSchedule(draw, calls, parts, draw.between(9, 24), 14));
-  const words = wordsOf(parts);
+  const words = wordsOf(served(parts));
   let next = 1;
   const frames = sendingFrames(calls, words, 200, () => {
     if (next < 4 && calls.order(next, calls.periodNumber().value + 3) === 0) next++;

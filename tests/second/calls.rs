@@ -156,7 +156,7 @@ impl Second {
 
 impl Calls for Second {
     fn load(&mut self, sheet: &[u32], state: &mut [u32], memory: &[u32]) -> u32 {
-        let sheet = match self.reader.sheet(sheet) {
+        let sheet = match self.reader.sheet_to_load(sheet) {
             Ok(sheet) => sheet,
             Err(number) => return number,
         };

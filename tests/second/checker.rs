@@ -65,8 +65,22 @@ pub fn meant(words: &[u32]) -> &[u32] {
 /// Whether a number applies to a sheet that could be read.
 type Rule = fn(&Sheet) -> bool;
 
-/// 0 when the sheet passes, else the first of the numbers 1 to 11 that applies.
+/// 0 when the sheet passes, else the first of the numbers 1 to 11 and 26 that applies: the answer
+/// of the checker and of a load.
 pub fn verdict(words: &[u32]) -> u32 {
+    let number = verdict_to_11(words);
+    if number != 0 {
+        return number;
+    }
+    let sheet = read(meant(words)).expect("number 3 does not apply");
+    if rule26(&sheet) {
+        return 26;
+    }
+    0
+}
+
+/// The same by the numbers 1 to 11 alone, by which entries are handed back and a state is sound.
+pub fn verdict_to_11(words: &[u32]) -> u32 {
     let words = meant(words);
     if rule1(words) {
         return 1;
@@ -97,7 +111,7 @@ pub fn verdict(words: &[u32]) -> u32 {
 }
 
 /// The part of a sheet that holds one schedule's entries (document 01, "The sheet"): the
-/// place of its first word, and its words. Where the sheet's own number is not 0 that
+/// place of its first word, and its words. Where the sheet's own number of 1 to 11 is not 0 that
 /// number, else 15 where it has no such schedule. A sheet of no words has the idle network's
 /// schedule, whose entries are the empty part at its start.
 pub fn entries(words: &[u32], number: u32, schedule: u32) -> Result<(usize, Vec<u64>), u32> {
@@ -250,6 +264,17 @@ fn rule11(sheet: &Sheet) -> bool {
                     }
                 }
             }
+        }
+    }
+    false
+}
+
+/// Some circuit has no entry in any schedule (document 02, L8).
+pub fn rule26(sheet: &Sheet) -> bool {
+    for circuit in 0..sheet.circuits.len() as u64 {
+        let is_its_own = |entry: &Entry| entry.circuit == circuit;
+        if !sheet.schedules.iter().any(|schedule| schedule.entries.iter().any(is_its_own)) {
+            return true;
         }
     }
     false

@@ -1,6 +1,7 @@
 //! States made by hand: for each clause of soundness values that break it alone, and the
 //! nearest values that do not; for each cause of number 20 a state that meets it alone, and
-//! near ones that meet none. What is expected stands here, whatever the second machine says.
+//! near ones that meet none; and states whose sheet no load takes, since a circuit of it is
+//! served by no schedule (26). What is expected stands here, whatever the second machine says.
 
 use super::lent::{
     Clause, Row, CYCLE, MOST_SHEET_WORDS, ORDER_MARK, ORDER_PERIOD, ORDER_SCHEDULE, PERIOD_NUMBER, ROW_WORDS, SCHEDULE,
@@ -8,7 +9,7 @@ use super::lent::{
 };
 use super::machine::{Fault, DATA, EMPTY, HEADER, INTERRUPT, LAST, MEMORY, MOST_NODES, PAYLOAD, PORTS, SOURCE};
 use super::near_misses::add_fault;
-use super::sheets::{idle_network, sheet_a, Circuit, Entry, Plan, Random, Schedule};
+use super::sheets::{idle_network, sheet_a, sixty_four_circuits, Circuit, Entry, Plan, Random, Schedule};
 
 /// What a state calls for.
 #[derive(Clone, Copy, Debug, PartialEq, Eq)]
@@ -26,6 +27,12 @@ pub struct HandMade {
     pub name: &'static str,
     pub pokes: Vec<(usize, u32)>,
     pub expected: Expected,
+}
+
+/// Words written over the state that a load would leave if it took the plan, which leaves circuits unserved.
+pub struct Unserved {
+    pub plan: Plan,
+    pub made: HandMade,
 }
 
 /// A cycle on words written over a load, its number, and what then differs from the load.
@@ -318,7 +325,12 @@ fn cycle(cycle: u32) -> Vec<(usize, u32)> {
 
 /// A transfer's rest that lies at the start of its regions.
 fn rest(circuit: usize, left: u32, to_go: u32) -> Vec<(usize, u32)> {
-    let record = hand_made_plan().circuits[circuit];
+    rest_in(&hand_made_plan(), circuit, left, to_go)
+}
+
+/// The same of another plan.
+pub fn rest_in(plan: &Plan, circuit: usize, left: u32, to_go: u32) -> Vec<(usize, u32)> {
+    let record = plan.circuits[circuit];
     vec![
         (Row::Left.at(circuit), left),
         (Row::Read.at(circuit), record.read_offset),
@@ -444,6 +456,167 @@ fn missing_choices(all: &mut Collection) {
                 all.add("no choice at a missing node", leaves(node, port, mark, 0), Expected::CarriedOut);
             }
         }
+    }
+}
+
+/// Sheets that pass 1 to 11 and leave a circuit unserved, some of them or all.
+pub fn unserved_plans() -> Vec<Plan> {
+    let mut plans: Vec<Plan> = vec![hand_made_plan(); 4];
+    for circuit in 0..3 {
+        plans[circuit].unserve(circuit);
+        plans[3].unserve(circuit);
+    }
+    let mut no_entry = sheet_a();
+    no_entry.unserve(0);
+    let no_entries = Plan { schedules: vec![no_entry.schedules[0].clone(); 8], ..no_entry.clone() };
+    plans.extend([no_entry, no_entries]);
+    let mut one_served = sixty_four_circuits(2);
+    one_served.add_slot(1, 20);
+    let mut one_unserved = sixty_four_circuits(2);
+    for circuit in 0..63 {
+        one_unserved.add_slot(circuit % 2, circuit);
+    }
+    plans.extend([one_served, one_unserved]);
+    plans
+}
+
+/// As many words as a transfer on the circuit can have.
+pub fn most_words(plan: &Plan, circuit: usize) -> u32 {
+    plan.circuits[circuit].read_length.min(plan.circuits[circuit].receive_length)
+}
+
+pub fn unserved_states() -> Vec<Unserved> {
+    let mut states = Vec::new();
+    for plan in unserved_plans() {
+        let mut all = Collection::default();
+        unserved_transfers(&mut all, &plan);
+        unserved_clocks(&mut all, &plan);
+        served_packets(&mut all, &plan);
+        unserved_faults(&mut all, &plan);
+        states.extend(all.states.into_iter().map(|made| Unserved { plan: plan.clone(), made }));
+    }
+    // Any other number of the sheet is still the reason.
+    let mut random = Random::new(26);
+    for number in 3..=11 {
+        for unserved in 0..3 {
+            let mut plan = hand_made_plan();
+            plan.unserve(unserved);
+            while !add_fault(&mut random, &mut plan, number, 0) {}
+            let expected = Expected::Unsound(Clause::Sheet(number));
+            let made = HandMade { name: "unserved circuit and a fault in the sheet", pokes: Vec::new(), expected };
+            states.push(Unserved { plan, made });
+        }
+    }
+    states
+}
+
+/// Transfers on circuits that no schedule serves.
+fn unserved_transfers(all: &mut Collection, plan: &Plan) {
+    all.add("unserved circuit, nothing moves", Vec::new(), Expected::CarriedOut);
+    let mut waiting = Vec::new();
+    for circuit in 0..plan.circuits.len() {
+        waiting.extend(rest_in(plan, circuit, most_words(plan, circuit), 0));
+    }
+    let later = vec![(Row::Clock.at(CYCLE), plan.schedules[0].period - 1)];
+    all.add("unserved circuit, all have words left", [waiting, later].concat(), Expected::CarriedOut);
+
+    let unserved = plan.unserved();
+    let record = plan.circuits[unserved[0]];
+    for circuit in [unserved[0], unserved[unserved.len() - 1]] {
+        let most = most_words(plan, circuit);
+        let [left, read, write] = [Row::Left.at(circuit), Row::Read.at(circuit), Row::Write.at(circuit)];
+        let [kind, to_go] = [Row::Kind.at(circuit), Row::ToGo.at(circuit)];
+        let with = |others: &[(usize, u32)]| [&rest_in(plan, circuit, most, 0), others].concat();
+        all.add("unserved circuit has words left", with(&[]), Expected::CarriedOut);
+        all.add("unserved circuit has an interrupt left", with(&[(left, 1), (kind, INTERRUPT)]), Expected::CarriedOut);
+        all.add("unserved circuit sends all the same", with(&[(to_go, 1)]), Expected::CarriedOut);
+        for (name, clause, pokes) in [
+            ("unserved circuit, rest is read", Clause::ReadRegion, [(read, plan.memory_words), (left, 1)]),
+            ("unserved circuit, rest is written", Clause::ReceiveRegion, [(write, plan.memory_words), (left, 1)]),
+            ("unserved circuit, transfer's kind", Clause::TransferKind, [(kind, 1), (left, 1)]),
+            ("unserved circuit, interrupt's words left", Clause::InterruptLeft, [(kind, INTERRUPT), (left, 2)]),
+            ("unserved circuit, words to go", Clause::ToGo, [(to_go, 2), (left, 1)]),
+        ] {
+            all.add(name, with(&pokes), Expected::Unsound(clause));
+        }
+    }
+    // Words for its receive region, as if a slot had been there.
+    let arriving = arrives(record.destination as usize, LAST, 1, record.receive_offset);
+    all.add("unserved circuit, a word lands in its region", arriving, Expected::CarriedOut);
+}
+
+/// The ends of periods, with and without an order, in the first and in the last schedule.
+fn unserved_clocks(all: &mut Collection, plan: &Plan) {
+    let clock = |place| Row::Clock.at(place);
+    let last = plan.schedules.len() - 1;
+    for schedule in [0, last] {
+        let period = plan.schedules[schedule].period;
+        let in_force =
+            [(clock(SCHEDULE), schedule as u32), (clock(CYCLE), period - 1), (clock(PERIOD_NUMBER), LARGEST)];
+        let order = [(clock(ORDER_MARK), 1), (clock(ORDER_SCHEDULE), (last - schedule) as u32)];
+        let with = |others: &[(usize, u32)]| [&in_force[..], others].concat();
+        all.add("unserved circuit, period's end", with(&[]), Expected::CarriedOut);
+        all.add("unserved circuit, order due", with(&order), Expected::CarriedOut);
+        let later = [&order[..], &[(clock(ORDER_PERIOD), 2)]].concat();
+        all.add("unserved circuit, order pending", with(&later), Expected::CarriedOut);
+        for (name, clause, poke) in [
+            ("unserved circuit, cycle", Clause::Cycle, (clock(CYCLE), period)),
+            ("unserved circuit, schedule in force", Clause::Schedule, (clock(SCHEDULE), last as u32 + 1)),
+            ("unserved circuit, order's mark", Clause::OrderMark, (clock(ORDER_MARK), 2)),
+        ] {
+            all.add(name, with(&[poke]), Expected::Unsound(clause));
+        }
+    }
+}
+
+/// A cycle after a served circuit's slot began: its header is on the wire, its words are to go, and
+/// the unserved circuits have words left.
+fn served_packets(all: &mut Collection, plan: &Plan) {
+    for (number, schedule) in plan.schedules.iter().enumerate() {
+        for entry in schedule.entries.iter().take(2) {
+            let circuit = entry.circuit as usize;
+            let record = plan.circuits[circuit];
+            let most = most_words(plan, circuit);
+            let link = |row: Row| row.of_port(record.source as usize, SOURCE);
+            let mut pokes = vec![
+                (Row::Clock.at(SCHEDULE), number as u32),
+                (Row::Clock.at(CYCLE), entry.offset + 1),
+                (link(Row::LinkMark), HEADER),
+                (link(Row::LinkWord), record.receive_offset << 16 | entry.route),
+            ];
+            pokes.extend(rest_in(plan, circuit, most, most.min(entry.length - 1)));
+            for unserved in plan.unserved() {
+                pokes.extend(rest_in(plan, unserved, 1, 0));
+            }
+            all.add("unserved circuit, another sends", pokes, Expected::CarriedOut);
+        }
+    }
+}
+
+/// What else can be wrong with a state, beside an unserved circuit.
+fn unserved_faults(all: &mut Collection, plan: &Plan) {
+    let node = plan.nodes() as usize - 1;
+    let at = |row: Row| row.of_port(node, MEMORY);
+    for (name, pokes, expected) in [
+        ("unserved circuit, mark on a wire", vec![(at(Row::OutMark), 4)], Expected::Unsound(Clause::OutMark)),
+        ("unserved circuit, latch", vec![(at(Row::Latch), 6)], Expected::Unsound(Clause::Latch)),
+        (
+            "unserved circuit, header's kind",
+            vec![(at(Row::LinkMark), HEADER), (at(Row::LinkWord), 1 << 30)],
+            Expected::Unsound(Clause::LinkKind),
+        ),
+        (
+            "unserved circuit, payload without a packet",
+            arrives(node, PAYLOAD, 0, 0),
+            Expected::Faulty(Fault::PayloadWithoutPacket),
+        ),
+        (
+            "unserved circuit, payload leaves without a choice",
+            leaves(node, 0, LAST, 0),
+            Expected::Faulty(Fault::PayloadWithoutChoice),
+        ),
+    ] {
+        all.add(name, pokes, expected);
     }
 }
 

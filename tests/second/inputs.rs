@@ -1,6 +1,6 @@
 //! Inputs of the program `landings`: little-endian words, in the order of document 01.
 
-use super::sheets::{largest, passing_plan, some_schedule, Plan, Random, Wish};
+use super::sheets::{largest, some_schedule, wished_plan, Plan, Random, Wish};
 
 /// Circuit, read address, write address, count, kind.
 pub type Transfer = [u32; 5];
@@ -62,12 +62,12 @@ pub fn middle_in_small_memory(seed: u64) -> Plan {
             entries: 32,
             length: None,
         };
-        let mut plan = passing_plan(&mut random, &wish);
+        let mut plan = wished_plan(&mut random, &wish);
         for period in [64, 100] {
             let schedule = some_schedule(&mut random, &plan, period, wish.entries, wish.length);
             plan.schedules.push(schedule);
         }
-        if plan.circuits.len() == 16 {
+        if plan.circuits.len() == 16 && plan.unserved().is_empty() {
             return plan;
         }
     }

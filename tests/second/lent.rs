@@ -1,6 +1,7 @@
 //! The lent words of docs/STATE.md: where each register of the second machine stands,
 //! machines read from words and written to them, and which states are sound (number 13).
 
+use super::checker;
 use super::machine::{
     kind_of, lies_within, Cell, CheckedSheet, Machine, Node, Sender, DATA, EMPTY, HEADER, INTERRUPT, LAST, PORTS,
 };
@@ -228,7 +229,7 @@ fn may_travel(kind: u32) -> bool {
     kind == DATA || kind == INTERRUPT
 }
 
-/// Reads lent states. The last sheet that passed is not checked again while its very words
+/// Reads lent states. The last sheet that passed 1 to 11 is not checked again while its very words
 /// come back.
 #[derive(Default)]
 pub struct Reader {
@@ -236,15 +237,25 @@ pub struct Reader {
 }
 
 impl Reader {
-    pub fn sheet(&mut self, words: &[u32]) -> Result<Rc<CheckedSheet>, u32> {
+    /// The sheet of a state, or the first of the numbers 1 to 11 that applies.
+    fn sheet(&mut self, words: &[u32]) -> Result<Rc<CheckedSheet>, u32> {
         match &self.known {
             Some(sheet) if sheet.words == words => Ok(Rc::clone(sheet)),
             _ => {
-                let sheet = Rc::new(CheckedSheet::check(words)?);
+                let sheet = Rc::new(CheckedSheet::check_by(checker::verdict_to_11, words)?);
                 self.known = Some(Rc::clone(&sheet));
                 Ok(sheet)
             }
         }
+    }
+
+    /// The sheet of a load, or the first of the numbers 1 to 11 and 26 that applies.
+    pub fn sheet_to_load(&mut self, words: &[u32]) -> Result<Rc<CheckedSheet>, u32> {
+        let sheet = self.sheet(words)?;
+        if checker::rule26(&sheet.sheet) {
+            return Err(26);
+        }
+        Ok(sheet)
     }
 
     /// The machine of a sound state, or every clause that the state breaks. The state has

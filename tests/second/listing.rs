@@ -1,5 +1,5 @@
 //! What the program `landings` prints for an input (document 01, "The key's examples"), by
-//! the second machine. The sheet is checked once, where it is read.
+//! the second machine. The sheet is checked once, where it is read, by 1 to 11 and 26.
 
 use super::machine::{CheckedSheet, Machine};
 use std::fmt::Write;
@@ -43,7 +43,7 @@ fn refused(number: u32) -> String {
     format!("refused {number}\n")
 }
 
-/// All that is printed, where sheets are judged by `verdict`.
+/// All that is printed, where sheets are judged by `verdict`, which is one of a load.
 pub fn listing(verdict: fn(&[u32]) -> u32, input: &[u8]) -> String {
     landings(verdict, Input { bytes: input }).unwrap_or_else(|only_line| only_line)
 }

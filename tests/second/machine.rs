@@ -1,7 +1,7 @@
 //! A second machine, coded from document 01, the article and docs/STATE.md, without our code or definitions: routers of
 //! three stages, senders, receive units, the clock and the order, and the nine calls upon them. What the papers leave free and
 //! the causes of number 20 are as docs/STATE.md lists them. Every register there is a field here. A machine's sheet has
-//! passed the second checker once, when the machine was made.
+//! passed the second checker once, when the machine was made: by 1 to 11 and 26 for a load, by 1 to 11 for a state.
 
 use super::checker::{self, Entry, Schedule, Sheet, Side};
 use std::ops::Range;
@@ -111,7 +111,7 @@ pub enum Fault {
     LandingBeyondMemory,
 }
 
-/// A sheet that passed, by the words that it stands for, with the neighbours of its nodes.
+/// A sheet that passed 1 to 11 at least, by the words that it stands for, with the neighbours of its nodes.
 pub struct CheckedSheet {
     pub words: Vec<u32>,
     pub sheet: Sheet,
@@ -119,12 +119,7 @@ pub struct CheckedSheet {
 }
 
 impl CheckedSheet {
-    /// The sheet, or the first of the numbers 1 to 11 that applies.
-    pub fn check(words: &[u32]) -> Result<CheckedSheet, u32> {
-        CheckedSheet::check_by(checker::verdict, words)
-    }
-
-    /// The same by another checker.
+    /// The sheet, or its number by a checker of 1 to 11, or of 26 too.
     pub fn check_by(verdict: fn(&[u32]) -> u32, words: &[u32]) -> Result<CheckedSheet, u32> {
         let number = verdict(words);
         if number != 0 {

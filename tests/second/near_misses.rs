@@ -1,14 +1,14 @@
 //! Sheets that just fail or just pass, each made from a passing sheet by a small change,
-//! for every number of document 01 from 1 to 11; sheets with several faults; sheets of
-//! random words.
+//! for every number of document 01 from 1 to 11 and for 26; sheets with several faults; sheets
+//! of random words.
 
 use std::collections::HashSet;
 
 use super::sheets::{
     all_shortest_paths, examples, idle_network, largest, largest_mixed, last_offset, neighbour,
     opposite, passing_plan, passing_plans, path_of, route_of, sheet_a, shortest_path, shortest_runs,
-    uses, Case, Circuit, Entry, Occupied, Plan, Random, Schedule, WireKind, Wish, EAST, NORTH,
-    SOUTH, WEST,
+    sixty_four_circuits, uses, wished_plan, Case, Circuit, Entry, Occupied, Plan, Random, Schedule,
+    WireKind, Wish, EAST, NORTH, SOUTH, WEST,
 };
 
 pub const GRIDS: [(u32, u32); 9] =
@@ -41,6 +41,7 @@ pub fn all_cases() -> Vec<Case> {
     number9(&mut cases);
     number10(&mut cases);
     number11(&mut cases);
+    number26(&mut cases);
     several_faults(&mut cases);
     faults_in_largest(&mut cases);
     random_words(&mut cases);
@@ -262,6 +263,7 @@ fn number3(cases: &mut Vec<Case>) {
         let mut without_entries = plan.clone();
         let last = without_entries.schedules.len() - 1;
         without_entries.schedules[last].entries.clear();
+        without_entries.drop_unserved();
         cases.push(without_entries.case("3: no entries", 0));
         for stated in [1, TWO_TO_30, TWO_TO_31, TWO_TO_31 + TWO_TO_30, 257] {
             let mut changed = without_entries.words();
@@ -458,12 +460,30 @@ fn number5(cases: &mut Vec<Case>) {
                 ((destination, 1), (destination + 1, 0)),
             ];
             for (first, second) in close_pairs {
-                cases.push(pair(first, second, memory_words).case("5: up by one", 0));
-                cases.push(pair(second, first, memory_words).case("5: down by one", 5));
-                cases.push(pair(first, first, memory_words).case("5: equal", 5));
+                let up = pair(first, second, memory_words);
+                let down = pair(second, first, memory_words);
+                let equal = pair(first, first, memory_words);
+                // A slot for each circuit, for the first alone, for none.
+                cases.push(with_slots(&up, 2).case("5: up by one", 0));
+                for slots in 0..2 {
+                    cases.push(with_slots(&up, slots).case("5: up by one, too few slots", 26));
+                }
+                for slots in 0..3 {
+                    cases.push(with_slots(&down, slots).case("5: down by one", 5));
+                    cases.push(with_slots(&equal, slots).case("5: equal", 5));
+                }
             }
         }
     }
+}
+
+/// A slot in the first schedule for each of the first circuits.
+fn with_slots(plan: &Plan, circuits: usize) -> Plan {
+    let mut plan = plan.clone();
+    for circuit in 0..circuits {
+        plan.add_slot(0, circuit);
+    }
+    plan
 }
 
 fn number6(cases: &mut Vec<Case>) {
@@ -531,7 +551,7 @@ fn number6(cases: &mut Vec<Case>) {
         }
     }
 
-    // No schedule uses the circuits; they count all the same.
+    // Both circuits have a slot, or none has one: they count all the same.
     let plan_of = |circuits: Vec<Circuit>| Plan {
         columns: 3,
         rows: 2,
@@ -551,15 +571,19 @@ fn number6(cases: &mut Vec<Case>) {
                 receive_length: length,
             };
             let shares = shift < 4 + length && 4 < shift + 3;
-            let expected = if shares { 6 } else { 0 };
+            let [served, unserved] = if shares { [6, 6] } else { [0, 26] };
             let second = Circuit { source: 1, receive_offset: shift, receive_length: 3, ..first };
             if shift != 4 {
                 let mut receives = plan_of(vec![first, second]);
                 receives.sort_circuits();
-                cases.push(receives.case("6: two receive regions without entries", expected));
+                let name = "6: two receive regions";
+                cases.push(with_slots(&receives, 2).case(name, served));
+                cases.push(receives.case("6: two receive regions without entries", unserved));
             }
-            let elsewhere = Circuit { destination: 4, ..second };
-            cases.push(plan_of(vec![elsewhere, first]).case("6: receive regions at two nodes", 0));
+            let elsewhere = plan_of(vec![Circuit { destination: 4, ..second }, first]);
+            let name = "6: receive regions at two nodes";
+            cases.push(with_slots(&elsewhere, 2).case(name, 0));
+            cases.push(elsewhere.case("6: receive regions at two nodes without entries", 26));
             let reader = Circuit {
                 source: 5,
                 destination: 1,
@@ -568,8 +592,10 @@ fn number6(cases: &mut Vec<Case>) {
                 receive_offset: 0,
                 receive_length: 20,
             };
+            let reads = plan_of(vec![reader, first]);
+            cases.push(with_slots(&reads, 2).case("6: a receive and a read region", served));
             let name = "6: a receive and a read region without entries";
-            cases.push(plan_of(vec![reader, first]).case(name, expected));
+            cases.push(reads.case(name, unserved));
         }
     }
 }
@@ -932,8 +958,9 @@ fn wanted_clashes() -> Vec<WantedClash> {
 
 fn number11(cases: &mut Vec<Case>) {
     let mut random = Random::new(111);
-    // Four hops are there in the largest grid only, so it is given more weight.
+    // Four hops are there in the largest grid only, so it has plans of its own besides.
     let mut plans = subjects(111, 90);
+    let first_of_largest_grid = plans.len();
     let of_largest_grid = subjects(117, 360).into_iter().filter(|plan| plan.nodes() == 16);
     plans.extend(of_largest_grid);
     let occupied: Vec<Vec<Occupied>> = plans
@@ -941,24 +968,28 @@ fn number11(cases: &mut Vec<Case>) {
         .map(|plan| plan.schedules.iter().map(|schedule| Occupied::of(plan, schedule)).collect())
         .collect();
     for wanted in wanted_clashes() {
+        let first_plan = if wanted.place == Some(4) { first_of_largest_grid } else { 0 };
         let mut clashing = 0;
         let mut passing = 0;
         let mut attempts = 0;
         while clashing < 60 || passing < 30 {
             attempts += 1;
             assert!(attempts < 2_000_000, "not to be had: {}", wanted.one_cycle);
-            let chosen = random.position(plans.len());
+            let chosen = first_plan + random.position(plans.len() - first_plan);
             let plan = &plans[chosen];
             let schedule = random.position(plan.schedules.len());
             let Schedule { period, entries } = &plan.schedules[schedule];
             let placed = random.choose(entries);
-            let placed_source = plan.circuits[placed.circuit as usize].source;
-            let placed_uses = uses(plan, placed_source, &path_of(plan, &placed), placed.offset);
 
             // A further slot that has such a wire in common with the one placed.
             let circuit = random.position(plan.circuits.len());
             let Circuit { source, destination, .. } = plan.circuits[circuit];
             let path = shortest_path(&mut random, plan, source, destination);
+            if wanted.place.is_some_and(|place| path.len() < place as usize) {
+                continue;
+            }
+            let placed_source = plan.circuits[placed.circuit as usize].source;
+            let placed_uses = uses(plan, placed_source, &path_of(plan, &placed), placed.offset);
             let length = random.between(2, 16);
             let mut common = Vec::new();
             for first in &placed_uses {
@@ -1047,6 +1078,219 @@ fn number11(cases: &mut Vec<Case>) {
             let mut changed = plan.clone();
             if add_clash(&mut changed, schedule) {
                 cases.push(changed.case("11: one cycle later", 11));
+            }
+        }
+    }
+}
+
+fn number26(cases: &mut Vec<Case>) {
+    without_entries(cases);
+    served_once(cases);
+    served_by_one_entry(cases);
+    unserved_among_64(cases);
+    left_unserved(cases);
+    earlier_number_and_unserved(cases);
+}
+
+/// Schedules without entries: they pass where there are no circuits.
+fn without_entries(cases: &mut Vec<Case>) {
+    for (columns, rows) in GRIDS {
+        for schedules in 1..=8 {
+            let name = match schedules {
+                1 => "26: one schedule without entries and one circuit",
+                8 => "26: eight schedules without entries and one circuit",
+                _ => "26: schedules without entries and one circuit",
+            };
+            let schedules = vec![Schedule { period: 9, entries: Vec::new() }; schedules];
+            let mut plan = Plan { columns, rows, schedules, ..sheet_a() };
+            cases.push(plan.case(name, 26));
+            plan.circuits.clear();
+            cases.push(plan.case("26: schedules without entries and no circuit", 0));
+        }
+    }
+    for circuits in [2, 8, 9, 31, 32, 33, 63, 64] {
+        for schedules in [1, 8] {
+            let mut plan = sixty_four_circuits(schedules);
+            plan.circuits.truncate(circuits);
+            cases.push(plan.case("26: schedules without entries and several circuits", 26));
+        }
+    }
+}
+
+/// Each circuit has one slot, in the schedule that is stated for it.
+fn plan_served_once(circuits: usize, schedules: usize, of: impl Fn(usize) -> usize) -> Plan {
+    let mut plan = sixty_four_circuits(schedules);
+    plan.circuits.truncate(circuits);
+    for circuit in 0..circuits {
+        plan.add_slot(of(circuit), circuit);
+    }
+    plan
+}
+
+/// One slot a circuit, then one circuit without its slot. The numbers of circuits and of
+/// schedules differ in both ways, for whoever takes the one for the other.
+fn served_once(cases: &mut Vec<Case>) {
+    for schedules in 1..=8 {
+        let last = schedules - 1;
+        for (circuits, name) in [
+            (last, "26: fewer circuits than schedules"),
+            (schedules, "26: as many circuits as schedules"),
+            (schedules + 1, "26: more circuits than schedules"),
+            (3 * schedules, "26: more circuits than schedules"),
+            (40, "26: more circuits than schedules"),
+        ] {
+            let served_in = |of: &dyn Fn(usize) -> usize| plan_served_once(circuits, schedules, of);
+            let plans = [
+                ("26: served only in the first schedule", served_in(&|_| 0)),
+                ("26: served only in the last schedule", served_in(&|_| last)),
+                ("26: served in turn", served_in(&|circuit| circuit % schedules)),
+                ("26: served in turn", served_in(&|circuit| last - circuit % schedules)),
+            ];
+            for (served, plan) in plans.iter().filter(|_| circuits > 0) {
+                cases.push(plan.case(served, 0));
+                for circuit in [0, circuits / 2, circuits - 1] {
+                    let mut changed = plan.clone();
+                    changed.unserve(circuit);
+                    cases.push(changed.case(name, 26));
+                }
+            }
+        }
+        // In every schedule but the one that a load puts in force.
+        let mut plan = plan_served_once(if last == 0 { 0 } else { 10 }, schedules, |_| last);
+        for schedule in 1..last {
+            (0..10).for_each(|circuit| plan.add_slot(schedule, circuit));
+        }
+        cases.push(plan.case("26: served in every schedule but the first", 0));
+    }
+}
+
+/// In crowded schedules every entry of a circuit is dropped, and then every one but one.
+fn served_by_one_entry(cases: &mut Vec<Case>) {
+    for plan in subjects(126, 36) {
+        let last = plan.schedules.len() - 1;
+        let middle = plan.schedules.len() / 2;
+        let last_entry = plan.schedules[last].entries.len() - 1;
+        let places = [
+            (0, 0, ["26: first entry of all dropped", "26: first entry of all kept"]),
+            (middle, 1, ["26: entry in the middle dropped", "26: entry in the middle kept"]),
+            (last, last_entry, ["26: last entry of all dropped", "26: last entry of all kept"]),
+        ];
+        for (schedule, position, [dropped, kept]) in places {
+            let entry = plan.schedules[schedule].entries[position];
+            let mut changed = plan.clone();
+            changed.unserve(entry.circuit as usize);
+            cases.push(changed.case(dropped, 26));
+            changed.schedules[schedule].entries.push(entry);
+            changed.schedules[schedule].sort_entries();
+            cases.push(changed.case(kept, 0));
+        }
+
+        let circuits = plan.circuits.len();
+        for (circuit, name) in [
+            (0, "26: the first circuit alone"),
+            (circuits / 2, "26: a middle circuit alone"),
+            (circuits - 1, "26: the last circuit alone"),
+        ] {
+            let mut changed = plan.clone();
+            changed.unserve(circuit);
+            cases.push(changed.case(name, 26));
+        }
+        for several in [0..2, circuits - 2..circuits, 1..circuits, 0..circuits - 1, 0..circuits] {
+            let mut changed = plan.clone();
+            several.for_each(|circuit| changed.unserve(circuit));
+            cases.push(changed.case("26: several circuits at once", 26));
+        }
+        let mut changed = plan.clone();
+        changed.schedules[0].entries.clear();
+        changed.drop_unserved();
+        cases.push(changed.case("26: first schedule without entries", 0));
+    }
+}
+
+fn unserved_among_64(cases: &mut Vec<Case>) {
+    for schedules in [2, 3, 4, 8] {
+        let plan = plan_served_once(64, schedules, |circuit| circuit % schedules);
+        cases.push(plan.case("26: 64 circuits served once", 0));
+        for circuit in [0, 1, 7, 8, 31, 32, 33, 62, 63] {
+            let name = match circuit {
+                63 => "26: circuit 63 alone of 64",
+                _ => "26: one circuit alone of 64",
+            };
+            let mut changed = plan.clone();
+            changed.unserve(circuit);
+            cases.push(changed.case(name, 26));
+            changed.unserve((circuit + 32) % 64);
+            cases.push(changed.case("26: two circuits of 64", 26));
+            let mut changed = sixty_four_circuits(schedules);
+            changed.add_slot(circuit % schedules, circuit);
+            cases.push(changed.case("26: all but one circuit of 64", 26));
+        }
+    }
+    // As many words as before: another circuit of the same two nodes has the slots.
+    let whole = largest(1);
+    let full = Plan { schedules: whole.schedules[..1].to_vec(), ..whole.clone() };
+    for (plan, circuit, other) in
+        [(&whole, 63, 62), (&full, 63, 62), (&full, 32, 33), (&full, 0, 1)]
+    {
+        let mut changed = plan.clone();
+        for entry in changed.schedules.iter_mut().flat_map(|schedule| &mut schedule.entries) {
+            if entry.circuit == circuit {
+                entry.circuit = other;
+            }
+        }
+        cases.push(changed.case("26: full schedules, slots of one circuit are another's", 26));
+        if changed.schedules.len() < 8 {
+            changed.schedules.push(full.schedules[0].clone());
+            cases.push(changed.case("26: full schedules, one circuit served in the last", 0));
+        }
+    }
+}
+
+/// Sheets of any shape whose circuits are not dropped where no entry is theirs.
+fn left_unserved(cases: &mut Vec<Case>) {
+    let mut random = Random::new(127);
+    let mut left = 0;
+    while left < 108 {
+        let (columns, rows) = GRIDS[left % 9];
+        let memory_words = random.choose(&[3, 12, 40, 200, 16_384]);
+        let wish = Wish {
+            columns,
+            rows,
+            memory_words,
+            circuits: random.choose(&[1, 2, 8, 20, 64]),
+            longest_region: memory_words.div_ceil(12),
+            schedules: random.between(1, 8),
+            period: None,
+            entries: random.choose(&[0, 1, 3, 8, 20]),
+            length: random.choose(&[None, Some(2), Some(16)]),
+        };
+        let plan = wished_plan(&mut random, &wish);
+        if !plan.unserved().is_empty() {
+            left += 1;
+            cases.push(plan.case("26: circuits left without an entry", 26));
+        }
+    }
+}
+
+/// A circuit without an entry, and a fault of an earlier number, which is the answer.
+fn earlier_number_and_unserved(cases: &mut Vec<Case>) {
+    let mut random = Random::new(128);
+    for plan in subjects(128, 27) {
+        let last = plan.circuits.len() - 1;
+        for circuit in [0, last / 2, last] {
+            let mut unserved = plan.clone();
+            unserved.unserve(circuit);
+            for schedule in 0..unserved.schedules.len() {
+                if unserved.schedules[schedule].entries.len() < 2 {
+                    continue;
+                }
+                // A clash in every schedule, the other numbers in turn.
+                for number in [11, random.between(2, 10), random.between(4, 10)] {
+                    let mut changed = unserved.clone();
+                    if add_fault(&mut random, &mut changed, number, schedule) {
+                        cases.push(changed.case("26: an earlier number too", number));
+                    }
+                }
             }
         }
     }

@@ -1,7 +1,8 @@
-//! Machines that are wrong about sheets of no words, planted for the self tests: each of them
-//! has to be noticed.
+//! Machines that are wrong about sheets of no words or about circuits that no schedule serves,
+//! planted for the self tests: each of them has to be noticed.
 
 use super::calls::{Calls, Second};
+use super::checker;
 use super::lent::{MOVING_WORDS, SHEET, SHEET_LENGTH, STATE_WORDS};
 use super::sheets::idle_network;
 
@@ -21,17 +22,40 @@ pub enum Wrong {
     MemoryFirst,
     /// A stored length of 0 is taken for the idle network.
     TakesStatesWithoutSheet,
+    /// A sheet with an unserved circuit is loaded.
+    LoadsUnserved,
+    /// Such a sheet has number 11.
+    Answers11For26,
+    /// The state's length is tested before 26.
+    StateBefore26,
+    /// The memory is tested before 26.
+    MemoryBefore26,
+    /// A load that is refused by 26 starts the session anew all the same.
+    WritesBefore26,
+    /// A state whose sheet has an unserved circuit is not sound.
+    RefusesUnservedStates,
+    /// A start on an unserved circuit is refused by 26.
+    RefusesUnservedStarts,
 }
 
 /// What a load can have wrong, and so a session can show.
-pub const WRONG_LOADS: [Wrong; 6] = [
+pub const WRONG_LOADS: [Wrong; 11] = [
     Wrong::RefusesNoWords,
     Wrong::TakesShortSheets,
     Wrong::LongerPeriod,
     Wrong::StoresNoLength,
     Wrong::LeavesMovingWords,
     Wrong::MemoryFirst,
+    Wrong::LoadsUnserved,
+    Wrong::Answers11For26,
+    Wrong::StateBefore26,
+    Wrong::MemoryBefore26,
+    Wrong::WritesBefore26,
 ];
+
+/// What only a state made by hand can show.
+pub const WRONG_ON_STATES: [Wrong; 3] =
+    [Wrong::TakesStatesWithoutSheet, Wrong::RefusesUnservedStates, Wrong::RefusesUnservedStarts];
 
 /// The second machine with one thing wrong.
 pub struct Planted {
@@ -51,7 +75,32 @@ impl Planted {
         if self.wrong == Wrong::TakesStatesWithoutSheet && no_sheet {
             write_sheet(&mut taken, &idle_network().words());
         }
+        if self.wrong == Wrong::RefusesUnservedStates && stored_sheet(state).is_some_and(has_26) {
+            taken[SHEET_LENGTH] = 0;
+        }
         taken
+    }
+
+    /// A load of a sheet whose number is 26.
+    fn load_unserved(&self, sheet: &[u32], state: &mut [u32], memory: &[u32]) -> u32 {
+        let short_state = state.len() < STATE_WORDS;
+        let wrong_memory = memory.len() != (sheet[0] * sheet[1] * sheet[2]) as usize;
+        match self.wrong {
+            Wrong::Answers11For26 => 11,
+            Wrong::StateBefore26 | Wrong::LoadsUnserved if short_state => 12,
+            Wrong::MemoryBefore26 | Wrong::LoadsUnserved if wrong_memory => 14,
+            Wrong::LoadsUnserved => {
+                state[..MOVING_WORDS].fill(0);
+                write_sheet(state, sheet);
+                0
+            }
+            Wrong::WritesBefore26 => {
+                let moving_words = state.len().min(MOVING_WORDS);
+                state[..moving_words].fill(0);
+                26
+            }
+            _ => 26,
+        }
     }
 
     /// A call that changes the state; the sheet in it stays as it was.
@@ -63,6 +112,22 @@ impl Planted {
         }
         number
     }
+}
+
+/// The sheet in a state that is long enough for it.
+fn stored_sheet(state: &[u32]) -> Option<&[u32]> {
+    let length = *state.get(SHEET_LENGTH)? as usize;
+    state.get(SHEET..)?.get(..length)
+}
+
+fn has_26(sheet: &[u32]) -> bool {
+    checker::verdict(sheet) == 26
+}
+
+fn is_served(sheet: &[u32], circuit: u32) -> bool {
+    let sheet = checker::read(sheet).expect("the sheet of a sound state");
+    let mut entries = sheet.schedules.iter().flat_map(|schedule| &schedule.entries);
+    entries.any(|entry| entry.circuit == u64::from(circuit))
 }
 
 fn write_sheet(state: &mut [u32], sheet: &[u32]) {
@@ -81,6 +146,9 @@ impl Calls for Planted {
         }
         let before = state.to_vec();
         let number = self.second.load(sheet, state, memory);
+        if number == 26 {
+            return self.load_unserved(sheet, state, memory);
+        }
         if number == 0 && blank {
             match self.wrong {
                 Wrong::LongerPeriod => write_sheet(state, &[2, 2, 1, 0, 1, 10, 0]),
@@ -93,6 +161,12 @@ impl Calls for Planted {
     }
 
     fn start(&mut self, state: &mut [u32], circuit: u32, read: u32, write: u32, count: u32, kind: u32) -> u32 {
+        if self.wrong == Wrong::RefusesUnservedStarts {
+            let number = self.second.start(&mut state.to_vec(), circuit, read, write, count, kind);
+            if number == 0 && stored_sheet(state).is_some_and(|sheet| !is_served(sheet, circuit)) {
+                return 26;
+            }
+        }
         self.change(state, |second, state| second.start(state, circuit, read, write, count, kind))
     }
 

@@ -8,7 +8,7 @@ use super::coverage::Coverage;
 use super::lent::{Row, PERIOD_NUMBER, STATE_WORDS};
 use super::machine::{Machine, INTERRUPT};
 use super::reckoning::{Calendar, Reckoning, Word};
-use super::sessions::{Generator, Made, NO_WORDS_FROM, SESSIONS};
+use super::sessions::{Generator, Made, NO_WORDS_FROM, SESSIONS, UNSERVED_LOADS};
 use super::sheets::idle_network;
 use super::words::{Lent, Words};
 use std::process::ExitCode;
@@ -20,6 +20,8 @@ const QUESTIONS_EVERY: u32 = 9;
 
 const LOADS_NO_WORDS: &str = "situation: session in which no words are loaded";
 const SESSIONS_REQUIRED_OF_NO_WORDS: u64 = 40;
+/// Of each way to lend slices to a load of a sheet with an unserved circuit.
+const UNSERVED_LOADS_REQUIRED: u64 = 50;
 
 struct Player<'a, C> {
     tested: &'a mut C,
@@ -56,8 +58,11 @@ pub fn play_all(tested: &mut impl Calls) -> ExitCode {
     for difference in differences.iter().take(DIFFERENCES_SHOWN) {
         println!("{difference}");
     }
-    let complete = coverage.has_all(wanted().iter().map(String::as_str))
+    let mut complete = coverage.has_all(wanted().iter().map(String::as_str))
         & coverage.has_at_least(SESSIONS_REQUIRED_OF_NO_WORDS, LOADS_NO_WORDS);
+    for name in UNSERVED_LOADS {
+        complete &= coverage.has_at_least(UNSERVED_LOADS_REQUIRED, &made_name(name));
+    }
     let failed = differences.len() + usize::from(!complete);
     println!("{passed} passed, {failed} failed");
     if failed == 0 {
@@ -67,7 +72,8 @@ pub fn play_all(tested: &mut impl Calls) -> ExitCode {
     }
 }
 
-/// Whether a session in which no words are loaded tells someone from the second machine.
+/// Whether a session in which no words are loaded tells someone from the second machine. Sheets with
+/// an unserved circuit are loaded there too.
 pub fn is_noticed(tested: &mut impl Calls) -> bool {
     (NO_WORDS_FROM..SESSIONS).any(|session| play(tested, &mut Coverage::default(), session).is_err())
 }
@@ -76,7 +82,7 @@ pub fn is_noticed(tested: &mut impl Calls) -> bool {
 /// situations that matter.
 fn wanted() -> Vec<String> {
     let numbers: [(&str, &[u32]); 9] = [
-        ("load", &[0, 1, 2, 3, 4, 5, 6, 7, 8, 9, 10, 11, 12, 14]),
+        ("load", &[0, 1, 2, 3, 4, 5, 6, 7, 8, 9, 10, 11, 12, 14, 26]),
         ("start", &[0, 12, 15, 16, 17]),
         ("store", &[0, 12, 14, 15]),
         ("fetch", &[0, 12, 14, 15]),
@@ -87,7 +93,7 @@ fn wanted() -> Vec<String> {
         ("cycle", &[0, 12, 14]),
     ];
     let idle_numbers: [(&str, &[u32]); 9] = [
-        ("load", &[0, 1, 12, 14]),
+        ("load", &[0, 1, 12, 14, 26]),
         ("start", &[12, 15]),
         ("store", &[0, 12, 14, 15]),
         ("fetch", &[0, 12, 14, 15]),
@@ -107,7 +113,7 @@ fn wanted() -> Vec<String> {
     names.extend([0, 12, 14].map(|number| answer_name(LOAD_OF_NO_WORDS, number)));
     names.extend(IDLE_SITUATIONS.map(idle_name));
     names.extend(SITUATIONS.map(|name| format!("situation: {name}")));
-    names.extend(WAYS.map(|name| format!("made: {name}")));
+    names.extend(WAYS.map(made_name));
     for columns in 2..=4 {
         names.extend((2..=4).map(|rows| grid_name(columns, rows)));
     }
@@ -128,6 +134,10 @@ fn answer_name(call: &str, number: u32) -> String {
     }
 }
 
+fn made_name(name: &str) -> String {
+    format!("made: {name}")
+}
+
 fn grid_name(columns: u64, rows: u64) -> String {
     format!("situation: landing in a grid of {columns} by {rows}")
 }
@@ -140,8 +150,10 @@ const IDLE_SITUATIONS: [&str; 5] = [
     "period number wraps",
 ];
 
-const SITUATIONS: [&str; 27] = [
+const SITUATIONS: [&str; 29] = [
     "state longer than published",
+    "start of a circuit that only another schedule serves",
+    "switch to a schedule that serves a circuit which the one before did not, with words left",
     "start while earlier words of the circuit travel",
     "start in the first cycle of the circuit's slot",
     "start a cycle after its slot began",
@@ -250,7 +262,7 @@ impl<C: Calls> Player<'_, C> {
         if self.idle {
             self.coverage.met(&idle_name(&answer_name(made.call.name(), made.expected)));
         }
-        self.coverage.met(&format!("made: {}", made.name));
+        self.coverage.met(&made_name(made.name));
         if made.lent.state > STATE_WORDS {
             self.coverage.met("situation: state longer than published");
         }
@@ -416,6 +428,9 @@ impl<C: Calls> Player<'_, C> {
             let entries = &before.sheet.sheet.schedules[before.clock.schedule as usize].entries;
             entries.iter().any(|entry| entry.circuit == circuit as u64 && entry.offset == cycle)
         };
+        if !serves(before, circuit) {
+            names.push("start of a circuit that only another schedule serves".to_string());
+        }
         let cycle = u64::from(before.clock.cycle);
         if slot_begins(cycle) {
             names.push("start in the first cycle of the circuit's slot".to_string());
@@ -493,7 +508,18 @@ fn note_period(before: &Machine, after: &Machine, travelling: bool, names: &mut 
         if travelling && before.clock.schedule != after.clock.schedule {
             names.push("words travel over a switch".to_string());
         }
+        let waits = |circuit: usize| after.senders[circuit].left > 0 && !serves(before, circuit);
+        if (0..after.senders.len()).any(|circuit| waits(circuit) && serves(after, circuit)) {
+            let name = "switch to a schedule that serves a circuit which the one before did not, with words left";
+            names.push(name.to_string());
+        }
     }
+}
+
+/// Whether the schedule in force has an entry of the circuit.
+fn serves(machine: &Machine, circuit: usize) -> bool {
+    let entries = &machine.sheet.sheet.schedules[machine.clock.schedule as usize].entries;
+    entries.iter().any(|entry| entry.circuit == circuit as u64)
 }
 
 fn compare_reckoning(machine: &Machine, circuit: usize, reckoning: &Reckoning, memory: &[u32]) -> Result<(), String> {

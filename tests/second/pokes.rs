@@ -1,18 +1,22 @@
 //! Runs states that no calls need lead to: the hand-made ones, and states from the midst of
-//! generated sessions with some words or all registers written over. The second machine says
-//! each answer and every lent word afterwards, refused calls included. What a load of no words
-//! leaves, and what is then answered, stands here besides.
+//! generated sessions with some words or all registers written over, or with the slots of a circuit
+//! dropped from their sheet. The second machine says each answer and every lent word afterwards,
+//! refused calls included. What a load of no words leaves, and what is then answered, stands here
+//! besides, and that a transfer on a circuit that no schedule serves is taken and never sends.
 
 use super::calls::{number_of, Call, Calls, Second};
 use super::coverage::Coverage;
-use super::hand_made::{hand_made_cycles, hand_made_plan, hand_made_states, Expected, HandMade, HandMadeCycle};
+use super::hand_made::{
+    hand_made_cycles, hand_made_plan, hand_made_states, most_words, rest_in, unserved_plans, unserved_states, Expected,
+    HandMade, HandMadeCycle, Unserved,
+};
 use super::lent::{
     Clause, Reader, Row, CYCLE, MOVING_WORDS, ORDER_MARK, ORDER_PERIOD, ORDER_SCHEDULE, PERIOD_NUMBER, ROW_WORDS,
     SCHEDULE, SHEET, SHEET_LENGTH, STATE_WORDS,
 };
 use super::machine::{Cell, Fault, Machine, DATA, EMPTY, HEADER, INTERRUPT, LAST, PORTS};
 use super::sessions::{Generator, NO_WORDS_FROM, SPARE_WORDS};
-use super::sheets::{idle_network, sheet_a, Random};
+use super::sheets::{idle_network, sheet_a, Plan, Random};
 use super::words::{Lent, Words};
 use std::process::ExitCode;
 
@@ -22,7 +26,14 @@ const SNAPSHOTS_OF_NO_WORDS: u64 = 18;
 const POKED_STATES_OF_EACH: usize = 60;
 const FILLED_STATES_OF_EACH: usize = 12;
 const POKED_STATES_REQUIRED: usize = 20_000;
+/// Every so many of the snapshots also have a circuit that is served no longer.
+const UNSERVED_EVERY: u64 = 4;
+const UNSERVED_STATES_OF_EACH: usize = 6;
 const CYCLES_OF_HAND_MADE: usize = 12;
+/// Some periods of most sheets.
+const CYCLES_OF_UNSERVED: u32 = 40;
+const UNSERVED_SOUND: &str = "unserved: sound state";
+const UNSERVED_SOUND_REQUIRED: u64 = 50;
 const DIFFERENCES_SHOWN: usize = 10;
 
 struct Runner<'a, C> {
@@ -41,6 +52,8 @@ pub fn run_all(tested: &mut impl Calls) -> ExitCode {
     let mut runner = Runner::new(tested);
     runner.run_hand_made(&hand_made_states());
     runner.run_loads_of_no_words();
+    unserved_states().iter().for_each(|state| runner.run_unserved(state));
+    unserved_plans().iter().for_each(|plan| runner.run_unserved_transfers(plan));
     runner.run_hand_made_cycles();
     runner.run_example_m();
     let poked = runner.run_poked();
@@ -48,7 +61,9 @@ pub fn run_all(tested: &mut impl Calls) -> ExitCode {
     for difference in runner.differences.iter().take(DIFFERENCES_SHOWN) {
         println!("{difference}");
     }
-    let complete = runner.coverage.has_all(wanted().iter().map(String::as_str)) && poked >= POKED_STATES_REQUIRED;
+    let complete = runner.coverage.has_all(wanted().iter().map(String::as_str))
+        & runner.coverage.has_at_least(UNSERVED_SOUND_REQUIRED, UNSERVED_SOUND)
+        && poked >= POKED_STATES_REQUIRED;
     let failed = runner.differences.len() + usize::from(!complete);
     println!("{} passed, {failed} failed", runner.passed);
     if failed == 0 {
@@ -58,14 +73,23 @@ pub fn run_all(tested: &mut impl Calls) -> ExitCode {
     }
 }
 
-/// Whether a load of no words or a state without a sheet tells someone from the second machine.
+/// Whether a load of no words, a state without a sheet or one with an unserved circuit tells someone
+/// from the second machine.
 pub fn is_noticed(tested: &mut impl Calls) -> bool {
     let mut runner = Runner::new(tested);
     let mut states = hand_made_states();
     states.retain(|made| made.expected == Expected::Unsound(Clause::NoSheet));
     runner.run_hand_made(&states);
     runner.run_loads_of_no_words();
-    !runner.differences.is_empty()
+    let mut noticed = !runner.differences.is_empty();
+    for state in unserved_states() {
+        if noticed {
+            break;
+        }
+        runner.run_unserved(&state);
+        noticed = !runner.differences.is_empty();
+    }
+    noticed
 }
 
 /// Every clause and every cause of number 20, made by hand and come upon by chance. By chance
@@ -113,6 +137,12 @@ fn wanted() -> Vec<String> {
     names.push("filled: cycle carried out".to_string());
     names.extend((1..=11).map(|number| format!("hand-made: 13 by {:?} alone", Clause::Sheet(number))));
     names.extend(calls_of_idle_network().iter().map(no_sheet_name));
+    names.extend(calls_of_idle_network().iter().map(|call| answer_name("unserved", call, 0)));
+    names.extend([0, 26].map(|number| answer_name("unserved", &Call::Load { sheet: Vec::new() }, number)));
+    for group in ["unserved", "midst, unserved"] {
+        names.push(format!("{group}: cycle carried out"));
+    }
+    names.push("midst, unserved: load refused".to_string());
     names
 }
 
@@ -131,7 +161,55 @@ fn calls_of_idle_network() -> [Call; 8] {
 }
 
 fn no_sheet_name(call: &Call) -> String {
-    format!("no sheet: {}, 13", call.name())
+    answer_name("no sheet", call, 13)
+}
+
+fn answer_name(group: &str, call: &Call, number: u32) -> String {
+    format!("{group}: {}, {number}", call.name())
+}
+
+fn calls_of_hand_made() -> Vec<Call> {
+    let mut calls = vec![
+        Call::Load { sheet: hand_made_plan().words() },
+        Call::Start { circuit: 0, read: 0, write: 0, count: 1, kind: INTERRUPT },
+        Call::Store { node: 1, address: 7, word: 5 },
+        Call::Fetch { node: 1, address: 7 },
+        Call::WordsLeft { circuit: 1 },
+        Call::PeriodNumber,
+        Call::Order { schedule: 1, period_number: 4 },
+        Call::Cycle,
+    ];
+    for node in 0..4 {
+        calls.extend((0..5).map(|field| Call::WhatLanded { node, field }));
+    }
+    calls
+}
+
+/// Calls that concern the unserved circuits of a plan, their nodes and regions, and the others.
+fn calls_of_unserved(plan: &Plan) -> Vec<Call> {
+    let unserved = plan.unserved();
+    let last_schedule = plan.schedules.len() as u32 - 1;
+    let mut calls = vec![Call::PeriodNumber, Call::Cycle];
+    for schedule in [0, last_schedule, last_schedule + 1] {
+        calls.extend([3, 4].map(|period_number| Call::Order { schedule, period_number }));
+    }
+    let mut numbers = vec![0, unserved[0], unserved[unserved.len() - 1], plan.circuits.len() - 1];
+    numbers.sort();
+    numbers.dedup();
+    for number in numbers {
+        let (circuit, record) = (number as u32, plan.circuits[number]);
+        let (read, write, count) = (record.read_offset, record.receive_offset, most_words(plan, number));
+        calls.extend([
+            Call::Start { circuit, read, write, count, kind: DATA },
+            Call::Start { circuit, read, write, count: 1, kind: INTERRUPT },
+            Call::Start { circuit, read, write, count: count + 1, kind: DATA },
+            Call::WordsLeft { circuit },
+            Call::Store { node: record.source, address: read, word: 5 },
+            Call::Fetch { node: record.destination, address: write },
+        ]);
+        calls.extend((0..5).map(|field| Call::WhatLanded { node: record.destination, field }));
+    }
+    calls
 }
 
 impl<C: Calls> Runner<'_, C> {
@@ -167,22 +245,117 @@ impl<C: Calls> Runner<'_, C> {
         }
     }
 
+    /// Words on which the second machine carried out a load of the plan.
+    fn loaded(&mut self, plan: &Plan) -> Words {
+        let mut words = unloaded_for(plan);
+        assert_eq!(self.second.load(&plan.words(), &mut words.state, &words.memory), 0, "the plan passes");
+        words
+    }
+
     fn run_hand_made(&mut self, states: &[HandMade]) {
-        let plan = hand_made_plan();
-        let mut random = Random::new(13);
-        let memory: Vec<u32> = (0..plan.nodes() * plan.memory_words).map(|_| random.word()).collect();
-        let mut state = vec![0xA5A5_A5A5; STATE_WORDS + SPARE_WORDS];
-        assert_eq!(self.second.load(&plan.words(), &mut state, &memory), 0, "the plan passes");
-        let loaded = Words { state, memory };
+        let loaded = self.loaded(&hand_made_plan());
+        let calls = calls_of_hand_made();
         for made in states {
             let words = written_over(&loaded, &made.pokes);
             let result = self
-                .judge(made, &words)
-                .and_then(|()| self.call_all(made, &words))
+                .judge("hand-made", made, &words)
+                .and_then(|()| self.call_all("hand-made", made, &words, &calls))
                 .and_then(|()| self.call_on_short_slices(made, &words))
                 .and_then(|()| self.call_without_sheet(made, &words));
             self.count(result, || format!("{} {:?}", made.name, &made.pokes[..made.pokes.len().min(20)]));
         }
+    }
+
+    /// A state whose sheet has an unserved circuit: sound or not as if the sheet passed, but no load takes it.
+    fn run_unserved(&mut self, Unserved { plan, made }: &Unserved) {
+        let words = written_over(&loaded_by(&plan.words(), &unloaded_for(plan)), &made.pokes);
+        let result = self
+            .judge("unserved", made, &words)
+            .and_then(|()| self.call_all("unserved", made, &words, &calls_of_unserved(plan)))
+            .and_then(|()| self.call_on_short_slices(made, &words))
+            .and_then(|()| self.load_unserved(plan, made, &words));
+        if result.is_ok() && !matches!(made.expected, Expected::Unsound(_)) {
+            self.coverage.met(UNSERVED_SOUND);
+        }
+        self.count(result, || format!("{} {:?}", made.name, &made.pokes[..made.pokes.len().min(20)]));
+    }
+
+    /// A load of the state's own sheet is refused and writes nothing, on slices that are right or wrong.
+    fn load_unserved(&mut self, plan: &Plan, made: &HandMade, words: &Words) -> Result<(), String> {
+        let expected = match made.expected {
+            Expected::Unsound(Clause::Sheet(number)) => number,
+            _ => 26,
+        };
+        let call = Call::Load { sheet: plan.words() };
+        let all = words.all();
+        for state in [all.state, STATE_WORDS - 1, 0] {
+            for memory in [all.memory, all.memory - 1] {
+                let lent = Lent { state, memory };
+                let (mut actual, mut predicted) = (words.clone(), words.clone());
+                let number = self.compare(&call, lent, &mut actual, &mut predicted)?;
+                if number != expected {
+                    return Err(format!("load, {lent:?}: number {number}, expected {expected}"));
+                }
+                actual.compare(words).map_err(|what| format!("load, {lent:?}, as it was before: {what}"))?;
+                self.coverage.met(&answer_name("unserved", &call, number));
+            }
+        }
+        Ok(())
+    }
+
+    fn run_unserved_transfers(&mut self, plan: &Plan) {
+        let result = self.start_unserved(plan);
+        self.count(result, || format!("transfers on the unserved circuits {:?}", plan.unserved()));
+    }
+
+    /// A load is refused on words of any content. On a state made by hand a transfer on each unserved circuit
+    /// is taken once, and in all cycles only the clock moves; a load without these circuits is carried out.
+    fn start_unserved(&mut self, plan: &Plan) -> Result<(), String> {
+        let unloaded = unloaded_for(plan);
+        let (mut actual, mut predicted) = (unloaded.clone(), unloaded.clone());
+        let load = Call::Load { sheet: plan.words() };
+        let number = self.compare(&load, unloaded.all(), &mut actual, &mut predicted)?;
+        if number != 26 {
+            return Err(format!("load: number {number}, expected 26"));
+        }
+        actual.compare(&unloaded).map_err(|what| format!("load, as it was before: {what}"))?;
+
+        let mut actual = loaded_by(&plan.words(), &unloaded);
+        let mut predicted = actual.clone();
+        let mut by_hand = actual.clone();
+        let lent = actual.all();
+        for number in plan.unserved() {
+            let (circuit, record, count) = (number as u32, plan.circuits[number], most_words(plan, number));
+            let (read, write) = (record.read_offset, record.receive_offset);
+            for expected in [0, 17] {
+                let start = Call::Start { circuit, read, write, count, kind: DATA };
+                let number = self.compare(&start, lent, &mut actual, &mut predicted)?;
+                if number != expected {
+                    return Err(format!("{start:?}: number {number}, expected {expected}"));
+                }
+            }
+            by_hand = written_over(&by_hand, &rest_in(plan, number, count, 0));
+        }
+        let period = plan.schedules[0].period;
+        for cycles in 1..=CYCLES_OF_UNSERVED {
+            let number = self.compare(&Call::Cycle, lent, &mut actual, &mut predicted)?;
+            let clock = [(Row::Clock.at(CYCLE), cycles % period), (Row::Clock.at(PERIOD_NUMBER), cycles / period)];
+            let by_hand = written_over(&by_hand, &clock);
+            actual.compare(&by_hand).map_err(|what| format!("cycle {cycles}, number {number}, by hand: {what}"))?;
+        }
+        for number in plan.unserved() {
+            let answer = self.tested.words_left(&actual.state, number as u32);
+            if answer != u64::from(most_words(plan, number)) {
+                return Err(format!("words left of circuit {number}: {answer:#x}"));
+            }
+        }
+        let mut served = plan.clone();
+        served.drop_unserved();
+        let by_hand = loaded_by(&served.words(), &actual);
+        let load = Call::Load { sheet: served.words() };
+        let number = self.compare(&load, lent, &mut actual, &mut predicted)?;
+        self.coverage.met(&answer_name("unserved", &load, number));
+        actual.compare(&by_hand).map_err(|what| format!("load, number {number}, by hand: {what}"))
     }
 
     /// Where the state has no sheet: every call that tests a state is refused and writes nothing, on
@@ -317,11 +490,7 @@ impl<C: Calls> Runner<'_, C> {
 
     /// The number and every word afterwards that are expected by hand.
     fn run_hand_made_cycle(&mut self, made: &HandMadeCycle) -> Result<(), String> {
-        let mut random = Random::new(17);
-        let memory: Vec<u32> = (0..made.plan.nodes() * made.plan.memory_words).map(|_| random.word()).collect();
-        let mut state = vec![0xA5A5_A5A5; STATE_WORDS + SPARE_WORDS];
-        assert_eq!(self.second.load(&made.plan.words(), &mut state, &memory), 0, "the plan passes");
-        let loaded = Words { state, memory };
+        let loaded = self.loaded(&made.plan);
         let mut actual = written_over(&loaded, &made.pokes);
         let mut expected = actual.clone();
         let number = self.compare(&Call::Cycle, loaded.all(), &mut actual, &mut expected)?;
@@ -360,9 +529,9 @@ impl<C: Calls> Runner<'_, C> {
     }
 
     /// The number that is expected by hand, of the second machine and of the tested calls.
-    fn judge(&mut self, made: &HandMade, words: &Words) -> Result<(), String> {
+    fn judge(&mut self, group: &str, made: &HandMade, words: &Words) -> Result<(), String> {
         let read = self.reader.machine(&words.state);
-        self.coverage.met(&format!("hand-made: {}", met_name(&read)));
+        self.coverage.met(&format!("{group}: {}", met_name(&read)));
         let right = match (made.expected, &read) {
             (Expected::Unsound(clause), Err(broken)) => *broken == [clause],
             (Expected::Faulty(fault), Ok(machine)) => machine.faults() == [fault],
@@ -391,27 +560,15 @@ impl<C: Calls> Runner<'_, C> {
 
     /// Each call on the state as it is: all but the load have 13 just when it is unsound. Then cycles
     /// one behind the other.
-    fn call_all(&mut self, made: &HandMade, words: &Words) -> Result<(), String> {
-        let mut calls = vec![
-            Call::Load { sheet: hand_made_plan().words() },
-            Call::Start { circuit: 0, read: 0, write: 0, count: 1, kind: INTERRUPT },
-            Call::Store { node: 1, address: 7, word: 5 },
-            Call::Fetch { node: 1, address: 7 },
-            Call::WordsLeft { circuit: 1 },
-            Call::PeriodNumber,
-            Call::Order { schedule: 1, period_number: 4 },
-            Call::Cycle,
-        ];
-        for node in 0..4 {
-            calls.extend((0..5).map(|field| Call::WhatLanded { node, field }));
-        }
-        for call in &calls {
+    fn call_all(&mut self, group: &str, made: &HandMade, words: &Words, calls: &[Call]) -> Result<(), String> {
+        for call in calls {
             let (mut actual, mut expected) = (words.clone(), words.clone());
             let number = self.compare(call, words.all(), &mut actual, &mut expected)?;
             let unsound = matches!(made.expected, Expected::Unsound(_)) && !matches!(call, Call::Load { .. });
             if (number == 13) != unsound {
                 return Err(format!("{}: number {number} by a state for {:?}", call.start_of_text(), made.expected));
             }
+            self.coverage.met(&answer_name(group, call, number));
         }
         let (mut actual, mut expected) = (words.clone(), words.clone());
         for _ in 0..CYCLES_OF_HAND_MADE {
@@ -444,7 +601,7 @@ impl<C: Calls> Runner<'_, C> {
     fn run_poked(&mut self) -> usize {
         let mut poked = 0;
         for session in (0..SNAPSHOTS).chain(NO_WORDS_FROM..NO_WORDS_FROM + SNAPSHOTS_OF_NO_WORDS) {
-            let (words, machine) = snapshot(session);
+            let (words, machine, plan) = snapshot(session);
             let mut random = Random::new(0x0909_0000 + session);
             for _ in 0..POKED_STATES_OF_EACH {
                 let mut pokes = Vec::new();
@@ -460,8 +617,28 @@ impl<C: Calls> Runner<'_, C> {
                 let result = self.run_poked_state("filled", &mut random, &words, &machine, &pokes);
                 self.count(result, || format!("session {session}, registers filled, {turn}"));
             }
+            if session % UNSERVED_EVERY == 0 && !plan.circuits.is_empty() {
+                let result = self.run_midst_unserved(&mut random, &words, plan);
+                self.count(result, || format!("session {session} with an unserved circuit"));
+            }
         }
         poked
+    }
+
+    /// A state from the midst of a session whose sheet has lost the slots of a circuit. It is sound as before,
+    /// whatever is travelling or left.
+    fn run_midst_unserved(&mut self, random: &mut Random, words: &Words, mut plan: Plan) -> Result<(), String> {
+        plan.unserve(random.position(plan.circuits.len()));
+        let sheet = plan.words();
+        let mut words = words.clone();
+        words.state[SHEET_LENGTH] = sheet.len() as u32;
+        words.state[SHEET..SHEET + sheet.len()].copy_from_slice(&sheet);
+        let machine = self.reader.machine(&words.state).map_err(|broken| format!("not sound: {broken:?}"))?;
+        for turn in 0..UNSERVED_STATES_OF_EACH {
+            let pokes = if turn % 2 == 0 { Vec::new() } else { some_rest(random, &machine) };
+            self.run_poked_state("midst, unserved", random, &words, &machine, &pokes)?;
+        }
+        Ok(())
     }
 
     fn run_poked_state(
@@ -499,12 +676,23 @@ fn written_over(words: &Words, pokes: &[(usize, u32)]) -> Words {
 
 /// What a load of no words leaves.
 fn loaded_by_no_words(words: &Words) -> Words {
-    let idle = idle_network().words();
+    loaded_by(&idle_network().words(), words)
+}
+
+/// What a load of a sheet leaves, or would leave if it took the sheet.
+fn loaded_by(sheet: &[u32], words: &Words) -> Words {
     let mut loaded = words.clone();
     loaded.state[..MOVING_WORDS].fill(0);
-    loaded.state[SHEET_LENGTH] = idle.len() as u32;
-    loaded.state[SHEET..SHEET + idle.len()].copy_from_slice(&idle);
+    loaded.state[SHEET_LENGTH] = sheet.len() as u32;
+    loaded.state[SHEET..SHEET + sheet.len()].copy_from_slice(sheet);
     loaded
+}
+
+/// Words of any content, of the lengths that a load of the plan asks for.
+fn unloaded_for(plan: &Plan) -> Words {
+    let mut random = Random::new(13);
+    let memory = (0..plan.nodes() * plan.memory_words).map(|_| random.word()).collect();
+    Words { state: vec![0xA5A5_A5A5; STATE_WORDS + SPARE_WORDS], memory }
 }
 
 /// What a state meets in a cycle.
@@ -520,8 +708,8 @@ fn met_name(read: &Result<Machine, Vec<Clause>>) -> String {
     }
 }
 
-/// How the words of a generated session stand after some of its calls.
-fn snapshot(session: u64) -> (Words, Machine) {
+/// How the words of a generated session stand after some of its calls, and the plan that is loaded then.
+fn snapshot(session: u64) -> (Words, Machine, Plan) {
     let mut generator = Generator::new(session);
     let mut words = generator.lent_words();
     let mut second = Second::living();
@@ -532,7 +720,7 @@ fn snapshot(session: u64) -> (Words, Machine) {
         words.make(&made.call, made.lent, &mut second);
     }
     words.memory.truncate(second.view().sheet.all_memory_words());
-    (words, second.view().clone())
+    (words, second.view().clone(), generator.plan().clone())
 }
 
 /// A register written over, or some that stand beside each other, with values that are mostly

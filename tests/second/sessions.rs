@@ -3,22 +3,24 @@
 //! that most of them are carried out and every refusal is met too.
 //!
 //! Covered: all nine grids; memories of 1 to 16,384 words; no circuit to 64; one to eight
-//! schedules, mostly crowded, of periods 9 to 48 that differ, some up to 1,024; starts that
-//! are right, too early (17) and wrong in each way of 15 and 16; starts again while words
-//! travel; stores and fetches anywhere, mostly in regions in use; orders 3 and more periods
-//! ahead, 2^31 − 1 ahead, and refused in each way of 15, 18, 19; loads in the midst, carried
-//! out and refused with each of 1 to 12 and 14; states and memories lent too short or too
-//! long; the idle network, loaded by no words at first or in the midst; period numbers that
-//! wrap, for which the first period's number is written into the state directly after the
-//! load, the only word that no call has written.
-//! Not covered: other states that no calls lead to (tests/states.rs has those), and switches
-//! between schedules of more than some hundred cycles, which three periods would make long.
+//! schedules, mostly crowded, of periods 9 to 48 that differ, some up to 1,024; circuits that
+//! every schedule serves and circuits that only one does; starts that are right, too early (17)
+//! and wrong in each way of 15 and 16; starts again while words travel; stores and fetches
+//! anywhere, mostly in regions in use; orders 3 and more periods ahead, 2^31 − 1 ahead, and
+//! refused in each way of 15, 18, 19; loads in the midst, carried out and refused with each of
+//! 1 to 12, 14 and 26; states and memories lent too short or too long; the idle network, loaded
+//! by no words at first or in the midst; period numbers that wrap, for which the first period's
+//! number is written into the state directly after the load, the only word that no call has
+//! written.
+//! Not covered: other states that no calls lead to (tests/states.rs has those, with unserved
+//! circuits too), and switches between schedules of more than some hundred cycles, which three
+//! periods would make long.
 
 use super::calls::Call;
 use super::lent::{MOVING_WORDS, STATE_WORDS};
 use super::machine::{Machine, DATA, INTERRUPT};
 use super::near_misses::{add_fault, GRIDS};
-use super::sheets::{idle_network, largest, passing_plan, some_schedule, Plan, Random, Wish};
+use super::sheets::{idle_network, largest, serve_unserved, some_schedule, wished_plan, Plan, Random, Wish};
 use super::words::{Lent, Words};
 
 /// Words behind the published length of a state and behind a memory.
@@ -32,6 +34,14 @@ pub const NO_WORDS_FROM: u64 = LARGEST_FROM + 2;
 const NO_WORDS_LATER_FROM: u64 = NO_WORDS_FROM + 72;
 /// All sessions.
 pub const SESSIONS: u64 = NO_WORDS_LATER_FROM + 24;
+
+/// The loads of a sheet with an unserved circuit, by the slices lent.
+pub const UNSERVED_LOADS: [&str; 4] = [
+    "load: unserved circuit",
+    "load: unserved circuit, short state",
+    "load: unserved circuit, memory of another length",
+    "load: unserved circuit, short state and memory of another length",
+];
 
 /// A call with the way it was made and the number that this calls for.
 pub struct Made {
@@ -114,7 +124,8 @@ impl Generator {
         self.made("first load", self.load(), 0)
     }
 
-    fn plan(&self) -> &Plan {
+    /// The plan that is loaded.
+    pub fn plan(&self) -> &Plan {
         &self.plans[self.current]
     }
 
@@ -392,8 +403,35 @@ impl Generator {
         self.made(name, Call::Order { schedule, period_number: now.wrapping_add(ahead) }, expected)
     }
 
+    /// A load of a sheet with a circuit that no schedule serves, on right slices or on wrong ones:
+    /// the sheet is tested before them. Nothing where no plan has a circuit.
+    fn unserved_load(&mut self) -> Option<Made> {
+        let with_circuits = |&plan: &usize| !self.plans[plan].circuits.is_empty();
+        let plans: Vec<usize> = (0..self.plans.len()).filter(with_circuits).collect();
+        if plans.is_empty() {
+            return None;
+        }
+        let mut plan = self.plans[self.random.choose(&plans)].clone();
+        plan.unserve(self.random.position(plan.circuits.len()));
+        let way = self.random.position(4);
+        let mut made = self.made(UNSERVED_LOADS[way], Call::Load { sheet: plan.words() }, 26);
+        made.lent.memory = memory_words_of(&plan);
+        if way == 1 || way == 3 {
+            made.lent.state = self.short_state();
+        }
+        if way >= 2 {
+            made.lent.memory = self.wrong_memory(made.lent.memory);
+        }
+        Some(made)
+    }
+
     /// A load of a sheet with one fault, of each number in turn by chance.
     fn refused_load(&mut self) -> Made {
+        if self.random.once_in(8) {
+            if let Some(made) = self.unserved_load() {
+                return made;
+            }
+        }
         let mut plan = self.random.choose(&[0, 1]);
         let rich =
             |plan: &Plan| plan.circuits.len() > 1 && plan.schedules.iter().all(|schedule| schedule.entries.len() > 1);
@@ -505,7 +543,7 @@ fn plan_of_style(random: &mut Random, columns: u32, rows: u32, style: u64) -> Pl
         21 => (usual, some, 9, 9),
         _ => (usual, some, 9, 32),
     };
-    let mut plan = passing_plan(random, &wish);
+    let mut plan = wished_plan(random, &wish);
     for _ in 0..schedules {
         let period = random.between(shortest, longest);
         // Now and then a schedule in which nothing is sent.
@@ -513,5 +551,7 @@ fn plan_of_style(random: &mut Random, columns: u32, rows: u32, style: u64) -> Pl
         let schedule = some_schedule(random, &plan, period, entries, wish.length);
         plan.schedules.push(schedule);
     }
+    serve_unserved(random, &mut plan);
+    plan.drop_unserved();
     plan
 }

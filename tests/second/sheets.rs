@@ -138,6 +138,49 @@ impl Plan {
         self.circuits.sort_by_key(|circuit| (circuit.destination, circuit.receive_offset));
     }
 
+    /// The circuits that have no entry in any schedule (document 02, L8).
+    pub fn unserved(&self) -> Vec<usize> {
+        let serves = |schedule: &Schedule, circuit: usize| {
+            schedule.entries.iter().any(|entry| entry.circuit as usize == circuit)
+        };
+        (0..self.circuits.len())
+            .filter(|&circuit| !self.schedules.iter().any(|schedule| serves(schedule, circuit)))
+            .collect()
+    }
+
+    /// Drops the circuits that have no entry; later ones move up, in the entries too.
+    pub fn drop_unserved(&mut self) {
+        for circuit in self.unserved().into_iter().rev() {
+            self.circuits.remove(circuit);
+            for entry in self.schedules.iter_mut().flat_map(|schedule| &mut schedule.entries) {
+                if entry.circuit as usize > circuit {
+                    entry.circuit -= 1;
+                }
+            }
+        }
+    }
+
+    /// Drops every entry of a circuit.
+    pub fn unserve(&mut self, circuit: usize) {
+        for schedule in &mut self.schedules {
+            schedule.entries.retain(|entry| entry.circuit as usize != circuit);
+        }
+    }
+
+    /// Gives a circuit a slot of two words, which begins once all other slots of the schedule have
+    /// left the network. The period grows where it has to; 1,024 cycles hold 60 such slots.
+    pub fn add_slot(&mut self, schedule: usize, circuit: usize) {
+        let Circuit { source, destination, .. } = self.circuits[circuit];
+        let route = route_of(&all_shortest_paths(self, source, destination)[0]);
+        let entries = &self.schedules[schedule].entries;
+        let offset = entries.iter().map(|entry| self.reach(entry) + 4).max().unwrap_or(0);
+        let entry = Entry { offset, length: 2, circuit: circuit as u32, route };
+        let needed = self.reach(&entry) - 2;
+        let schedule = &mut self.schedules[schedule];
+        schedule.period = schedule.period.max(needed);
+        schedule.entries.push(entry);
+    }
+
     pub fn hops(&self, entry: &Entry) -> u32 {
         let circuit = &self.circuits[entry.circuit as usize];
         let (columns, rows) = shortest_runs(self, circuit.source, circuit.destination);
@@ -322,11 +365,16 @@ impl Occupied {
         }
     }
 
-    fn free(&self, list: &[Use], length: u32) -> bool {
-        list.iter().all(|used| {
+    /// Takes a slot where all of it is free; whether it was.
+    fn take(&mut self, list: &[Use], length: u32) -> bool {
+        let free = list.iter().all(|used| {
             let start = used.wire * CYCLES + used.cycle as usize;
             !self.cells[start..start + length as usize].contains(&true)
-        })
+        });
+        if free {
+            self.mark(list, length);
+        }
+        free
     }
 
     /// The use and the cycle of every clash with what is there already.
@@ -454,9 +502,7 @@ pub fn some_schedule(random: &mut Random, plan: &Plan, period: u32, aim: u32, le
             }
             _ => random.between(0, last),
         };
-        let list = uses(plan, source, &path, offset);
-        if occupied.free(&list, length) {
-            occupied.mark(&list, length);
+        if occupied.take(&uses(plan, source, &path, offset), length) {
             schedule.entries.push(Entry { offset, length, circuit: circuit as u32, route: route_of(&path) });
         }
     }
@@ -474,7 +520,39 @@ pub fn some_period(random: &mut Random) -> u32 {
     }
 }
 
-pub fn passing_plan(random: &mut Random, wish: &Wish) -> Plan {
+/// Gives circuits without an entry a slot of two words, where a place for it is soon found. Schedules
+/// without entries stay so.
+pub fn serve_unserved(random: &mut Random, plan: &mut Plan) {
+    let unserved = plan.unserved();
+    let in_use = |&schedule: &usize| !plan.schedules[schedule].entries.is_empty();
+    let schedules: Vec<usize> = (0..plan.schedules.len()).filter(in_use).collect();
+    if unserved.is_empty() || schedules.is_empty() {
+        return;
+    }
+    let length = 2;
+    let mut occupied: Vec<Occupied> = plan.schedules.iter().map(|schedule| Occupied::of(plan, schedule)).collect();
+    for circuit in unserved {
+        let Circuit { source, destination, .. } = plan.circuits[circuit];
+        for _ in 0..40 {
+            let schedule = random.choose(&schedules);
+            let path = shortest_path(random, plan, source, destination);
+            let Schedule { period, entries } = &plan.schedules[schedule];
+            let Some(last) = last_offset(*period, length, path.len() as u32).filter(|_| entries.len() < 256) else {
+                continue;
+            };
+            let offset = random.between(0, last);
+            if occupied[schedule].take(&uses(plan, source, &path, offset), length) {
+                let entry = Entry { offset, length, circuit: circuit as u32, route: route_of(&path) };
+                plan.schedules[schedule].entries.push(entry);
+                break;
+            }
+        }
+    }
+    plan.schedules.iter_mut().for_each(Schedule::sort_entries);
+}
+
+/// A sheet that passes 1 to 11; circuits may be without an entry.
+pub fn wished_plan(random: &mut Random, wish: &Wish) -> Plan {
     let mut plan = Plan {
         columns: wish.columns,
         rows: wish.rows,
@@ -488,6 +566,13 @@ pub fn passing_plan(random: &mut Random, wish: &Wish) -> Plan {
         let schedule = some_schedule(random, &plan, period, wish.entries, wish.length);
         plan.schedules.push(schedule);
     }
+    plan
+}
+
+/// The same without the circuits that have no entry.
+pub fn passing_plan(random: &mut Random, wish: &Wish) -> Plan {
+    let mut plan = wished_plan(random, wish);
+    plan.drop_unserved();
     plan
 }
 
@@ -547,7 +632,17 @@ fn passing_plans_of_grid(random: &mut Random, columns: u32, rows: u32) -> Vec<Pl
             entries,
             length: random.choose(&[None, None, None, Some(2), Some(16)]),
         };
-        plans.push(passing_plan(random, &wish));
+        let mut plan = wished_plan(random, &wish);
+        // One schedule with entries, or no circuit would be left.
+        if entries == 0 {
+            let chosen = random.position(plan.schedules.len());
+            plan.schedules[chosen] = some_schedule(random, &plan, plan.schedules[chosen].period, 12, wish.length);
+        }
+        if turn % 2 == 1 {
+            serve_unserved(random, &mut plan);
+        }
+        plan.drop_unserved();
+        plans.push(plan);
     }
     plans
 }
@@ -561,6 +656,28 @@ pub fn passing_plans() -> Vec<Plan> {
         }
     }
     plans
+}
+
+/// 64 circuits in memories of sixteen words, and schedules without entries.
+pub fn sixty_four_circuits(schedules: usize) -> Plan {
+    let circuit = |number: u32| {
+        let (destination, turn) = (number / 4, number % 4);
+        Circuit {
+            source: (destination + 4 * turn + 1) % 16,
+            destination,
+            read_offset: 8,
+            read_length: 8,
+            receive_offset: 2 * turn,
+            receive_length: 2,
+        }
+    };
+    Plan {
+        columns: 4,
+        rows: 4,
+        memory_words: 16,
+        circuits: (0..64).map(circuit).collect(),
+        schedules: vec![Schedule { period: 9, entries: Vec::new() }; schedules],
+    }
 }
 
 /// The largest sheet: 64 circuits, eight schedules of 256 entries, period 1,024. Every
@@ -606,9 +723,7 @@ fn full_schedule(random: &mut Random, plan: &Plan) -> Schedule {
             0..=7 => random.choose(&[0, last]),
             _ => random.between(0, last),
         };
-        let list = uses(plan, source, &path, offset);
-        if occupied.free(&list, length) {
-            occupied.mark(&list, length);
+        if occupied.take(&uses(plan, source, &path, offset), length) {
             let route = route_of(&path);
             schedule.entries.push(Entry { offset, length, circuit: circuit as u32, route });
         }

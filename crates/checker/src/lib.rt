@@ -3,7 +3,7 @@ ghost use mathlib.Core.Path.{_≡_};
 ghost use mathlib.Core.Bool.{true};
 ghost use Prim.Native.Nat.{_<_};
 ghost use Rattle.sheet.specs.Sheet.{blankSheet, meant, schedules};
-ghost use Rattle.sheet.specs.Rules.{frameRules, circuitRules, entryRules, firstBroken, rule4, sheetNumber, verdict as sheetVerdict};
+ghost use Rattle.sheet.specs.Rules.{frameRules, circuitRules, entryRules, firstBroken, rule4, sheetNumber, checkNumber, verdict as sheetVerdict};
 ghost use Rattle.sheet.specs.Inner.Passed.{Framed};
 ghost use Rattle.checker.specs.Answers.{outcomeOf, entriesNumber, entriesPart};
 
@@ -70,7 +70,7 @@ fn schedules_number(z: &[u32]) -> u32
     7
 }
 
-// The first number that applies to a sheet's words as they stand, which is how a state holds them, or 0.
+// The first of the numbers 1 to 11 that applies to a sheet's words as they stand, which is how a state holds them, or 0.
 pub fn rules_number(z: &[u32]) -> u32
     ensures { λ r. ⌜ r ≡ sheetVerdict (now (z .entry)) ⌝ }
 {
@@ -102,11 +102,21 @@ pub fn sheet_number(z: &[u32]) -> u32
     0
 }
 
-// The number of the verdict upon a sheet: 0, or the first number that applies.
+// The number of the verdict upon a sheet: 0, or the first of 1 to 11 and 26 that applies to what the words stand for.
 pub fn verdict_number(z: &[u32]) -> u32
-    ensures { λ r. ⌜ r ≡ sheetNumber (now (z .entry)) ⌝ }
+    ensures { λ r. ⌜ r ≡ checkNumber (now (z .entry)) ⌝ }
 {
-    sheet_number(z)
+    if z.len() == 0 {
+        return 0;
+    }
+    let number = rules_number(z);
+    if number != 0 {
+        return number;
+    }
+    if sheet::keeps_rule26(z) {
+        return 0;
+    }
+    26
 }
 
 // The outcome of a number.
@@ -121,7 +131,7 @@ fn outcome_of(number: u32) -> Outcome
 
 // The verdict upon a sheet.
 pub fn verdict(z: &[u32]) -> Outcome
-    ensures { λ r. ⌜ r ≡ outcomeOf (sheetNumber (now (z .entry))) ⌝ }
+    ensures { λ r. ⌜ r ≡ outcomeOf (checkNumber (now (z .entry))) ⌝ }
 {
     outcome_of(verdict_number(z))
 }

@@ -147,7 +147,8 @@ fn schedule_apart(z: &[u32], j: u32) -> bool
     apart_in_large(z, j)
 }
 
-// Number 11: no two entries of one schedule occupy one wire in one cycle. The checker calls it last, and so meets the requires.
+// Number 11: no two entries of one schedule occupy one wire in one cycle. The checker calls the rules in
+// their order, and so meets the requires.
 pub fn keeps_rule11(z: &[u32]) -> bool
     requires { ⌜ Routed (now z) ⌝ }
     ensures { λ r. ⌜ r ≡ rule11 (now (z .entry)) ⌝ }

@@ -2,7 +2,7 @@
 // numbers (specs/Packed.antt) and its contracts.
 ghost use mathlib.Core.Path.{_≡_};
 ghost use Prim.Native.Nat.{_*_};
-ghost use Rattle.sheet.specs.Rules.{sheetNumber};
+ghost use Rattle.sheet.specs.Rules.{checkNumber};
 ghost use Rattle.checker.specs.Answers.{entriesNumber};
 ghost use Rattle.network.specs.Registers.{stateWords};
 ghost use Rattle.session.specs.Calls.{lend, lendState, load, start, store, order, cycle, number, after};
@@ -16,7 +16,7 @@ use session::number_of;
 // The verdict upon a sheet: 0 where it passes, else the number of its refusal.
 #[no_mangle]
 pub extern "C" fn argo_verdict(sheet: &[u32]) -> u32
-    ensures { λ r. ⌜ r ≡ sheetNumber (now (sheet .entry)) ⌝ }
+    ensures { λ r. ⌜ r ≡ checkNumber (now (sheet .entry)) ⌝ }
 {
     checker::verdict_number(sheet)
 }

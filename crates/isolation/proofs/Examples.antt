@@ -4,3 +4,4 @@ pub mod Landings
 pub mod NoCircuits
 pub mod Pair
 pub mod Swapped
+pub mod Unserved

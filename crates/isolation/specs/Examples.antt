@@ -4,7 +4,7 @@ use Prim.Native.Nat.{ℕ}
 use mathlib.Core.List.{List, [], _∷_, _++_, map}
 use mathlib.Core.Path.{_≡_}
 use lib.ListN.{set, replicate}
-use Rattle.sheet.specs.Rules.{sheetNumber}
+use Rattle.sheet.specs.Rules.{checkNumber}
 use Rattle.network.specs.Registers.{stateWords, numberPlace}
 use Rattle.session.specs.Calls.{loaded, orderNumber}
 
@@ -41,19 +41,19 @@ example number document = record { given = number; wanted = document }
 abbrev pub tableOn : List ℕ → List Example
 tableOn state =
     -- (a) sheet A; (b) no words (document 02, L2); (c) offset 6; (d) offset 7; (e) route 7, west; (f) route 0; (g) one word more
-    example (sheetNumber (sheetA 0 13 [])) 0
-    ∷ example (sheetNumber []) 0
-    ∷ example (sheetNumber (sheetA 6 13 [])) 0
-    ∷ example (sheetNumber (sheetA 7 13 [])) 10
-    ∷ example (sheetNumber (sheetA 0 7 [])) 0
-    ∷ example (sheetNumber (sheetA 0 0 [])) 9
-    ∷ example (sheetNumber (sheetA 0 13 (0 ∷ []))) 3
+    example (checkNumber (sheetA 0 13 [])) 0
+    ∷ example (checkNumber []) 0
+    ∷ example (checkNumber (sheetA 6 13 [])) 0
+    ∷ example (checkNumber (sheetA 7 13 [])) 10
+    ∷ example (checkNumber (sheetA 0 7 [])) 0
+    ∷ example (checkNumber (sheetA 0 0 [])) 9
+    ∷ example (checkNumber (sheetA 0 13 (0 ∷ []))) 3
     -- (h), (i), (j) both circuits, the second at 0, 2 and 5; (k), (l) the first alone at 4 and 5
-    ∷ example (sheetNumber (both 0)) 0
-    ∷ example (sheetNumber (both 2)) 11
-    ∷ example (sheetNumber (both 5)) 0
-    ∷ example (sheetNumber (alone 4)) 0
-    ∷ example (sheetNumber (alone 5)) 10
+    ∷ example (checkNumber (both 0)) 0
+    ∷ example (checkNumber (both 2)) 11
+    ∷ example (checkNumber (both 5)) 0
+    ∷ example (checkNumber (alone 4)) 0
+    ∷ example (checkNumber (alone 5)) 10
     -- (m) orders for period 2 and for period 1
     ∷ example (orderNumber state 0 2) 0
     ∷ example (orderNumber state 0 1) 19

@@ -11,7 +11,8 @@ use Rattle.words.specs.Words.{pick, tab}
 use Rattle.words.proofs.TestLaws.{yes<, no<, yes=, no=, is=, not<}
 use Rattle.sheet.specs.Sheet.{meant, nodes, memoryWords, sheetWords}
 use Rattle.words.proofs.WordLaws.{length-zeros}
-use Rattle.sheet.specs.Rules.{sheetNumber}
+use Rattle.sheet.specs.Rules.{sheetNumber, checkNumber}
+use Rattle.sheet.proofs.CheckLaws.{check-passes}
 use Rattle.octets.specs.Octets.{wordIn}
 use Rattle.landings.specs.declared.input.Message.{Message}
 use Rattle.landings.specs.declared.input.Message.the-variants.{TooLarge, InputEnds, Refused, Runs}
@@ -82,9 +83,9 @@ module _ (b : List ℕ) {sheet : List ℕ} {n : ℕ} (l : n ≡ statedLength b) 
   unfolding sheetOf
   sheet-is = q ∙ ap (λ m. tab m (λ k. wordIn b (1 + k))) l
 
-  module _ {number : ℕ} (e : number ≡ sheetNumber sheet) where
-    pub verdict-is : number ≡ sheetNumber (sheetOf b)
-    verdict-is = e ∙ ap sheetNumber sheet-is
+  module _ {number : ℕ} (e : number ≡ checkNumber sheet) where
+    pub verdict-is : number ≡ checkNumber (sheetOf b)
+    verdict-is = e ∙ ap checkNumber sheet-is
 
     pub checked-refused : (number ≡ 0 → ⊥) → Refused number ≡ checkedMessage b
     unfolding checkedMessage
@@ -169,9 +170,9 @@ module _ (b : List ℕ) where
   unfolding memoryMessage
   room-passed e = passed (mostMemory <? memorySize b) TooLarge (transfersMessage b) refl e
 
-  checked-passed : checkedMessage b ≡ Runs → ((sheetNumber (sheetOf b) =? 0) ≡ true) × (memoryMessage b ≡ Runs)
+  checked-passed : checkedMessage b ≡ Runs → ((checkNumber (sheetOf b) =? 0) ≡ true) × (memoryMessage b ≡ Runs)
   unfolding checkedMessage
-  checked-passed e = accepted (sheetNumber (sheetOf b) =? 0) (memoryMessage b) (Refused (sheetNumber (sheetOf b))) refl e
+  checked-passed e = accepted (checkNumber (sheetOf b) =? 0) (memoryMessage b) (Refused (checkNumber (sheetOf b))) refl e
 
   sheet-passed : inputMessage b ≡ Runs
       → ((length b <? 4 * 1) ≡ false) × ((sheetWords <? statedLength b) ≡ false) × ((length b <? 4 * memoryPlace b) ≡ false) × (checkedMessage b ≡ Runs)
@@ -194,7 +195,7 @@ module _ (b : List ℕ) where
         some = not< _ _ (p .0);
         small-sheet = not< _ _ (p .1);
         sheet-there = not< _ _ (p .2);
-        passes = is= _ _ (q .0);
+        passes = check-passes (sheetOf b) (is= _ _ (q .0));
         small-memory = not< _ _ (r .0);
         few-transfers = not< _ _ (t .0);
         long = not< _ _ (c .0);

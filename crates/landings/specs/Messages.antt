@@ -6,7 +6,7 @@ use lib.ListN.{replicate}
 use Rattle.words.specs.Tests.{_<?_, _=?_}
 use Rattle.words.specs.Words.{pick}
 use Rattle.sheet.specs.Sheet.{sheetWords}
-use Rattle.sheet.specs.Rules.{sheetNumber}
+use Rattle.sheet.specs.Rules.{checkNumber}
 use Rattle.octets.specs.Octets.{wordIn}
 use Rattle.network.specs.Registers.{stateWords}
 use Rattle.session.specs.Calls.{Lent, lend, lendState, Call, load, start, number, after}
@@ -28,7 +28,7 @@ memoryMessage bytes = pick (mostMemory <? memorySize bytes) TooLarge (transfersM
 
 -- the checker, at once and whatever follows the sheet
 unfoldable pub checkedMessage : List ℕ → Message
-checkedMessage bytes = pick (sheetNumber (sheetOf bytes) =? 0) (memoryMessage bytes) (Refused (sheetNumber (sheetOf bytes)))
+checkedMessage bytes = pick (checkNumber (sheetOf bytes) =? 0) (memoryMessage bytes) (Refused (checkNumber (sheetOf bytes)))
 
 unfoldable pub inputMessage : List ℕ → Message
 inputMessage bytes =

@@ -66,7 +66,7 @@ fn memory_message(bytes: &[u8], at: usize, size: u32) -> Message
     transfers_message(bytes, at + size as usize)
 }
 
-// Memory words of all nodes; the callers' sheet has passed the checker.
+// Memory words of all nodes; the callers' sheet has passed the checker, and so keeps 1 to 11.
 pub fn memory_size(sheet: &[u32]) -> u32
     requires { ⌜ sheetNumber (now sheet) ≡ 0 ⌝ }
     ensures { λ r. ⌜ r ≡ nodes (meant (now (sheet .entry))) * memoryWords (meant (now (sheet .entry))) ⌝ }
@@ -110,7 +110,7 @@ pub fn input_message(bytes: &[u8]) -> Message
     checked_message(bytes, &mut sheet[..n])
 }
 
-// How many nodes a sheet has that passes the checker.
+// How many nodes a sheet has that keeps 1 to 11, as the callers' does.
 pub fn nodes_of(sheet: &[u32]) -> u32
     requires { ⌜ sheetNumber (now sheet) ≡ 0 ⌝ }
     ensures { λ r. ⌜ (r ≡ nodes (meant (now (sheet .entry)))) × (r ≤ 16) ⌝ }

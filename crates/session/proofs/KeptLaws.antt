@@ -84,10 +84,12 @@ module _ (z s : List ℕ) (b : SheetBounds z) where
         units = load-unit;
       }
 
+-- a state that holds a sheet as load puts it is sound where the sheet keeps 1 to 11; 26 is not asked
+pub loaded-sound : (z s : List ℕ) → verdict z ≡ 0 → sound (loaded z s) ≡ true
+loaded-sound z s e = sound-on z (loaded z s) (loaded-sheet z s) (load-parts z s (sheet-bounds z e) e)
+
 pub load-sound : (z s m : List ℕ) → loadWordsNumber z s m ≡ 0 → sound (loaded z s) ≡ true
-load-sound z s m e =
-    let p = load-passed z s m e in
-    sound-on z (loaded z s) (loaded-sheet z s) (load-parts z s (sheet-bounds z (p .passes)) (p .passes))
+load-sound z s m e = loaded-sound z s (load-passed z s m e .passes)
 
 pub load-length : (z s m : List ℕ) → loadWordsNumber z s m ≡ 0 → length (loaded z s) ≡ length s
 load-length z s m e =

@@ -12,6 +12,7 @@ use Rattle.words.proofs.TestLaws.{and-left, and-right, is≤, is<, is=, yes=, y
 use Rattle.packet.specs.Header.{dataKind}
 use Rattle.sheet.specs.Sheet.{memoryWords, circuits, schedules, nodes, circuitAt}
 use Rattle.sheet.specs.Rules.{verdict}
+use Rattle.sheet.proofs.CheckLaws.{rules-pass}
 use Rattle.network.specs.Registers.{reg, sheetIn, room, stateWords, clockRow, orderMarkPlace, leftRow}
 use Rattle.network.specs.Inner.Machine.{faultyIn}
 use Rattle.network.specs.OneMachine.{cycleFault}
@@ -61,7 +62,7 @@ load-passed z s m e =
     let p = then-zero _ _ e in
     let q = then-zero _ _ (p .1) in
     record {
-      passes = p .0;
+      passes = rules-pass z (p .0);
       long = is≤ _ _ (unless-zero 12 _ (omega arith) (q .0));
       whole = is= _ _ (unless-zero 14 _ (omega arith) (q .1));
     }

@@ -9,7 +9,7 @@ use Rattle.words.specs.Words.{word, pick, tab}
 use Rattle.words.specs.Numbers.{unless, _then_}
 use Rattle.packet.specs.Header.{dataKind}
 use Rattle.sheet.specs.Sheet.{meant, memoryWords, circuits, schedules, nodes, circuitAt}
-use Rattle.sheet.specs.Rules.{verdict}
+use Rattle.sheet.specs.Rules.{firstBroken, checkRules}
 use Rattle.network.specs.View.{Landing}
 use Rattle.network.specs.Registers.{reg, put, sheetIn, room, movingWords, stateWords, clockRow, numberPlace, orderMarkPlace, orderSchedulePlace}
 use Rattle.network.specs.Registers.{orderPeriodPlace, landingMark, landingKind, landingAddress, landingWord, leftRow, readRow, writeRow, kindRow}
@@ -25,9 +25,10 @@ stateNumber s = unless 12 (stateWords ≤? length s) then unless 13 (sound s)
 unfoldable pub memoryNumber : List ℕ → List ℕ → ℕ
 memoryNumber s m = stateNumber s then unless 14 (length m =? nodes (sheetIn s) * room s)
 
--- load: 1 to 12 and 14, of a sheet's words as they stand
+-- load: 1 to 11, 26, 12 and 14, of a sheet's words as they stand
 unfoldable pub loadWordsNumber : List ℕ → List ℕ → List ℕ → ℕ
-loadWordsNumber z s m = verdict z then unless 12 (stateWords ≤? length s) then unless 14 (length m =? nodes z * memoryWords z)
+loadWordsNumber z s m =
+    firstBroken checkRules z then unless 12 (stateWords ≤? length s) then unless 14 (length m =? nodes z * memoryWords z)
 
 -- and of the words that are handed over
 abbrev pub loadNumber : List ℕ → List ℕ → List ℕ → ℕ

@@ -20,13 +20,16 @@ fn load_words_number(sheet: &[u32], s: &[u32], m: &[u32]) -> u32
     if number != 0 {
         return number;
     }
-    if s.len() < network::STATE_WORDS {
-        return 12;
+    if sheet::keeps_rule26(sheet) {
+        if s.len() < network::STATE_WORDS {
+            return 12;
+        }
+        if m.len() == sheet::whole_memory_of(sheet) as usize {
+            return 0;
+        }
+        return 14;
     }
-    if m.len() == sheet::whole_memory_of(sheet) as usize {
-        return 0;
-    }
-    14
+    26
 }
 
 // Sets the first words to 0; put_sheet asks for no more than there are.

@@ -5,3 +5,5 @@ pub mod PassedLaws
 pub mod TimeLaws
 pub mod VerdictLaws
 pub mod MeantLaws
+pub mod ServedLaws
+pub mod CheckLaws

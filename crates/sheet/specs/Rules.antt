@@ -1,10 +1,10 @@
--- The rules 1 to 11 of document 01, "Refusals, in checking order": each as a test that a sheet keeps the rule, and the verdict, the
--- number of the first rule that it does not keep. All sums are of natural numbers: nothing wraps.
+-- The rules 1 to 11 of document 01, "Refusals, in checking order", and 26 of document 02, L8: each as a test that a sheet keeps the
+-- rule, and the number of the first rule that it does not keep. All sums are of natural numbers: nothing wraps.
 use Prim.Native.Nat.{ℕ, _+_, _-_, _*_}
 use mathlib.Core.List.{List, [], _∷_, _++_}
 use mathlib.Core.Bool.{Bool, true, false, not}
 use lib.ListN.{length}
-use Rattle.words.specs.Tests.{all, between, _and_, _or_, _≤?_, _<?_, _=?_, _≠?_}
+use Rattle.words.specs.Tests.{all, any, between, _and_, _or_, _≤?_, _<?_, _=?_, _≠?_}
 use Rattle.torus.specs.Route.{Use, Route, leads, nowhere, routeFrom, routerCycles}
 use Rattle.sheet.specs.declared.circuits.Region.{Region}
 use Rattle.sheet.specs.declared.circuits.Circuit.{Circuit}
@@ -143,6 +143,18 @@ rule11At z j =
 unfoldable pub rule11 : List ℕ → Bool
 rule11 z = all (schedules z) (rule11At z)
 
+-- one of a schedule's entries is a slot of circuit c
+unfoldable pub serves : List ℕ → ℕ → Bool
+serves entries c = any (entryCount entries) (λ i. entryAt entries i .circuit =? c)
+
+-- some schedule has an entry of circuit c
+unfoldable pub isServed : List ℕ → ℕ → Bool
+isServed z c = any (schedules z) (λ j. serves (entriesOf z j) c)
+
+-- Number 26: each circuit has an entry in some schedule.
+unfoldable pub rule26 : List ℕ → Bool
+rule26 z = all (circuits z) (isServed z)
+
 -- a rule: the number of its refusal, and the test that a sheet keeps it
 pub record Rule : Type 0 where
   pub number : ℕ
@@ -174,10 +186,18 @@ unfoldable pub firstBroken : List Rule → List ℕ → ℕ
 firstBroken [] z = 0
 firstBroken (r ∷ rules) z = elim (r .keeps z) [ true ↦ firstBroken rules z | false ↦ r .number ]
 
--- the verdict upon a sheet: 0 where it passes, else the number of its refusal
+-- the first of the numbers 1 to 11 of a sheet's words as they stand, 0 where it keeps these rules
 unfoldable pub verdict : List ℕ → ℕ
 verdict z = firstBroken sheetRules z
 
--- the number 1 to 11 of the words that a caller hands over
+-- the first of the numbers 1 to 11 of the words that a caller hands over
 abbrev pub sheetNumber : List ℕ → ℕ
 sheetNumber z = verdict (meant z)
+
+-- the rules of the checker and of load: 26 directly after 11
+abbrev pub checkRules : List Rule
+checkRules = sheetRules ++ (record { number = 26; keeps = rule26 } ∷ [])
+
+-- the checker's number of the words that a caller hands over: 0 where the sheet passes, else the number of its refusal
+abbrev pub checkNumber : List ℕ → ℕ
+checkNumber z = firstBroken checkRules (meant z)

@@ -1,8 +1,9 @@
-// The sheet: its parts, and the rules 1 to 8 (document 01, "The sheet", "Refusals").
+// The sheet: its parts, and the rules 1 to 8 (document 01, "The sheet", "Refusals") and 26 (document 02, L8).
 mod circuits;
 mod entries;
 mod frame;
 mod head;
+mod served;
 
 pub use circuits::Circuit;
 pub use circuits::Region;
@@ -26,3 +27,4 @@ pub use head::nodes_of;
 pub use head::rows_of;
 pub use head::schedules_of;
 pub use head::whole_memory_of;
+pub use served::keeps_rule26;

@@ -12,7 +12,7 @@ use Rattle.words.specs.Inner.Puts.{putAll}
 use Rattle.words.proofs.TestLaws.{yes<, no<}
 use Rattle.words.proofs.WordLaws.{length-putAll, putAll-append, putAll-front, length-zeros}
 use Rattle.sheet.specs.Sheet.{sheetWords}
-use Rattle.sheet.specs.Rules.{sheetNumber}
+use Rattle.sheet.specs.Rules.{checkNumber}
 use Rattle.octets.specs.Octets.{wordIn}
 use Rattle.listing.specs.Text.{lineEnd, field, refused}
 use Rattle.listing.proofs.TextLaws.{field-short}
@@ -27,30 +27,30 @@ module _ (b : List ℕ) where
   pub no-length : length b < 4 → InputEnds ≡ lineOf b
   unfolding lineOf
   no-length h =
-      sym (ap (λ (t : Bool). pick t InputEnds (pick (sheetWords <? wordIn b 0) TooLarge (pick (length b <? 4 * (1 + wordIn b 0)) InputEnds (verdictLine (sheetNumber (sheetOf b)))))) (yes< h))
+      sym (ap (λ (t : Bool). pick t InputEnds (pick (sheetWords <? wordIn b 0) TooLarge (pick (length b <? 4 * (1 + wordIn b 0)) InputEnds (verdictLine (checkNumber (sheetOf b)))))) (yes< h))
 
   module _ (h : 4 ≤ length b) (n : ℕ) (e : n ≡ wordIn b 0) where
-    has-length : pick (sheetWords <? wordIn b 0) TooLarge (pick (length b <? 4 * (1 + wordIn b 0)) InputEnds (verdictLine (sheetNumber (sheetOf b)))) ≡ lineOf b
+    has-length : pick (sheetWords <? wordIn b 0) TooLarge (pick (length b <? 4 * (1 + wordIn b 0)) InputEnds (verdictLine (checkNumber (sheetOf b)))) ≡ lineOf b
     unfolding lineOf
     has-length =
-        sym (ap (λ (t : Bool). pick t InputEnds (pick (sheetWords <? wordIn b 0) TooLarge (pick (length b <? 4 * (1 + wordIn b 0)) InputEnds (verdictLine (sheetNumber (sheetOf b)))))) (no< h))
+        sym (ap (λ (t : Bool). pick t InputEnds (pick (sheetWords <? wordIn b 0) TooLarge (pick (length b <? 4 * (1 + wordIn b 0)) InputEnds (verdictLine (checkNumber (sheetOf b)))))) (no< h))
 
     pub too-large : sheetWords < n → TooLarge ≡ lineOf b
     too-large l =
-        sym (ap (λ (t : Bool). pick t TooLarge (pick (length b <? 4 * (1 + wordIn b 0)) InputEnds (verdictLine (sheetNumber (sheetOf b))))) (yes< (omega (arith, e, l))))
+        sym (ap (λ (t : Bool). pick t TooLarge (pick (length b <? 4 * (1 + wordIn b 0)) InputEnds (verdictLine (checkNumber (sheetOf b))))) (yes< (omega (arith, e, l))))
         ∙ has-length
 
     module _ (l : n ≤ sheetWords) where
-      small : pick (length b <? 4 * (1 + wordIn b 0)) InputEnds (verdictLine (sheetNumber (sheetOf b))) ≡ lineOf b
+      small : pick (length b <? 4 * (1 + wordIn b 0)) InputEnds (verdictLine (checkNumber (sheetOf b))) ≡ lineOf b
       small =
-          sym (ap (λ (t : Bool). pick t TooLarge (pick (length b <? 4 * (1 + wordIn b 0)) InputEnds (verdictLine (sheetNumber (sheetOf b))))) (no< (omega (arith, e, l))))
+          sym (ap (λ (t : Bool). pick t TooLarge (pick (length b <? 4 * (1 + wordIn b 0)) InputEnds (verdictLine (checkNumber (sheetOf b))))) (no< (omega (arith, e, l))))
           ∙ has-length
 
       pub sheet-ends : length b < 4 * (1 + n) → InputEnds ≡ lineOf b
-      sheet-ends k = sym (ap (λ (t : Bool). pick t InputEnds (verdictLine (sheetNumber (sheetOf b)))) (yes< (omega (arith, e, k)))) ∙ small
+      sheet-ends k = sym (ap (λ (t : Bool). pick t InputEnds (verdictLine (checkNumber (sheetOf b)))) (yes< (omega (arith, e, k)))) ∙ small
 
-      pub whole : 4 * (1 + n) ≤ length b → verdictLine (sheetNumber (sheetOf b)) ≡ lineOf b
-      whole k = sym (ap (λ (t : Bool). pick t InputEnds (verdictLine (sheetNumber (sheetOf b)))) (no< (omega (arith, e, k)))) ∙ small
+      pub whole : 4 * (1 + n) ≤ length b → verdictLine (checkNumber (sheetOf b)) ≡ lineOf b
+      whole k = sym (ap (λ (t : Bool). pick t InputEnds (verdictLine (checkNumber (sheetOf b)))) (no< (omega (arith, e, k)))) ∙ small
 
 -- the line of a verdict, from the checker's outcome
 abbrev lined : Outcome → Line
@@ -61,16 +61,16 @@ lined-is : (n : ℕ) → lined (outcomeOf n) ≡ verdictLine n
 lined-is zero = refl
 lined-is (suc n) = refl
 
-module _ (b sheet : List ℕ) (n : ℕ) (l : n ≡ wordIn b 0) (q : sheet ≡ tab n (λ k. wordIn b (1 + k))) (o : Outcome) (p : o ≡ outcomeOf (sheetNumber sheet)) where
-  judged-is : lined o ≡ verdictLine (sheetNumber (sheetOf b))
+module _ (b sheet : List ℕ) (n : ℕ) (l : n ≡ wordIn b 0) (q : sheet ≡ tab n (λ k. wordIn b (1 + k))) (o : Outcome) (p : o ≡ outcomeOf (checkNumber sheet)) where
+  judged-is : lined o ≡ verdictLine (checkNumber (sheetOf b))
   judged-is =
-      ap lined p ∙ lined-is (sheetNumber sheet)
-      ∙ ap (λ (x : List ℕ). verdictLine (sheetNumber x)) (q ∙ ap (λ (m : ℕ). tab m (λ k. wordIn b (1 + k))) l)
+      ap lined p ∙ lined-is (checkNumber sheet)
+      ∙ ap (λ (x : List ℕ). verdictLine (checkNumber x)) (q ∙ ap (λ (m : ℕ). tab m (λ k. wordIn b (1 + k))) l)
 
-  pub judged-passes : o ≡ PassesOutcome → Passes ≡ verdictLine (sheetNumber (sheetOf b))
+  pub judged-passes : o ≡ PassesOutcome → Passes ≡ verdictLine (checkNumber (sheetOf b))
   judged-passes e = sym (ap lined e) ∙ judged-is
 
-  pub judged-refused : (k : ℕ) → o ≡ RefusedOutcome k → Refused k ≡ verdictLine (sheetNumber (sheetOf b))
+  pub judged-refused : (k : ℕ) → o ≡ RefusedOutcome k → Refused k ≡ verdictLine (checkNumber (sheetOf b))
   judged-refused k e = sym (ap lined e) ∙ judged-is
 
 -- the part of the words that a sheet needs

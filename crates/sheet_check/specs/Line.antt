@@ -6,7 +6,7 @@ use lib.ListN.{length}
 use Rattle.words.specs.Tests.{_<?_}
 use Rattle.words.specs.Words.{pick, tab}
 use Rattle.sheet.specs.Sheet.{sheetWords}
-use Rattle.sheet.specs.Rules.{sheetNumber}
+use Rattle.sheet.specs.Rules.{checkNumber}
 use Rattle.octets.specs.Octets.{wordIn}
 use Rattle.listing.specs.Text.{lineEnd, field, tooLarge, inputEnds, refused}
 use Rattle.sheet_check.specs.declared.Line.{Line}
@@ -24,7 +24,7 @@ unfoldable pub lineOf : List ℕ → Line
 lineOf bytes =
     pick (length bytes <? 4) InputEnds
     (pick (sheetWords <? wordIn bytes 0) TooLarge
-    (pick (length bytes <? 4 * (1 + wordIn bytes 0)) InputEnds (verdictLine (sheetNumber (sheetOf bytes)))))
+    (pick (length bytes <? 4 * (1 + wordIn bytes 0)) InputEnds (verdictLine (checkNumber (sheetOf bytes)))))
 
 -- `passes`, and a line end
 unfoldable pub passes : List ℕ

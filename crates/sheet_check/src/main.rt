@@ -7,7 +7,7 @@ ghost use Prim.Native.Nat.{_+_, _*_, _<_, _≤_};
 ghost use lib.ListN.{length, take};
 ghost use Rattle.octets.specs.Octets.{wordIn};
 ghost use Rattle.sheet_check.specs.Line.{lineOf, sheetOf, verdictLine, textOf};
-ghost use Rattle.sheet.specs.Rules.{sheetNumber};
+ghost use Rattle.sheet.specs.Rules.{checkNumber};
 
 const LINE_END: u8 = 10;
 
@@ -22,7 +22,7 @@ pub enum Line {
 // The line for a sheet whose words are all there.
 fn judged(bytes: &[u8], sheet: &mut [u32]) -> Line
     requires { ⌜ (4 * (1 + length (now sheet)) ≤ length (now bytes)) × (length (now sheet) ≡ wordIn (now bytes) 0) ⌝ }
-    ensures { λ r. ⌜ r ≡ verdictLine (sheetNumber (sheetOf (now (bytes .entry)))) ⌝ }
+    ensures { λ r. ⌜ r ≡ verdictLine (checkNumber (sheetOf (now (bytes .entry)))) ⌝ }
 {
     octets::read_words(bytes, 1, sheet);
     let outcome = checker::verdict(sheet);

@@ -12,10 +12,10 @@ use Rattle.torus.specs.Route.{outputOf, follow, routeFrom}
 use Rattle.sheet.specs.Sheet.{rows, memoryWords, nodes, schedulePlace, circuitAt, entriesOf, entryAt}
 use Rattle.sheet.specs.Slots.{beginsAt, entryBeginning, slotLength}
 use Rattle.sheet.specs.Wires.{sameWire, same, during, occupied, member, meet}
-use Rattle.sheet.specs.Rules.{rule1, rule2, scheduleFits, rule3, firstBroken, verdict}
+use Rattle.sheet.specs.Rules.{rule1, rule2, scheduleFits, rule3, firstBroken, checkRules}
 use Rattle.sheet.specs.Rules.{regionFits, circuitFits, rule4, precedes, circuitPrecedes, rule5, apart, receiveApart, rule6}
 use Rattle.sheet.specs.Rules.{eachEntry, entryFits, rule7At, rule7, entryPrecedes, rule8At, rule8}
-use Rattle.sheet.specs.Rules.{entryRoute, entryLeads, rule9, entryEnds, rule10, entryOccupied, rule11At, rule11}
+use Rattle.sheet.specs.Rules.{entryRoute, entryLeads, rule9, entryEnds, rule10, entryOccupied, rule11At, rule11, serves, isServed, rule26}
 use Rattle.soundness.specs.Sound.{kindTravels, liesIn}
 use Rattle.session.specs.Calls.{Call, start, cycle}
 use Rattle.sheet.proofs.MeantLaws.{itself}
@@ -34,12 +34,13 @@ sheet = sheetA 0 13 []
 abbrev pub memories : List ℕ
 memories = 11 ∷ 22 ∷ 33 ∷ replicate 29 0
 
-pub sheet-passes : verdict sheet ≡ 0
-unfolding verdict firstBroken
+pub sheet-passes : firstBroken checkRules sheet ≡ 0
+unfolding firstBroken
     rule1 rule2 scheduleFits rule3
     regionFits circuitFits rule4 precedes circuitPrecedes rule5 apart receiveApart rule6
     eachEntry entryFits rule7At rule7 entryPrecedes rule8At rule8
     entryRoute entryLeads rule9 entryEnds rule10 entryOccupied rule11At rule11
+    serves isServed rule26
     rows schedulePlace circuitAt entriesOf entryAt
     sameWire same during occupied member meet
     neighbourOf walks distanceOf outputOf follow routeFrom

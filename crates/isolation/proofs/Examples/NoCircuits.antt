@@ -8,8 +8,9 @@ use native.Mathlib.Omega.{arith}
 use lib.ListN.{length, replicate, take}
 use Rattle.words.specs.Tests.{_and_, _=?_}
 use Rattle.sheet.specs.Sheet.{blankSheet, meant, rows, memoryWords, circuits, nodes, schedulePlace}
-use Rattle.sheet.specs.Rules.{verdict}
-use Rattle.sheet.proofs.MeantLaws.{itself, meant-none, number-none}
+use Rattle.sheet.specs.Rules.{firstBroken, checkRules}
+use Rattle.sheet.proofs.MeantLaws.{itself, meant-none}
+use Rattle.sheet.proofs.CheckLaws.{idle-passes}
 use Rattle.session.specs.declared.Found.the-variants.{Word as FoundWord}
 use Rattle.session.specs.Answers.{periodAnswer}
 use Rattle.session.specs.Calls.{Call, cycle, number, loaded, lend}
@@ -26,8 +27,8 @@ pub memory-long : length idleMemory ≡ nodes blankSheet * memoryWords blankShee
 unfolding rows
 memory-long = refl
 
-pub blank-passes : verdict blankSheet ≡ 0
-blank-passes = ap verdict (sym (meant-none [] refl)) ∙ number-none [] refl
+pub blank-passes : firstBroken checkRules blankSheet ≡ 0
+blank-passes = ap (firstBroken checkRules) (sym (meant-none [] refl)) ∙ idle-passes
 
 abbrev pub idleCalls : List Call
 idleCalls = replicate 9 cycle

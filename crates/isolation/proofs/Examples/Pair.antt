@@ -15,10 +15,10 @@ use Rattle.sheet.specs.declared.circuits.Circuit.{Circuit}
 use Rattle.sheet.specs.Sheet.{meant, rows, memoryWords, nodes, schedulePlace, circuitAt, period, entriesOf, entryAt}
 use Rattle.sheet.specs.Slots.{beginsAt, entryBeginning, slotLength, sourceOf, destinationOf}
 use Rattle.sheet.specs.Wires.{sameWire, same, during, occupied, member, meet}
-use Rattle.sheet.specs.Rules.{rule1, rule2, scheduleFits, rule3, firstBroken, verdict}
+use Rattle.sheet.specs.Rules.{rule1, rule2, scheduleFits, rule3, firstBroken, checkRules}
 use Rattle.sheet.specs.Rules.{regionFits, circuitFits, rule4, precedes, circuitPrecedes, rule5, apart, receiveApart, rule6}
 use Rattle.sheet.specs.Rules.{eachEntry, entryFits, rule7At, rule7, entryPrecedes, rule8At, rule8}
-use Rattle.sheet.specs.Rules.{entryRoute, entryLeads, rule9, entryEnds, rule10, entryOccupied, rule11At, rule11}
+use Rattle.sheet.specs.Rules.{entryRoute, entryLeads, rule9, entryEnds, rule10, entryOccupied, rule11At, rule11, serves, isServed, rule26}
 use Rattle.network.specs.Registers.{stateWords}
 use Rattle.session.specs.declared.Found.the-variants.{Word as FoundWord}
 use Rattle.soundness.specs.Sound.{kindTravels, liesIn}
@@ -57,14 +57,15 @@ otherSheet =
 
 -- both sheets pass
 abbrev passTable : List ℕ
-passTable = verdict oneSheet ∷ verdict otherSheet ∷ []
+passTable = firstBroken checkRules oneSheet ∷ firstBroken checkRules otherSheet ∷ []
 
 pub sheets-pass : passTable ≡ 0 ∷ 0 ∷ []
-unfolding verdict firstBroken
+unfolding firstBroken
     rule1 rule2 scheduleFits rule3
     regionFits circuitFits rule4 precedes circuitPrecedes rule5 apart receiveApart rule6
     eachEntry entryFits rule7At rule7 entryPrecedes rule8At rule8
     entryRoute entryLeads rule9 entryEnds rule10 entryOccupied rule11At rule11
+    serves isServed rule26
     rows schedulePlace circuitAt entriesOf entryAt
     sameWire same during occupied member meet
     neighbourOf walks distanceOf outputOf follow routeFrom
@@ -100,7 +101,7 @@ otherCalls =
 
 -- the loads among them are refused: their sheets have fewer than five words
 pub loads-bad : (badLoads oneCalls ∷ badLoads otherCalls ∷ []) ≡ true ∷ true ∷ []
-unfolding meant verdict firstBroken rule1 _≤?_ _=?_
+unfolding meant firstBroken rule1 _≤?_ _=?_
 loads-bad = refl
 
 -- the memories have the sheets' lengths, and the grids as many rows

@@ -20,7 +20,7 @@ use Rattle.sheet.specs.Wires.{sameWire, same, during, occupied, member, meet}
 use Rattle.sheet.specs.Rules.{rule1, rule2, scheduleFits, rule3, firstBroken, verdict}
 use Rattle.sheet.specs.Rules.{regionFits, circuitFits, rule4, precedes, circuitPrecedes, rule5, apart, receiveApart, rule6}
 use Rattle.sheet.specs.Rules.{eachEntry, entryFits, rule7At, rule7, entryPrecedes, rule8At, rule8}
-use Rattle.sheet.specs.Rules.{entryRoute, entryLeads, rule9, entryEnds, rule10, entryOccupied, rule11At, rule11}
+use Rattle.sheet.specs.Rules.{entryRoute, entryLeads, rule9, entryEnds, rule10, entryOccupied, rule11At, rule11, serves, isServed, rule26}
 
 -- the state of (m), word by word, so that it computes at once
 abbrev written : List ℕ
@@ -34,6 +34,7 @@ unfolding orderNumber stateNumber unless _then_ ahead isPending sound sheetSound
     regionFits circuitFits rule4 precedes circuitPrecedes rule5 apart receiveApart rule6
     eachEntry entryFits rule7At rule7 entryPrecedes rule8At rule8
     entryRoute entryLeads rule9 entryEnds rule10 entryOccupied rule11At rule11
+    serves isServed rule26
     rows schedulePlace circuitAt entriesOf entryAt
     sameWire same during occupied member meet
     neighbourOf walks distanceOf outputOf hopCycles follow routeFrom

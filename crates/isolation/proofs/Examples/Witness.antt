@@ -13,7 +13,7 @@ use Rattle.words.specs.Tests.{_=?_}
 use Rattle.words.specs.Words.{pick}
 use Rattle.words.proofs.TestLaws.{yes≤, yes=}
 use Rattle.sheet.specs.Sheet.{meant, memoryWords, circuits, nodes}
-use Rattle.sheet.specs.Rules.{verdict, sheetNumber}
+use Rattle.sheet.specs.Rules.{firstBroken, checkRules, checkNumber}
 use Rattle.network.specs.Registers.{stateWords}
 use Rattle.session.specs.Calls.{Lent, Call, load, start, store, order, cycle, number, after, loadWordsNumber, loadNumber, ask}
 use Rattle.words.proofs.NumberLaws.{then-zero, zero-then, zero-unless}
@@ -28,23 +28,23 @@ use Rattle.isolation.proofs.Reckoning.Reckons.{as-reckoned}
 -- every load among some calls has a sheet that does not pass
 abbrev pub badLoads : List Call → Bool
 badLoads [] = true
-badLoads (load z ∷ calls) = pick (sheetNumber z =? 0) false (badLoads calls)
+badLoads (load z ∷ calls) = pick (checkNumber z =? 0) false (badLoads calls)
 badLoads (start circuit readAddress writeAddress count kind ∷ calls) = badLoads calls
 badLoads (store node address new ∷ calls) = badLoads calls
 badLoads (ask question ∷ calls) = badLoads calls
 badLoads (order schedule period ∷ calls) = badLoads calls
 badLoads (cycle ∷ calls) = badLoads calls
 
-load-passes : (z : List ℕ) (w : Lent) → number (load z) w ≡ 0 → sheetNumber z ≡ 0
+load-passes : (z : List ℕ) (w : Lent) → number (load z) w ≡ 0 → checkNumber z ≡ 0
 unfolding loadWordsNumber
 load-passes z w n = then-zero _ _ n .0
 
 -- so it is refused
 pub bad-loads : (calls : List Call) (w : Lent) → badLoads calls ≡ true → LoadsRefused calls w
 bad-loads [] w e = tt
-bad-loads (load z ∷ calls) w e = go (sheetNumber z =? 0) refl e (λ r. bad-loads calls (after (load z) w) r)
+bad-loads (load z ∷ calls) w e = go (checkNumber z =? 0) refl e (λ r. bad-loads calls (after (load z) w) r)
   where
-    go : (b : Bool) → (sheetNumber z =? 0) ≡ b → pick b false (badLoads calls) ≡ true
+    go : (b : Bool) → (checkNumber z =? 0) ≡ b → pick b false (badLoads calls) ≡ true
         → (badLoads calls ≡ true → LoadsRefused calls (after (load z) w)) → LoadsRefused (load z ∷ calls) w
     go true q r h = absurd (false≢true r)
     go false q r h = (λ l n. false≢true (sym q ∙ yes= (load-passes z w n)), h r)
@@ -57,7 +57,7 @@ bad-loads (cycle ∷ calls) w e = (λ q n. false≢true q, bad-loads calls (afte
 
 -- a load of words that stand for a sheet that passes, on a long state and a memory of the sheet's length, is carried out
 pub load-zero : (given z s m : List ℕ) → z ≡ meant given
-    → verdict z ≡ 0 → stateWords ≤ length s → length m ≡ nodes z * memoryWords z → loadNumber given s m ≡ 0
+    → firstBroken checkRules z ≡ 0 → stateWords ≤ length s → length m ≡ nodes z * memoryWords z → loadNumber given s m ≡ 0
 unfolding loadWordsNumber
 load-zero given z s m same v l e =
     ap (λ (x : List ℕ). loadWordsNumber x s m) (sym same)

@@ -1,7 +1,9 @@
 -- `landings::input::checked_message` meets its contract: the words that were read are the sheet, and its number comes before the rest.
 -- Assumes nothing.
 use Rattle.landings.proofs.MessageLaws.{checked-refused, checked-on, memory-size-is}
+use mathlib.Core.Path.{sym, _∙_}
 use native.Mathlib.Omega.{arith}
+use Rattle.sheet.proofs.CheckLaws.{check-passes}
 use borrow.Author.Needs.{needs}
 use Rattle.landings.proofs.input.checked_message.Statement.{statement}
 use Rattle.landings.proofs.input.checked_message.Tie as tie
@@ -22,7 +24,7 @@ returns c =
     checked-refused _ (entry .pre .1) (at-read-words .read-words .ensures) (c .before .verdict-number .ensures) (c .if1 .taken)
 
 memory-size-requires : tie.Need-memory-size-requires
-memory-size-requires c κs = search needs
+memory-size-requires c κs = check-passes _ (sym (c .before .before .verdict-number .ensures) ∙ c .before .if1 .left)
 
 add-memory-message : tie.Need-add-memory-message
 add-memory-message c = search needs
