@@ -67,3 +67,20 @@ export async function type(name, text) {
   await browser.keys(input, text);
   return input;
 }
+
+// Pastes a text into a cell.
+export async function paste(name, text) {
+  const code = `const data = new DataTransfer();
+    data.setData('text/plain', arguments[1]);
+    const cell = document.getElementById('cell-' + arguments[0]);
+    cell.focus();
+    cell.dispatchEvent(new ClipboardEvent('paste', { clipboardData: data, bubbles: true, cancelable: true }));`;
+  await browser.script(code, name, text);
+  await drawn();
+}
+
+// Chooses in a select as a reader does.
+export function select(id, value) {
+  const code = 'const select = document.getElementById(arguments[0]); select.value = arguments[1]; select.dispatchEvent(new Event("change"))';
+  return browser.script(code, id, value);
+}

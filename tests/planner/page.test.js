@@ -3,7 +3,7 @@ import test from 'node:test';
 import assert from 'node:assert/strict';
 import { readFileSync, readdirSync } from 'node:fs';
 import { join } from 'node:path';
-import { browser, cell, drawn, example, isMarked, page, rowsOf, says, textOf, type, upload, verdict, written } from './open_page.js';
+import { browser, cell, drawn, example, isMarked, page, paste, rowsOf, says, select, textOf, type, upload, verdict, written } from './open_page.js';
 
 test('it opens with an example that passes, and answers the question at once', async () => {
   assert.match(await verdict(), /passes/);
@@ -80,22 +80,15 @@ test('a plan whose circuits have no slots yet is explained, drawn, and passes wh
   assert.equal(await browser.property(await browser.focused(), 'id'), 'cell-B2');
   assert.match(await textOf('#cell-help'), /^B2: name\. no mode has a slot row for this circuit$/);
   // The row that is offered, and one for the other circuit in the other mode.
-  for (const [row, cells] of [[6, ['slot', 'normal', 'speed', '0', '2', 'E']], [7, ['slot', 'high wind', 'brake', '0', '2', 'ES']]]) {
-    for (const [at, text] of cells.entries()) {
-      await type(`${'ABCDEF'[at]}${row}`, text);
-      await browser.press('Enter');
-    }
+  for (const [row, cells] of [[6, 'slot\tnormal\tspeed\t0\t2\tE'], [7, 'slot\thigh wind\tbrake\t0\t2\tES']]) {
+    await paste(`A${row}`, cells);
     await says(row === 6 ? 'refused 26' : 'passes');
-    await drawn();
     assert.equal(await isMarked('B3'), row === 6);
     assert.match(await textOf('#slots'), /speed/);
   }
   // Each mode runs alone, though neither has slots for both circuits.
   for (const [mode, circuit, other] of [['normal', 'speed', 'brake'], ['high wind', 'brake', 'speed']]) {
-    await browser.script(
-      "const traffic = document.getElementById('traffic'); traffic.value = arguments[0]; traffic.dispatchEvent(new Event('change'))",
-      mode,
-    );
+    await select('traffic', mode);
     assert.match(await textOf('#grid-caption'), new RegExp(`^Cycle 0: cycle 0 of period 0, mode ${mode}\\.`));
     assert.match(await textOf('#grid'), new RegExp(circuit));
     assert.doesNotMatch(await textOf('#grid'), new RegExp(other));
@@ -149,14 +142,7 @@ test('a click elsewhere takes what was typed and goes there; a block of cells is
   assert.equal(await cell('D15'), '9');
   assert.equal(await browser.property(await browser.focused(), 'id'), 'cell-E15');
   await says('refused 10');
-  await browser.script(
-    `const data = new DataTransfer();
-    data.setData('text/plain', arguments[0]);
-    const cell = document.getElementById('cell-D15');
-    cell.focus();
-    cell.dispatchEvent(new ClipboardEvent('paste', { clipboardData: data, bubbles: true, cancelable: true }));`,
-    '4\t2\tES\r\n',
-  );
+  await paste('D15', '4\t2\tES\r\n');
   await says('passes');
   assert.deepEqual([await cell('D15'), await cell('E15'), await cell('F15')], ['4', '2', 'ES']);
 });

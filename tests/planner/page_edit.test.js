@@ -3,28 +3,12 @@ import test from 'node:test';
 import assert from 'node:assert/strict';
 import { readFileSync, readdirSync, rmSync } from 'node:fs';
 import { join } from 'node:path';
-import { browser, cell, drawn, example, isMarked, rowsOf, says, textOf, type, upload, written } from './open_page.js';
+import { browser, cell, drawn, example, isMarked, paste, rowsOf, says, select, textOf, type, upload, written } from './open_page.js';
 
 const focusedId = async () => browser.property(await browser.focused(), 'id');
-// Chooses in a select as a reader does.
-function choose(id, value) {
-  const code = 'const select = document.getElementById(arguments[0]); select.value = arguments[1]; select.dispatchEvent(new Event("change"))';
-  return browser.script(code, id, value);
-}
 // What the browser would print now.
 function printed() {
   return browser.script("dispatchEvent(new Event('beforeprint')); return document.getElementById('certificate').textContent");
-}
-
-// Pastes a text into a cell.
-async function paste(name, text) {
-  const code = `const data = new DataTransfer();
-    data.setData('text/plain', arguments[1]);
-    const cell = document.getElementById('cell-' + arguments[0]);
-    cell.focus();
-    cell.dispatchEvent(new ClipboardEvent('paste', { clipboardData: data, bubbles: true, cancelable: true }));`;
-  await browser.script(code, name, text);
-  await drawn();
 }
 
 // What the page saves, read from the folder of downloads.
@@ -65,7 +49,7 @@ test('the certificate is of what is open now', async () => {
 test('the circuit of the question stays the same one when its number changes', async () => {
   const rows = ['network;2;2;16', 'circuit;speed;1;0;0;2;0;2', 'circuit;cabin;2;0;0;2;4;2', 'mode;a;12', 'slot;a;speed;0;2;W', 'mode;b;12'];
   await upload(written('two.csv', [...rows, 'slot;b;speed;0;2;W', 'slot;b;cabin;4;2;N'].join('\n')));
-  await choose('circuit', 'speed');
+  await select('circuit', 'speed');
   assert.deepEqual((await rowsOf('#pairs')).map(([name]) => name), ['speed']);
   await type('G2', '8');
   await browser.press('Enter');
@@ -111,7 +95,7 @@ test('the landing list is of the rows of the file alone', async () => {
   await browser.until("return /no 'at' rows/.test(document.getElementById('landings-note').textContent)");
   assert.equal(await browser.script("return document.querySelectorAll('#landings tbody tr').length"), 0);
   assert.match(await textOf('#grid-caption'), /^Cycle 0:/);
-  await choose('traffic', 'only');
+  await select('traffic', 'only');
   await upload(example('key.csv'));
   assert.equal((await rowsOf('#landings')).length, 3);
   assert.equal(await browser.property(await browser.find('#traffic'), 'value'), '');
