@@ -2,21 +2,11 @@
 //! are the arguments: 65,536 cycles on three sheets, the least of several runs in turn. Then
 //! the exported cycle call against its parts. Exits 1 where a bar is missed.
 
-#[allow(dead_code)]
-#[path = "../tests/second"]
-mod second {
-    pub mod calls;
-    pub mod checker;
-    pub mod exports;
-    pub mod inputs;
-    pub mod lent;
-    pub mod listing;
-    pub mod machine;
-    pub mod sheets;
-}
+#[path = "../tests/exports.rs"]
+mod exports;
 
+use exports::Exports;
 use second::calls::Calls;
-use second::exports::Exports;
 use second::inputs::{
     all_transfers, bytes_of, input_words, largest_in_small_memory, middle_in_small_memory, some_memory, Transfer,
 };

@@ -2,19 +2,10 @@
 //! back, with those of the second checker: first the library calls, then the program
 //! `sheet_check`, whose path is the argument.
 
-#[allow(dead_code)]
-mod second {
-    pub mod calls;
-    pub mod checker;
-    pub mod exports;
-    pub mod lent;
-    pub mod machine;
-    pub mod near_misses;
-    pub mod sheets;
-}
+mod exports;
 
 use second::sheets::{largest, sheet_a, Case, Circuit, Entry, Plan, Schedule};
-use second::{checker, exports, near_misses};
+use second::{checker, near_misses};
 use std::collections::BTreeMap;
 use std::io::Write;
 use std::process::{Command, ExitCode, Stdio};

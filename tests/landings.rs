@@ -2,16 +2,6 @@
 //! for byte with the second machine's listing; where an input settles it, with a line or a
 //! listing that stands here.
 
-#[allow(dead_code)]
-mod second {
-    pub mod checker;
-    pub mod inputs;
-    pub mod listing;
-    pub mod machine;
-    pub mod near_misses;
-    pub mod sheets;
-}
-
 use second::checker;
 use second::inputs::{
     all_transfers, bytes_of, input_words, largest_in_small_memory, middle_in_small_memory, some_memory, Transfer,

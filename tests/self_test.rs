@@ -3,11 +3,6 @@
 
 #[path = "../bench/linear.rs"]
 mod linear;
-mod second {
-    pub mod checker;
-    pub mod near_misses;
-    pub mod sheets;
-}
 
 use second::checker::{Schedule, Sheet};
 use second::{checker, near_misses, sheets};

@@ -3,22 +3,6 @@
 //! circuit. Then machines that are wrong about sheets of no words or about unserved circuits have
 //! to be noticed. It needs no library of ours.
 
-#[allow(dead_code)]
-mod second {
-    pub mod calls;
-    pub mod checker;
-    pub mod coverage;
-    pub mod lent;
-    pub mod machine;
-    pub mod near_misses;
-    pub mod planted;
-    pub mod play;
-    pub mod reckoning;
-    pub mod sessions;
-    pub mod sheets;
-    pub mod words;
-}
-
 use std::process::ExitCode;
 
 fn main() -> ExitCode {

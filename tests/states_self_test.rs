@@ -2,22 +2,6 @@
 //! wrong about sheets of no words or about unserved circuits have to be noticed. It needs no
 //! library of ours.
 
-#[allow(dead_code)]
-mod second {
-    pub mod calls;
-    pub mod checker;
-    pub mod coverage;
-    pub mod hand_made;
-    pub mod lent;
-    pub mod machine;
-    pub mod near_misses;
-    pub mod planted;
-    pub mod pokes;
-    pub mod sessions;
-    pub mod sheets;
-    pub mod words;
-}
-
 use second::planted::{are_noticed, WRONG_LOADS, WRONG_ON_STATES};
 use std::process::ExitCode;
 

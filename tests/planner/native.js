@@ -11,6 +11,11 @@ const source = join(root, 'tests', 'planner', 'native.rs');
 const CODES = { load: 3, start: 4, store: 5, fetch: 6, wordsLeft: 7, periodNumber: 8, landedField: 9, order: 10, cycle: 11 };
 const [VERDICT, ENTRIES, STATE_WORD, MEMORY_WORD, MEMORY_LENGTH, STATE_LENGTH] = [1, 2, 12, 13, 14, 15];
 
+function compile(from, to, words) {
+  const { status, stderr, error } = spawnSync('rustc', ['--edition', '2021', '-O', from, ...words, '-o', to], { encoding: 'utf8' });
+  if (status !== 0) throw new Error(`${from} does not compile: ${error ?? stderr}`);
+}
+
 // The program's path: the environment's, or built where it is missing or older than what it is made of.
 function nativeProgram() {
   if (process.env.CALQETUM_NATIVE) return process.env.CALQETUM_NATIVE;
@@ -19,9 +24,9 @@ function nativeProgram() {
   const age = (path) => statSync(path).mtimeMs;
   if (existsSync(program) && age(program) > Math.max(age(archive), age(source))) return program;
   mkdirSync(dirname(program), { recursive: true });
-  const words = ['--edition', '2021', '-O', source, '-L', dirname(archive), '-l', 'static=exports', '-o', program];
-  const { status, stderr, error } = spawnSync('rustc', words, { encoding: 'utf8' });
-  if (status !== 0) throw new Error(`tests/planner/native.rs does not compile: ${error ?? stderr}`);
+  const second = join(dirname(program), 'libsecond.rlib');
+  compile(join(root, 'tests', 'second', 'lib.rs'), second, ['--crate-name', 'second', '--crate-type', 'rlib']);
+  compile(source, program, ['-L', dirname(archive), '-l', 'static=exports', '--extern', `second=${second}`]);
   return program;
 }
 

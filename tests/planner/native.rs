@@ -3,18 +3,11 @@
 //! and what belongs to it; standard output has the replies. A call on a session replies with
 //! its number, its value (0 where it gives none) and a hash of all lent words.
 
-#[allow(dead_code)]
-#[path = "../second"]
-mod second {
-    pub mod calls;
-    pub mod checker;
-    pub mod exports;
-    pub mod lent;
-    pub mod machine;
-}
+#[path = "../exports.rs"]
+mod exports;
 
+use exports::{entries, Exports};
 use second::calls::Calls;
-use second::exports::{entries, Exports};
 use std::io::{self, Read, Write};
 
 extern "C" {

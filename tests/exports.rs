@@ -1,6 +1,9 @@
 //! The library's exported calls. A slice is lent as its pointer and its length in words.
 
-use super::calls::Calls;
+// Each program calls some of them.
+#![allow(dead_code)]
+
+use second::calls::Calls;
 
 extern "C" {
     fn argo_load(
