@@ -1,13 +1,14 @@
 // The native archive beside WebAssembly: a program over the archive (native.rs) that is handed requests, and a record of the same requests
 // made through the planner's calls.
 import { spawnSync } from 'node:child_process';
-import { existsSync, mkdirSync, statSync } from 'node:fs';
+import { existsSync, mkdirSync, readdirSync, statSync } from 'node:fs';
 import { dirname, join } from 'node:path';
 import { fileURLToPath } from 'node:url';
 
 const root = join(dirname(fileURLToPath(import.meta.url)), '..', '..');
 const archive = join(root, 'target', 'staticlib', 'libexports.a');
 const source = join(root, 'tests', 'planner', 'native.rs');
+const model = join(root, 'tests', 'second');
 const CODES = { load: 3, start: 4, store: 5, fetch: 6, wordsLeft: 7, periodNumber: 8, landedField: 9, order: 10, cycle: 11 };
 const [VERDICT, ENTRIES, STATE_WORD, MEMORY_WORD, MEMORY_LENGTH, STATE_LENGTH] = [1, 2, 12, 13, 14, 15];
 
@@ -22,10 +23,11 @@ function nativeProgram() {
   const program = join(root, 'target', 'tests', 'planner_native');
   if (!existsSync(archive)) throw new Error('target/staticlib/libexports.a is missing: planner/build builds it');
   const age = (path) => statSync(path).mtimeMs;
-  if (existsSync(program) && age(program) > Math.max(age(archive), age(source))) return program;
+  const parts = [archive, source, join(root, 'tests', 'exports.rs'), ...readdirSync(model).map((name) => join(model, name))];
+  if (existsSync(program) && parts.every((part) => age(part) < age(program))) return program;
   mkdirSync(dirname(program), { recursive: true });
   const second = join(dirname(program), 'libsecond.rlib');
-  compile(join(root, 'tests', 'second', 'lib.rs'), second, ['--crate-name', 'second', '--crate-type', 'rlib']);
+  compile(join(model, 'lib.rs'), second, ['--crate-name', 'second', '--crate-type', 'rlib']);
   compile(source, program, ['-L', dirname(archive), '-l', 'static=exports', '--extern', `second=${second}`]);
   return program;
 }

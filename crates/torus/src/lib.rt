@@ -83,6 +83,7 @@ fn south(cols: u32, rows: u32, node: u32) -> u32
 
 // The node one column on by side 1, one column back by every other; a step from the last column, or the first, wraps.
 // One function for both, so that neighbour has three arms: of four the compiler makes a jump through a table, which takes longer.
+// Sides 0 and 2 are neighbour's other arms, and so it meets the requires.
 fn along_row(cols: u32, rows: u32, node: u32, side: u32) -> u32
     requires { ⌜ (InGrid cols rows node) × (side ≡ 0 → ⊥) × (side ≡ 2 → ⊥) ⌝ }
     ensures { λ r. ⌜ r ≡ neighbourOf cols rows node side ⌝ }
