@@ -5,12 +5,13 @@ mod linear;
 #[allow(dead_code)]
 #[path = "../tests/second/sheets.rs"]
 mod sheets;
+mod timing;
 
 use std::alloc::{alloc, dealloc, handle_alloc_error, Layout};
 use std::ffi::c_void;
 use std::hint::black_box;
 use std::process::ExitCode;
-use std::time::Instant;
+use timing::times;
 
 extern "C" {
     fn argo_verdict(sheet: *const u32, length: usize) -> u32;
@@ -18,9 +19,6 @@ extern "C" {
 
 const MOST_RATIO: f64 = 2.0;
 const STACK_LIMIT: usize = 512 * 1024;
-const ROUNDS: usize = 201;
-/// Of each checker in each round.
-const NANOSECONDS_PER_ROUND: f64 = 1_000_000.0;
 
 fn our_verdict(sheet: &[u32]) -> u32 {
     // The pointer and the length are those of a live slice.
@@ -46,8 +44,8 @@ fn main() -> ExitCode {
             good = false;
             continue;
         }
-        let (ours, rust, ratio) = times(sheet, linear::verdict);
-        let (_, tuned, tuned_ratio) = times(sheet, linear::tuned_verdict);
+        let (ours, rust, ratio) = times(sheet, our_verdict, linear::verdict);
+        let (_, tuned, tuned_ratio) = times(sheet, our_verdict, linear::tuned_verdict);
         println!(
             "{name:<14} {:>6} {ours:>12.1} {rust:>12.1} {ratio:>6.2} {tuned:>12.1} {tuned_ratio:>6.2}",
             sheet.len()
@@ -63,44 +61,6 @@ fn main() -> ExitCode {
     } else {
         ExitCode::FAILURE
     }
-}
-
-/// Nanoseconds a call, ours and Rust's, and their ratio: medians of many short rounds. A
-/// round times both directly one after the other, so that a change of the machine's speed
-/// meets both alike.
-fn times(sheet: &[u32], rust_verdict: fn(&[u32]) -> u32) -> (f64, f64, f64) {
-    let repetitions = |verdict: fn(&[u32]) -> u32| {
-        let single = (0..5).map(|_| round(verdict, sheet, 20)).fold(f64::INFINITY, f64::min);
-        ((NANOSECONDS_PER_ROUND / single) as u32).max(10)
-    };
-    let our_repetitions = repetitions(our_verdict);
-    let rust_repetitions = repetitions(rust_verdict);
-    let mut ours = Vec::new();
-    let mut rust = Vec::new();
-    for turn in 0..ROUNDS {
-        if turn % 2 == 0 {
-            ours.push(round(our_verdict, sheet, our_repetitions));
-            rust.push(round(rust_verdict, sheet, rust_repetitions));
-        } else {
-            rust.push(round(rust_verdict, sheet, rust_repetitions));
-            ours.push(round(our_verdict, sheet, our_repetitions));
-        }
-    }
-    let ratios = ours.iter().zip(&rust).map(|(ours, rust)| ours / rust).collect();
-    (median(ours), median(rust), median(ratios))
-}
-
-fn round(verdict: fn(&[u32]) -> u32, sheet: &[u32], repetitions: u32) -> f64 {
-    let start = Instant::now();
-    for _ in 0..repetitions {
-        black_box(black_box(verdict)(black_box(sheet)));
-    }
-    start.elapsed().as_nanos() as f64 / f64::from(repetitions)
-}
-
-fn median(mut values: Vec<f64>) -> f64 {
-    values.sort_by(f64::total_cmp);
-    values[values.len() / 2]
 }
 
 // The C library's threads, since only they take a stack of the caller's.

@@ -47,6 +47,7 @@ extern "C" {
     fn argo_cycle(state: *mut u32, state_words: usize, memory: *mut u32, memory_words: usize) -> u32;
     fn argo_state_words() -> u32;
     fn argo_entries(sheet: *const u32, sheet_words: usize, schedule: u32, field: u32) -> u64;
+    fn argo_hours(list: *const u32, list_words: usize, minute: u32, field: u32) -> u64;
 }
 
 /// Field 0: the place of the schedule's first entry word in the sheet; 1 how many words its
@@ -54,6 +55,13 @@ extern "C" {
 pub fn entries(sheet: &[u32], schedule: u32, field: u32) -> u64 {
     // The pointer and the length are those of a live slice.
     unsafe { argo_entries(sheet.as_ptr(), sheet.len(), schedule, field) }
+}
+
+/// Field 0: the schedule of a minute by a timetable; 1: whether it ever changes; 2: the next minute at which it
+/// differs; any other: 0.
+pub fn hours(list: &[u32], minute: u32, field: u32) -> u64 {
+    // The pointer and the length are those of a live slice.
+    unsafe { argo_hours(list.as_ptr(), list.len(), minute, field) }
 }
 
 pub struct Exports;

@@ -1,4 +1,4 @@
--- The numbers of the fields of a landing and of a schedule's entries.
+-- The numbers of the fields of a landing, of a schedule's entries and of the hours of a minute.
 -- Assumes nothing.
 use Prim.Native.Nat.{ℕ, zero, suc, _+_, _*_}
 use mathlib.Core.Path.{_≡_, refl, sym, ap}
@@ -11,7 +11,7 @@ use Rattle.words.proofs.TestLaws.{yes=, no=}
 use Rattle.sheet.specs.Sheet.{schedulePlace}
 use Rattle.checker.specs.declared.Outcome.the-variants.{Passes, Refused}
 use Rattle.checker.specs.Answers.{outcomeOf, entriesPart}
-use Rattle.exports.specs.Packed.{packed, entriesPlace, entriesField, chosen}
+use Rattle.exports.specs.Packed.{packed, entriesPlace, entriesField, chosen, hoursField}
 
 refused : (n w : ℕ) → suc n * 4294967296 ≡ packed (suc n) w
 unfolding packed
@@ -22,6 +22,11 @@ pub field-other : (field kind address word : ℕ) → (field ≡ 0 → ⊥) → 
     → 0 ≡ chosen field kind address word
 unfolding chosen
 field-other field kind address word a b c d = rw (no= a, no= b, no= c, no= d) refl
+
+pub hours-other : (field schedule changes minute : ℕ) → (field ≡ 0 → ⊥) → (field ≡ 1 → ⊥) → (field ≡ 2 → ⊥)
+    → 0 ≡ hoursField field schedule changes minute
+unfolding hoursField
+hours-other field schedule changes minute a b c = rw (no= a, no= b, no= c) refl
 
 -- an outcome that passes was made of 0, and any other of its number
 pub passes-zero : (n : ℕ) → outcomeOf n ≡ Passes → n ≡ 0

@@ -11,6 +11,8 @@ use Rattle.session.specs.declared.Found.{Found}
 use Rattle.session.specs.declared.Found.the-variants.{Word as FoundWord, Refused as FoundRefused}
 use Rattle.session.specs.declared.Landed.{Landed}
 use Rattle.session.specs.declared.Landed.the-variants.{Nothing, Word as LandedWord, Refused as LandedRefused}
+use Rattle.timetable.specs.declared.Hours.{Hours}
+use Rattle.timetable.specs.declared.Hours.the-variants.{Until, Always, Refused as HoursRefused}
 
 unfoldable pub packed : ℕ → ℕ → ℕ
 packed number value = pick (number =? 0) value (number * 4294967296)
@@ -38,3 +40,13 @@ abbrev pub packedLanded : ℕ → Landed → ℕ
 packedLanded field Nothing = 0
 packedLanded field (LandedWord kind address word) = chosen field kind address word
 packedLanded field (LandedRefused n) = n * 4294967296
+
+-- a field of the hours of a minute: 0 the schedule, 1 whether it ever changes, 2 the next minute at which it differs; 0 for any other
+unfoldable pub hoursField : ℕ → ℕ → ℕ → ℕ → ℕ
+hoursField field schedule changes minute = pick (field =? 0) schedule (pick (field =? 1) changes (pick (field =? 2) minute 0))
+
+-- the number of a timetable's answer; where the schedule never changes, the next minute is 0
+abbrev pub packedHours : ℕ → Hours → ℕ
+packedHours field (Until schedule minute) = hoursField field schedule 1 minute
+packedHours field (Always schedule) = hoursField field schedule 0 0
+packedHours field (HoursRefused n) = n * 4294967296

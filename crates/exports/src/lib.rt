@@ -7,11 +7,13 @@ ghost use Rattle.checker.specs.Answers.{entriesNumber};
 ghost use Rattle.network.specs.Registers.{stateWords};
 ghost use Rattle.session.specs.Calls.{lend, lendState, load, start, store, order, cycle, number, after};
 ghost use Rattle.session.specs.Answers.{fetchAnswer, leftAnswer, periodAnswer, landedAnswer};
-ghost use Rattle.exports.specs.Packed.{packed, entriesPlace, entriesField, chosen, packedFound, packedLanded};
+ghost use Rattle.timetable.specs.Timetable.{hoursAnswer};
+ghost use Rattle.exports.specs.Packed.{packed, entriesPlace, entriesField, chosen, packedFound, packedLanded, hoursField, packedHours};
 use checker::Outcome;
 use session::Found;
 use session::Landed;
 use session::number_of;
+use timetable::Hours;
 
 // The verdict upon a sheet: 0 where it passes, else the number of its refusal.
 #[no_mangle]
@@ -191,4 +193,35 @@ pub extern "C" fn argo_cycle(state: &mut [u32], memory: &mut [u32]) -> u32
     ensures memory { λ _. ⌜ now (memory .exit) ≡ after cycle (lend (now (state .entry)) (now (memory .entry))) .memory ⌝ }
 {
     number_of(session::cycle(state, memory))
+}
+
+// A field of the hours of a minute.
+fn hours_field(field: u32, schedule: u32, changes: u32, minute: u32) -> u32
+    ensures { λ r. ⌜ r ≡ hoursField field schedule changes minute ⌝ }
+{
+    match field {
+        0 => schedule,
+        1 => changes,
+        2 => minute,
+        _ => 0,
+    }
+}
+
+// A field of a timetable's answer, or a number above it.
+fn packed_hours(field: u32, hours: Hours) -> u64
+    ensures { λ r. ⌜ r ≡ packedHours field hours ⌝ }
+{
+    match hours {
+        Hours::Until { schedule, minute } => hours_field(field, schedule, 1, minute) as u64,
+        Hours::Always(schedule) => hours_field(field, schedule, 0, 0) as u64,
+        Hours::Refused(n) => n as u64 * 4294967296,
+    }
+}
+
+// A field of the hours of a minute by a weekly timetable; it needs no sheet and no state.
+#[no_mangle]
+pub extern "C" fn argo_hours(list: &[u32], minute: u32, field: u32) -> u64
+    ensures { λ r. ⌜ r ≡ packedHours field (hoursAnswer (now (list .entry)) minute) ⌝ }
+{
+    packed_hours(field, timetable::mode_at(list, minute))
 }

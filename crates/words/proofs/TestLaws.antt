@@ -3,7 +3,7 @@
 use Prim.Native.Nat.{ℕ, _<_, _≤_}
 use mathlib.Core.Bool.{Bool, true, false, not, false≢true}
 use native.Mathlib.Omega.{arith}
-use native.Mathlib.Decide.{decLe}
+use native.Mathlib.Decide.{decLe, ℕ-discrete}
 use borrow.Author.Tests.{le-leb, lt-leb, lt-ltb, le-ltb, eq-eqb, ne-eqb, leb-true, ltb-true, eqb-true}
 use Rattle.words.specs.Tests.{_and_, _or_, _≤?_, _<?_, _=?_, _≠?_}
 use mathlib.Core.Path.{_≡_, refl, _∙_, sym, ap}
@@ -119,6 +119,13 @@ not< a b e = go (decLe b a)
     go : Dec (b ≤ a) → b ≤ a
     go (yes p) = p
     go (no p) = absurd (false≢true (sym e ∙ yes< (omega (arith, p))))
+
+pub not≠ : (a b : ℕ) → (a ≠? b) ≡ false → a ≡ b
+not≠ a b e = go (ℕ-discrete a b)
+  where
+    go : Dec (a ≡ b) → a ≡ b
+    go (yes p) = p
+    go (no p) = absurd (false≢true (sym e ∙ yes≠ p))
 
 -- one of two tests holds
 pub or-cases : (a b : Bool) {A : Type 0} → a or b ≡ true → (a ≡ true → A) → (b ≡ true → A) → A

@@ -50,6 +50,28 @@ lastOf-passes test (suc n) h = go (test n) refl h (lastOf-passes test n)
     go true e ne r = ap test (let z : suc n - 1 ≡ n = omega arith in z) ∙ e
     go false e ne r = r ne
 
+-- a test that passes at no place, one that passes at a place and at none behind it, and two that agree
+pub lastOf-none : (n : ℕ) (test : ℕ → Bool) → ((k : ℕ) → k < n → test k ≡ false) → lastOf n test ≡ 0
+unfolding lastOf
+lastOf-none zero test h = refl
+lastOf-none (suc n) test h = rw (h n (omega arith)) (lastOf-none n test (λ k l. h k (omega arith)))
+
+pub lastOf-at : (n : ℕ) (test : ℕ → Bool) (k : ℕ) → k < n → test k ≡ true → ((j : ℕ) → k < j → j < n → test j ≡ false)
+    → lastOf n test ≡ suc k
+unfolding lastOf
+lastOf-at zero test k l e h = absurd (not-suc-le-zero l)
+lastOf-at (suc n) test k l e h = go (ℕ-discrete k n) (lastOf-at n test k)
+  where
+    go : Dec (k ≡ n) → (k < n → test k ≡ true → ((j : ℕ) → k < j → j < n → test j ≡ false) → lastOf n test ≡ suc k)
+        → pick (test n) (suc n) (lastOf n test) ≡ suc k
+    go (yes q) r = rw (ap test (sym q) ∙ e) (ap suc (sym q))
+    go (no ne) r = rw (h n (omega (arith, ne)) (omega arith)) (r (omega (arith, ne)) e (λ j a b. h j a (omega arith)))
+
+pub lastOf-same : (n : ℕ) (p q : ℕ → Bool) → ((k : ℕ) → k < n → p k ≡ q k) → lastOf n p ≡ lastOf n q
+unfolding lastOf
+lastOf-same zero p q h = refl
+lastOf-same (suc n) p q h = ap₂ (λ b k. pick b (suc n) k) (h n (omega arith)) (lastOf-same n p q (λ k l. h k (omega arith)))
+
 -- two tests that agree at each number below n
 pub countOf-same : (n : ℕ) (p q : ℕ → Bool) → ((k : ℕ) → k < n → p k ≡ q k) → countOf n p ≡ countOf n q
 unfolding countOf
@@ -220,6 +242,36 @@ leastFrom-none test (suc n) k f =
     let here : test k ≡ false = f k (omega arith) (omega arith) in
     let next : k + 1 + n ≡ k + suc n = omega arith in
     rw (here, leastFrom) (leastFrom-none test n (k + 1) (λ j a b. f j (omega arith) (omega arith)) ∙ next)
+
+-- what it is, said in one: it passes unless it is past them all, and none before it does
+pub leastFrom-by : (test : ℕ → Bool) (n k r : ℕ) → k ≤ r → r ≤ k + n → (r < k + n → test r ≡ true)
+    → ((j : ℕ) → k ≤ j → j < r → test j ≡ false) → leastFrom n k test ≡ r
+leastFrom-by test n k r a b e f = go (decLt r (k + n))
+  where
+    go : Dec (r < k + n) → leastFrom n k test ≡ r
+    go (yes l) = leastFrom-is test n k r a l (e l) f
+    go (no g) =
+        let past : k + n ≡ r = omega (arith, g) in
+        leastFrom-none test n k (λ j c d. f j c (omega arith)) ∙ past
+
+-- and back: it passes, and none before it does
+pub leastFrom-passes : (test : ℕ → Bool) (n k : ℕ) → leastFrom n k test < k + n → test (leastFrom n k test) ≡ true
+unfolding leastFrom
+leastFrom-passes test zero k l = absurd (let z : ⊥ = omega arith in z)
+leastFrom-passes test (suc n) k l = go (test k) refl (leastFrom-passes test n (k + 1)) l
+  where
+    go : (b : Bool) → test k ≡ b → (leastFrom n (k + 1) test < k + 1 + n → test (leastFrom n (k + 1) test) ≡ true)
+        → elim b [ true ↦ k | false ↦ leastFrom n (k + 1) test ] < k + suc n
+        → test (elim b [ true ↦ k | false ↦ leastFrom n (k + 1) test ]) ≡ true
+    go true q r h = q
+    go false q r h = r (omega arith)
+
+pub leastFrom-before : (test : ℕ → Bool) (n k j : ℕ) → k ≤ j → j < leastFrom n k test → test j ≡ false
+leastFrom-before test n k j a l = go (test j) refl
+  where
+    go : (b : Bool) → test j ≡ b → b ≡ false
+    go true e = absurd (omega (arith, leastFrom-least test n k j a (omega (arith, leastFrom-most test n k)) e))
+    go false e = refl
 
 -- and never before the first
 pub leastFrom-low : (test : ℕ → Bool) (n k : ℕ) → k ≤ leastFrom n k test

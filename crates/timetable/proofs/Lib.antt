@@ -1,0 +1,3 @@
+pub mod WindowLaws
+pub mod EdgeLaws
+pub mod HoursLaws
