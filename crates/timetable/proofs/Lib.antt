@@ -1,3 +1,4 @@
 pub mod WindowLaws
 pub mod EdgeLaws
 pub mod HoursLaws
+pub mod Examples
