@@ -151,3 +151,21 @@ build_program() {
 }
 
 build_exports() { build staticlib/libexports.a staticlib exports; }
+
+# run_c NAME: builds examples/NAME.c with the exported calls, hands it the words that were read, prints its answer and exits with its status.
+run_c() {
+    local program=$root/target/examples/$1 answer status
+    need gcc "examples/$1.c has to be built."
+    build_exports
+    mkdir -p -- "${program%/*}" && gcc -O2 -Wall -Wextra -Werror "$examples/$1.c" -o "$program" -L"$root/target/staticlib" -lexports ||
+        stop "examples/$1.c could not be built."
+    answer=$(put_words "${#words[@]}" "${words[@]}" | "$program")
+    status=$?
+    [ -z "$answer" ] || printf '%s\n' "$answer" || exit 2
+    case $status in
+    0 | 2) ;;
+    1) case $answer in *'refused '*) say "README.md, 'The numbers of a refusal', says what number ${answer##*refused } means" ;; esac ;;
+    *) stop "target/examples/$1 broke off." ;;
+    esac
+    exit "$status"
+}

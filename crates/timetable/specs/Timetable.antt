@@ -41,6 +41,7 @@ windowFits t k = startAt t k <? week and 1 ≤? lengthAt t k and endAt t k ≤? 
 unfoldable pub inOrder : List ℕ → ℕ → Bool
 inOrder t k = endAt t k ≤? startAt t (k + 1)
 
+-- a timetable: whole windows, not too many, all fit, and each but the last ends in time for the next
 unfoldable pub timetableFits : List ℕ → Bool
 timetableFits t = length t % 3 =? 0 and windows t ≤? 64 and all (windows t) (windowFits t) and all (windows t - 1) (inOrder t)
 

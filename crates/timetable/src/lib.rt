@@ -9,7 +9,7 @@ ghost use Rattle.timetable.specs.Timetable.{timetableFits, hoursNumber, 
 // The minutes of a week.
 pub const WEEK: u32 = 10080;
 
-// The schedule of a minute: until it differs next, at a minute of the week, or for always.
+// The schedule of a minute, until it differs at a minute of the week, or for always; or the number of a refusal.
 pub enum Hours {
     Until { schedule: u32, minute: u32 },
     Always(u32),
