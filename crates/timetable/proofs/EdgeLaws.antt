@@ -1,13 +1,12 @@
 -- From edge to edge: the schedule stays between two edges, and the first window that has not ended gives the next one.
 -- Assumes nothing.
 use Prim.Native.Nat.{ℕ, _+_, _-_, _≤_, _<_}
-use mathlib.Core.Bool.{Bool, true, false}
+use mathlib.Core.Bool.{true, false}
 use mathlib.Core.List.{List}
 use mathlib.Core.Path.{_≡_, refl, sym, _∙_, ap, ap₂}
 use native.Mathlib.Omega.{arith}
 use native.Mathlib.Decide.{ℕ-discrete, decLt, decLe}
-use Rattle.words.specs.Tests.{_≤?_, _<?_, _=?_, _and_, _or_, any}
-use Rattle.words.specs.Words.{lastOf, leastFrom}
+use Rattle.words.specs.Tests.{_≤?_, _<?_, _=?_, _and_, _or_}
 use Rattle.words.proofs.TestLaws.{or-yes, or-on, or-skip, yes≤, no≤, yes<, no<, yes=, no=}
 use Rattle.words.proofs.AllLaws.{any-at, any-none}
 use Rattle.words.proofs.WordLaws.{lastOf-same, leastFrom-by, leastFrom-least, leastFrom-most, leastFrom-low}

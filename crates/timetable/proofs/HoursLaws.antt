@@ -9,13 +9,12 @@ use native.Mathlib.Omega.{arith}
 use native.Mathlib.Decide.{decLt}
 use Rattle.words.specs.Tests.{_<?_, _=?_, _≠?_}
 use Rattle.words.specs.Words.{pick, leastFrom}
-use Rattle.words.specs.Numbers.{unless, _then_}
+use Rattle.words.specs.Numbers.{unless}
 use Rattle.words.proofs.TestLaws.{yes=, no=, yes≠, no≠, is=, is≠, is<, not≠}
 use Rattle.words.proofs.NumberLaws.{then-zero, unless-zero}
 use Rattle.words.proofs.WordLaws.{leastFrom-is, leastFrom-none, leastFrom-most, leastFrom-low, leastFrom-passes, leastFrom-before}
-use Rattle.timetable.specs.declared.Hours.{Hours}
 use Rattle.timetable.specs.declared.Hours.the-variants.{Until, Always, Refused}
-use Rattle.timetable.specs.Timetable.{week, timetableFits, scheduleIn, changesIn, Change, never, nextAt, nextChange, hoursNumber, hoursOf, hoursAnswer, ChangesAt, ChangeRight, NeverChanges}
+use Rattle.timetable.specs.Timetable.{week, timetableFits, scheduleIn, changesIn, Change, never, nextAt, nextChange, hoursNumber, hoursOf, hoursAnswer, ChangeRight, NeverChanges}
 use Rattle.timetable.specs.Inner.Edges.{nextEdge, EndedBefore, firstChange}
 use Rattle.timetable.proofs.EdgeLaws.{same-between, edge-later}
 

@@ -3,14 +3,13 @@
 use Prim.Native.Nat.{ℕ, zero, suc, _+_, _-_, _%_, _≤_, _<_}
 use mathlib.Core.Bool.{Bool, true, false}
 use mathlib.Core.List.{List}
-use mathlib.Core.Path.{_≡_, refl, sym, _∙_, ap, ap₂}
+use mathlib.Core.Path.{_≡_, refl, sym, _∙_, ap}
 use native.Mathlib.Omega.{arith}
 use native.Mathlib.Decide.{ℕ-discrete, decLt}
 use native.Mathlib.Numerals.{add-one}
 use native.Mathlib.Nat.{not-suc-le-zero}
 use lib.ListN.{length}
 use Rattle.words.specs.Tests.{_≤?_, _<?_, _=?_, _and_, all}
-use Rattle.words.specs.Words.{lastOf}
 use Rattle.words.proofs.TestLaws.{and-no, and-on, and-both, and-left, and-right, and-no-right, yes≤, no≤, yes<, no<, yes=, no=, is≤, is<}
 use Rattle.words.proofs.AllLaws.{all-at}
 use Rattle.words.proofs.WordLaws.{lastOf-at, lastOf-none}

@@ -3,8 +3,7 @@ mod walk;
 mod windows;
 
 ghost use mathlib.Core.Path.{_≡_};
-ghost use mathlib.Core.Bool.{true};
-ghost use Rattle.timetable.specs.Timetable.{timetableFits, hoursNumber, hoursAnswer};
+ghost use Rattle.timetable.specs.Timetable.{hoursNumber, hoursAnswer};
 
 // The minutes of a week.
 pub const WEEK: u32 = 10080;

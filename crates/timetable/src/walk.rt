@@ -3,7 +3,7 @@
 ghost use mathlib.Core.Path.{_≡_};
 ghost use mathlib.Core.Bool.{true};
 ghost use Prim.Native.Nat.{_≤_, _<_};
-ghost use Rattle.timetable.specs.Timetable.{timetableFits, windows, scheduleIn};
+ghost use Rattle.timetable.specs.Timetable.{timetableFits, scheduleIn};
 ghost use Rattle.timetable.specs.Inner.Edges.{EndedBefore, FirstBehind, nextEdge, firstChange};
 use super::WEEK;
 use super::windows::end_at;

@@ -1,9 +1,8 @@
 // The windows of a timetable, and number 31.
 ghost use mathlib.Core.Path.{_≡_};
 ghost use Prim.Native.Nat.{_-_, _≤_};
-ghost use lib.ListN.{length};
 ghost use Rattle.words.specs.Tests.{all};
-ghost use Rattle.timetable.specs.Timetable.{windows, startAt, lengthAt, scheduleAt, endAt, windowFits, inOrder, timetableFits};
+ghost use Rattle.timetable.specs.Timetable.{windows, startAt, scheduleAt, endAt, windowFits, inOrder, timetableFits};
 use super::WEEK;
 
 // The most windows that a timetable has.
