@@ -9,7 +9,7 @@ import { fileURLToPath } from 'node:url';
 
 const folder = dirname(fileURLToPath(import.meta.url));
 const root = dirname(folder);
-const EXAMPLES = ['cable-car.csv', 'cable-car-late.csv', 'cable-car-clash.csv', 'key.csv', 'idle.csv'];
+const EXAMPLES = ['cable-car.csv', 'cable-car-late.csv', 'cable-car-clash.csv', 'cable-car-week.csv', 'key.csv', 'idle.csv'];
 const IMPORT = /^import \{([^}]*)\} from '(\.[^']*)';$/gms;
 const EXPORT = /^export (?=(?:async )?function (\w+)|const (\w+)|class (\w+))/gm;
 

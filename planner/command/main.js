@@ -5,6 +5,7 @@ import { certificate } from './certificate.js';
 import { check, explainFile } from './check.js';
 import { draw } from './draw.js';
 import { wrongUse } from './failures.js';
+import { hours } from './hours.js';
 import { mark } from './mark.js';
 import { compare, modes } from './modes.js';
 import { print, say, watchOutput } from './output.js';
@@ -34,6 +35,7 @@ const COMMANDS = {
   explain: [explainFile, '--exam', '--json'],
   modes: [modes, '--exam', '--json'],
   compare: [compare, '--exam', '--json'],
+  hours: [hours, '--exam', '--json'],
   run: [run, '--cycles', '--names', '--exam', '--json'],
   draw: [draw, '-o', '--mode', '--grid', '--cycles', '--cycle', '--exam'],
   mark: [mark, '--cycles', '--exam', '--json'],

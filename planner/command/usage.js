@@ -16,6 +16,7 @@ Judges and runs the circuit sheets of a time-division network-on-chip, by the pr
   explain FILE                why a sheet is refused, down to the cell, and what would help
   modes FILE [CIRCUIT]        what each circuit gets in each mode, and whom a switch of modes disturbs
   compare OLD NEW             whom a change of the sheet disturbs
+  hours FILE [MINUTE]         which mode belongs to a minute of the week, and when the next begins
   run FILE --cycles N         what lands where, cycle by cycle
   draw FILE -o F.svg          the slots of its modes, or with --grid the words under way, as a picture
   mark KEY PAPER..            marks papers against the right lines
@@ -64,6 +65,21 @@ exit status
   0  compared
   1  a sheet is refused, or the grids differ, so that nothing can be said
   2  a file cannot be read (its cells are named), or wrong use`,
+  hours: `usage: calqetum hours FILE [MINUTE] [--exam] [--json]
+
+Says which mode the window rows of a plan give a minute of the week, and when it changes next; without MINUTE, the whole week in lines
+'from to mode'. Outside all windows it is the first mode. The timetable orders no switch: an at row with order does. Where the windows or
+the minute are refused, the only line is 'refused 31' or 'refused 32', and standard error says why and what would help. The sheet itself
+is not judged here: check does that. A file of words has no window rows and is not taken.
+  MINUTE   a day and a time as Mo 08:30, in one word or two (Mo, Tu, We, Th, Fr, Sa, Su or the whole English name; 0:00 to 23:59); the
+           minute of the week from Mo 00:00 on, 0 to 10079; or now, by this computer's clock
+  --exam   windows stay in the order of the rows, so that their order is judged too
+${JSON_OPTION}
+
+exit status
+  0  answered
+  1  refused: 31, the windows do not make a timetable, or 32, the minute is not one of the week
+  2  the file cannot be read (its cells are named), it has words and no rows, or wrong use`,
   run: `usage: calqetum run FILE --cycles N [--names] [--exam] [--json]
 
 Runs a sheet with its memory and at rows for N cycles (at most 65,536) and lists what landed: cycle, node, address, word and kind

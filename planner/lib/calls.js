@@ -23,7 +23,7 @@ function callsOf(exported) {
   const stateWords = exported.argo_state_words();
   const statePlace = (exported.__heap_base.value + 3) >> 2;
   const memoryPlace = statePlace + stateWords;
-  const sheetPlace = memoryPlace + MOST_MEMORY_WORDS;
+  const listPlace = memoryPlace + MOST_MEMORY_WORDS;
   let words = new Uint32Array(0);
   let memoryWords = 0;
 
@@ -34,10 +34,11 @@ function callsOf(exported) {
     if (words.buffer !== exported.memory.buffer) words = new Uint32Array(exported.memory.buffer);
   }
 
-  function lendSheet(sheet) {
-    reach(sheetPlace + sheet.length);
-    words.set(sheet, sheetPlace);
-    return [sheetPlace * 4, BigInt(sheet.length)];
+  // Lends a list that a call only reads: a sheet or a timetable.
+  function lendList(list) {
+    reach(listPlace + list.length);
+    words.set(list, listPlace);
+    return [listPlace * 4, BigInt(list.length)];
   }
 
   const state = [statePlace * 4, BigInt(stateWords)];
@@ -47,11 +48,11 @@ function callsOf(exported) {
     stateWords,
 
     // 0 where the sheet passes, else the first of the numbers 1 to 11 and 26 that applies, in this order.
-    verdict: (sheet) => exported.argo_verdict(...lendSheet(sheet)),
+    verdict: (sheet) => exported.argo_verdict(...lendList(sheet)),
 
     // Where a schedule's entries begin in a sheet, and how many words they are.
     entries(sheet, schedule) {
-      const lent = lendSheet(sheet);
+      const lent = lendList(sheet);
       const place = unpacked(exported.argo_entries(...lent, schedule, 0));
       return { number: place.number, place: place.value, count: unpacked(exported.argo_entries(...lent, schedule, 1)).value };
     },
@@ -59,7 +60,7 @@ function callsOf(exported) {
     // Loads a sheet for a memory, which is copied: store and fetch reach it afterwards.
     load(sheet, contents) {
       if (contents.length > MOST_MEMORY_WORDS) throw new RangeError('no network has so large a memory');
-      const lent = lendSheet(sheet);
+      const lent = lendList(sheet);
       words.set(contents, memoryPlace);
       memoryWords = contents.length;
       return exported.argo_load(...lent, ...state, ...memory());
@@ -74,6 +75,15 @@ function callsOf(exported) {
     order: (schedule, period) => exported.argo_order(...state, schedule, period),
     cycle: () => exported.argo_cycle(...state, ...memory()),
 
+    // What a weekly timetable says of a minute of the week: the schedule, whether it ever changes, and the next minute at which it does.
+    hours(list, minute) {
+      const lent = lendList(list);
+      const field = (number) => unpacked(exported.argo_hours(...lent, minute, number));
+      const { number, value: schedule } = field(0);
+      return { number, schedule, changes: field(1).value === 1, minute: field(2).value };
+    },
+    hoursField: (list, minute, field) => unpacked(exported.argo_hours(...lendList(list), minute, field)),
+
     // What landed at a node in the last cycle, or null.
     landing(node) {
       const field = (number) => unpacked(exported.argo_landed(...state, node, number)).value;
@@ -85,7 +95,7 @@ function callsOf(exported) {
     lentState: () => words.subarray(statePlace, statePlace + stateWords),
     lentMemory: () => words.subarray(memoryPlace, memoryPlace + memoryWords),
     lendMemory(length) {
-      reach(sheetPlace);
+      reach(listPlace);
       memoryWords = length;
     },
   };

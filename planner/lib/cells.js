@@ -6,7 +6,7 @@ export const MOST_ROWS = 10000;
 const MOST_LINES = 1048576;
 const UNCLOSED = 'a closing quote: none follows up to the end of the file';
 
-const KEYWORDS = new Set(['network', 'circuit', 'mode', 'slot', 'memory', 'at']);
+const KEYWORDS = new Set(['network', 'circuit', 'mode', 'slot', 'window', 'memory', 'at']);
 const SEPARATORS = [';', '\t', ','];
 // Bytes 80 to 9f in the code page of Western Europe, which not every Node decodes as browsers do.
 const WESTERN = '€\u0081‚ƒ„…†‡ˆ‰Š‹Œ\u008dŽ\u008f\u0090‘’“”•–—˜™š›œ\u009džŸ';

@@ -92,7 +92,7 @@ function wordsText(given) {
 
 function sheetPart(document) {
   const rows = document.kind === 'plan' ? document.rows : rowsOfWords(document.words);
-  const ofPlan = "The file's rows (memory and at rows are not part of the sheet)";
+  const ofPlan = "The file's rows (window, memory and at rows are not part of the sheet)";
   return [rows ? rowsTable(rows, document.kind === 'plan' ? ofPlan : 'The sheet as the rows of a plan') : null, wordsText(document.words)];
 }
 

@@ -1,5 +1,6 @@
 // A plan: the rows of a table, read by their keywords. Every cell that cannot be read is told at once; ranges and rules are the checker's.
 import { routeOfLetters, MOST_LETTERS } from './route.js';
+import { MINUTE_FORMS, minuteOfTime } from './week.js';
 
 export const LARGEST_WORD = 4294967295;
 export const MOST_NAME = 60;
@@ -12,13 +13,14 @@ export const COLUMNS = {
   circuit: ['name', 'source', 'destination', 'read offset', 'read length', 'receive offset', 'receive length'],
   mode: ['name', 'period'],
   slot: ['mode', 'circuit', 'offset', 'length', 'route'],
+  window: ['start', 'length', 'mode'],
   memory: ['node', 'address', 'words'],
   start: ['cycle', 'start', 'circuit', 'read', 'write', 'count', 'data or interrupt'],
   store: ['cycle', 'store', 'node', 'address', 'word'],
   order: ['cycle', 'order', 'mode', 'period'],
 };
 
-const KEYWORD = 'a keyword: network, circuit, mode, slot, memory or at (a comment begins with #)';
+const KEYWORD = 'a keyword: network, circuit, mode, slot, window, memory or at (a comment begins with #)';
 const NETWORK = 'a network row: network, columns, rows, memory words a node';
 const NUMBER = `a whole number from 0 to ${LARGEST_WORD}`;
 
@@ -37,6 +39,8 @@ export function numberOf(text) {
   const plain = digits.replace(/^0+(?=.)/, '');
   return plain.length <= 10 && Number(plain) <= LARGEST_WORD ? Number(plain) : null;
 }
+
+const formulaNote = (text) => (text.startsWith('=') ? '; a formula is not worked out, write its value' : '');
 
 // Where a comment begins in a row; the row's length where none does.
 function commentAt(row) {
@@ -77,7 +81,7 @@ function rowReader(whole, row, problems, names = {}) {
   const number = (column, what) => {
     const value = numberOf(text(column));
     if (value !== null) return value;
-    return problem(column, `${what}: ${NUMBER}${text(column).startsWith('=') ? '; a formula is not worked out, write its value' : ''}`);
+    return problem(column, `${what}: ${NUMBER}${formulaNote(text(column))}`);
   };
   const name = (column, what) => {
     const value = nameOf(text(column));
@@ -106,6 +110,12 @@ function readRoute(reader, column) {
   const value = numberOf(text) ?? routeOfLetters(text);
   const letters = `letters N, E, S, W in the order of the way, as ES (at most ${MOST_LETTERS}, none straight back)`;
   return value ?? reader.problem(column, `a route: ${letters}, or its number`);
+}
+
+// Reads a minute of the week: a day and a time as Mo 08:30, or its number.
+function readMinute(reader, column) {
+  const text = reader.text(column);
+  return numberOf(text) ?? minuteOfTime(text) ?? reader.problem(column, `a start: ${MINUTE_FORMS}${formulaNote(text)}`);
 }
 
 function readKind(reader, column) {
@@ -149,6 +159,12 @@ const laterReaders = {
     reader.end(6, 'slot');
     plan.slots.push({ row, mode, circuit, offset, length, route });
   },
+  window(reader, row, plan) {
+    const [start, length] = [readMinute(reader, 1), reader.number(2, 'length in minutes')];
+    const mode = reader.named(3, 'mode');
+    reader.end(4, 'window');
+    plan.windows.push({ row, start, length, mode });
+  },
   memory(reader, row, plan, cells) {
     const [node, address] = [reader.number(1, 'node'), reader.number(2, 'address')];
     let last = cells.length - 1;
@@ -179,7 +195,7 @@ const laterReaders = {
 
 // Reads the rows of a table. Parts that could not be read are null, and problems has each such cell, as many as MOST_PROBLEMS.
 export function readPlan(rows) {
-  const plan = { network: null, circuits: [], modes: [], slots: [], memory: [], acts: [], problems: [] };
+  const plan = { network: null, circuits: [], modes: [], slots: [], windows: [], memory: [], acts: [], problems: [] };
   const later = [];
   rows.forEach((cells, row) => {
     const kept = cells.slice(0, commentAt(cells));

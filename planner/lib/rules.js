@@ -1,4 +1,4 @@
-// The numbers of a refusal, 1 to 20 and 26, in a planner's words; and why a call of a run was refused.
+// The numbers of a refusal, 1 to 20, 26, 31 and 32, in a planner's words; and why a call of a run was refused.
 import { cellName } from './cells.js';
 import { ROWS } from './calls.js';
 import { capital, circuitName, counted, modeName } from './naming.js';
@@ -78,6 +78,12 @@ export const RULES = {
     'A circuit has no slot',
     'Every circuit has a slot in at least one mode: what a circuit without any sends would never leave.',
   ),
+  31: rule(
+    'The windows do not make a timetable',
+    'A timetable has at most 64 windows in the order of their starts: a start is 0 to 10,079, a length at least 1 minute, a mode one of ' +
+      'the first eight; each window ends with the week at the latest, and no two share a minute.',
+  ),
+  32: rule('The minute is not one of the week', 'The minutes of a week are 0 to 10,079, counted from Monday 00:00.'),
 };
 
 // The numbers by which a sheet is refused, in checking order; the others are those of calls.

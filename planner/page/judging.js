@@ -1,6 +1,7 @@
 // What is said of the open plan: unreadable cells, the verdict and its explanation, and the cells to be marked.
 import { cellOfMark, documentOfRows, documentOfWords } from '../lib/document.js';
 import { explain } from '../lib/explain.js';
+import { explainHours } from '../lib/explain_hours.js';
 
 // The document of the open plan's rows. Lines of a file of words are rows of one word a cell.
 export function documentOf(plan, rows = plan.rows) {
@@ -31,4 +32,10 @@ export function judge(opened, verdict) {
     return place ? [{ ...place, text: mark.text }] : [];
   });
   return { answer: 'refused', number, explanation, marks };
+}
+
+// What is said of the window rows of a document: why they are refused, or null, and the cells to be marked.
+export function judgeWindows(opened, hours) {
+  const refusal = opened.problems.length === 0 ? explainHours(opened, hours) : null;
+  return { refusal, marks: refusal?.marks ?? [] };
 }

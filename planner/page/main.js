@@ -10,12 +10,13 @@ import { byId, choices, chooseIn, download, fill, nodeOf } from './dom.js';
 import { certificateOf, encoded, planOfFile, savedName, savedText } from './filing.js';
 import { showCellHelp, showRowHelp } from './help_view.js';
 import { canRedo, canUndo, changed, isSaved, redone, undone, withCell, withRowBelow, withoutRow } from './history.js';
-import { documentOf, judge } from './judging.js';
+import { documentOf, judge, judgeWindows } from './judging.js';
 import { makeLister, usualCycles } from './landings_view.js';
 import { makePlayer } from './network_view.js';
 import { showComparison, showQuestion } from './question_view.js';
 import { PAGE_ROWS, makeTable } from './table.js';
 import { showVerdict } from './verdict_view.js';
+import { makeWeek } from './week_view.js';
 
 const dataOf = (id) => JSON.parse(byId(id).textContent);
 const about = dataOf('about-data');
@@ -34,6 +35,7 @@ let exam = false;
 const refusedText = (refused, calls) => callLine(opened, refused, calls);
 const player = makePlayer(showing, refusedText);
 const lister = makeLister(listing, refusedText);
+const week = makeWeek(checking);
 const table = makeTable(byId('table'), {
   typed: (row, column, text) => say(withCell(plan.rows, row, column, text)),
   committed(row, column, text) {
@@ -64,6 +66,7 @@ function openBytes(name, bytes) {
   plan = next;
   for (const id of ['circuit', 'mode', 'traffic']) chooseIn(id, '');
   byId('cycles').value = 0;
+  week.begin();
   note(kept ? `${kept.name} had changes that are not saved: Undo brings it back. ${said}` : said);
   showPlan(0);
   const [schedule] = judged.explanation?.schedules ?? [];
@@ -102,14 +105,14 @@ function showPages() {
   table.mark(marksNow());
 }
 
-const marksNow = () => [...judged.marks, ...(judged.calls ?? [])];
+const marksNow = () => [...judged.marks, ...(judged.calls ?? []), ...judged.windows.marks];
 
 // Judges rows and says so at once; what takes longer to draw follows when nothing is typed for a moment.
 function say(rows = plan.rows) {
   opened = documentOf(plan, rows);
-  judged = judge(opened, checking.verdict);
+  judged = { ...judge(opened, checking.verdict), windows: judgeWindows(opened, checking.hours) };
   showVerdict(opened, judged);
-  table.mark(judged.marks);
+  table.mark(marksNow());
   byId('certificate').replaceChildren();
   clearTimeout(waiting);
   document.documentElement.dataset.drawn = 'no';
@@ -121,6 +124,7 @@ function showRest() {
   if (opened.modeNames.length > 0) choices('mode', opened.modeNames.map((name) => ({ value: name, text: name })));
   if (opened.words && partsOf(opened.words) && opened.modeNames.length > 0) showSlots();
   else fill('slots', element('p', {}, 'The slots are drawn when the plan can be read.'));
+  week.show(opened, judged.windows);
   player.open(passes ? opened : null);
   if (passes) {
     showQuestion(opened);
@@ -227,8 +231,10 @@ wire('save-slots', 'click', () => {
   const picture = slotsPicture(opened, modeShown(), { prefix: 'saved', background: true });
   download('slots.svg', svgFile(picture), 'image/svg+xml');
 });
-wire('explanation', 'pointerdown', jump);
-wire('explanation', 'click', (event) => event.detail === 0 && jump(event));
+for (const id of ['explanation', 'week-refusal']) {
+  wire(id, 'pointerdown', jump);
+  wire(id, 'click', (event) => event.detail === 0 && jump(event));
+}
 for (const event of ['pointerover', 'focusin']) {
   wire('slots', event, ({ target }) => {
     const box = target.closest?.('g[role=img]');

@@ -27,12 +27,12 @@ export function showVerdict(opened, judged) {
   }
   const { number, title, lines, help } = judged.explanation;
   verdict.textContent = `\u2717 refused ${number}: ${title}`;
-  const marks = judged.marks.map((mark) => lineOf(mark, cellName(mark.row, mark.column), mark.text));
+  const { marks } = judged;
   return fill(
     'explanation',
     lines.map((line) => element('p', {}, line)),
     marks.length > 0 && element('h3', {}, 'Where'),
-    marks.length > 0 && element('ul', { class: 'reasons' }, marks),
+    marks.length > 0 && cellList(marks),
     help.length > 0 && element('h3', {}, 'What would help (each tried with the proved checker)'),
     help.length > 0 && element('ul', { class: 'reasons' }, help.map((item) => element('li', {}, helpLine(item, number)))),
   );
@@ -41,10 +41,13 @@ export function showVerdict(opened, judged) {
 // Below a sheet that passes: a row of the file that is refused when it runs.
 function showRefusedCall(marks) {
   const said = marks.length > 0 && element('p', {}, `The sheet passes, but not all rows can be carried out. ${marks[0].text}`);
-  fill('explanation', said, said && cellList(marks));
+  fill('explanation', said, said && cellList(marks.map((mark) => ({ ...mark, text: '' }))));
 }
 
-const cellList = (marks) => element('ul', { class: 'reasons' }, marks.map((mark) => lineOf(mark, cellName(mark.row, mark.column), '')));
+// A list of cells, each a button to it and what is said of it.
+export function cellList(marks) {
+  return element('ul', { class: 'reasons' }, marks.map((mark) => lineOf(mark, cellName(mark.row, mark.column), mark.text)));
+}
 
 function problemList(opened) {
   const shown = opened.problems.slice(0, MOST_PROBLEMS);

@@ -25,14 +25,25 @@ export function calqetum(words, options = {}) {
   return { status, stdout, stderr };
 }
 
-// Holds a use to its exit status, its standard output, and a pattern of its standard error.
-export function gives(words, status, stdout, stderr = /^$/, options = {}) {
-  const found = calqetum(words, options);
+// Holds what a use gave to its exit status, its standard output, and a pattern of its standard error.
+export function holdUse(found, status, stdout, stderr = /^$/) {
   assert.match(found.stderr, stderr);
   if (stdout instanceof RegExp) assert.ok(stdout.test(found.stdout), `${stdout} is not in: ${found.stdout.slice(0, 1000)}`);
   else assert.equal(found.stdout, stdout);
   assert.equal(found.status, status, found.stderr);
   return found;
+}
+
+export function gives(words, status, stdout, stderr = /^$/, options = {}) {
+  return holdUse(calqetum(words, options), status, stdout, stderr);
+}
+
+// What several uses give, all carried out in one process.
+export function carriedOut(uses) {
+  const words = [fileURLToPath(new URL('command_uses.js', import.meta.url)), JSON.stringify(uses)];
+  const { stdout, stderr } = spawnSync(process.execPath, words, { cwd: folder, encoding: 'utf8', maxBuffer: 1 << 28 });
+  assert.equal(stderr, '');
+  return JSON.parse(stdout);
 }
 
 // What a use with --json prints.

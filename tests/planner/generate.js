@@ -1,6 +1,7 @@
 // Plans for tests, from a seeded generator: rows of cell texts that can be read, with odd names and odd ways to write them.
 import { lettersOfRoute } from '../../planner/lib/route.js';
 import { sheetParts } from './sheets.js';
+import { timetable, windowRows } from './timetables.js';
 
 export const ODD_NAMES = [
   'say "hi"', '"', 'a;b', 'a,b', 'a\tb', 'two  blanks', 'line\nbreak', 'line\r\nbreak', '=1+1', '+5', '-x', '@cmd', "'=1", "''=1",
@@ -52,7 +53,7 @@ function sheetRows(random, parts, circuitNames, modeNames) {
   return random.chance(0.3) ? [...shuffled(random, [...circuits, ...slots]), ...modes, network] : rows;
 }
 
-// Rows for what the nodes hold and do.
+// Rows for what the nodes hold and do, and for the week.
 function actRows(random, parts, circuitNames, modeNames) {
   const node = () => random.below(parts.columns * parts.rows);
   const rows = [];
@@ -71,7 +72,8 @@ function actRows(random, parts, circuitNames, modeNames) {
       rows.push(['at', cycle, 'start', circuitNames[number], read, receive, random.between(1, Math.min(readLength, receiveLength)), kind]);
     }
   }
-  return rows.map((row) => row.map(String));
+  const windows = windowRows(random, timetable(random, { most: 3, modes: modeNames.length }), modeNames);
+  return [...rows, ...windows].map((row) => row.map(String));
 }
 
 // Changes one number of the sheet, so that most sheets no longer pass.
@@ -87,6 +89,7 @@ function spoil(random, rows) {
 function nameColumns([keyword, , what]) {
   if (keyword === 'circuit' || keyword === 'mode') return [1];
   if (keyword === 'slot') return [1, 2];
+  if (keyword === 'window') return [3];
   return keyword === 'at' && what !== 'store' ? [3] : [];
 }
 

@@ -47,7 +47,7 @@ test('every kind of cell that cannot be read, each alone', () => {
     ['network;2;2;8\n\nnetwork;3;3;8\n', ['A3: one network row; row 1 is one already']],
     ['mode;m;9\n', ['A1: a network row: network, columns, rows, memory words a node']],
     ['', ['A1: a network row: network, columns, rows, memory words a node']],
-    [HEAD + 'circuits;b;1;0;0;1;4;1\n', ['A4: a keyword: network, circuit, mode, slot, memory or at (a comment begins with #)']],
+    [HEAD + 'circuits;b;1;0;0;1;4;1\n', ['A4: a keyword: network, circuit, mode, slot, window, memory or at (a comment begins with #)']],
     [HEAD + 'circuit;;1;0;0;1;4;1\n', ['B4: a name for the circuit, of 1 to 60 characters']],
     [HEAD + `circuit;${'n'.repeat(61)};1;0;0;1;4;1\n`, ['B4: a name for the circuit, of 1 to 60 characters']],
     [HEAD + 'circuit; a ;1;0;0;1;4;1\n', ['B4: a name of its own: row 2 has a circuit of this name']],

@@ -10,7 +10,9 @@ const archive = join(root, 'target', 'staticlib', 'libexports.a');
 const source = join(root, 'tests', 'planner', 'native.rs');
 const model = join(root, 'tests', 'second');
 const CODES = { load: 3, start: 4, store: 5, fetch: 6, wordsLeft: 7, periodNumber: 8, landedField: 9, order: 10, cycle: 11 };
-const [VERDICT, ENTRIES, STATE_WORD, MEMORY_WORD, MEMORY_LENGTH, STATE_LENGTH] = [1, 2, 12, 13, 14, 15];
+const [VERDICT, ENTRIES, STATE_WORD, MEMORY_WORD, MEMORY_LENGTH, STATE_LENGTH, HOURS] = [1, 2, 12, 13, 14, 15, 16];
+// The fields of a timetable's answer, and two that it does not have.
+const HOURS_FIELDS = [0, 1, 2, 3, 0xffffffff];
 
 function compile(from, to, words) {
   const { status, stderr, error } = spawnSync('rustc', ['--edition', '2021', '-O', from, ...words, '-o', to], { encoding: 'utf8' });
@@ -85,6 +87,11 @@ export function recordOf(calls) {
       const { number, place, count } = calls.entries(sheet, schedule);
       note([ENTRIES, sheet.length, ...sheet, schedule], [number, place, number, count, number, 0]);
       return number;
+    },
+    hours(list, minute) {
+      const fields = HOURS_FIELDS.map((field) => calls.hoursField(list, minute, field));
+      note([HOURS, list.length, ...list, minute], fields.flatMap(({ number, value }) => [number, value]));
+      return { number: fields[0].number, schedule: fields[0].value, changes: fields[1].value === 1, minute: fields[2].value };
     },
     call(name, ...list) {
       const answer = calls[name](...list);

@@ -6,7 +6,7 @@
 #[path = "../exports.rs"]
 mod exports;
 
-use exports::{entries, Exports};
+use exports::{entries, hours, Exports};
 use second::calls::Calls;
 use std::io::{self, Read, Write};
 
@@ -18,6 +18,9 @@ fn verdict(sheet: &[u32]) -> u32 {
     // The pointer and the length are those of a live slice.
     unsafe { argo_verdict(sheet.as_ptr(), sheet.len()) }
 }
+
+/// The fields of a timetable's answer, and two that it does not have.
+const HOURS_FIELDS: [u32; 5] = [0, 1, 2, 3, u32::MAX];
 
 const STATE_ROOM: usize = 16384;
 const MEMORY_ROOM: usize = 16 * 16384;
@@ -102,7 +105,8 @@ fn halves(answer: u64) -> [u32; 2] {
 }
 
 /// Carries out all requests. Codes 1 and 2 judge a sheet and find its entries, 3 to 11 are the
-/// calls on the session, 12 to 15 change a lent word or how many are lent and reply nothing.
+/// calls on the session, 12 to 15 change a lent word or how many are lent and reply nothing, 16
+/// asks a timetable for a minute.
 fn carry_out(mut requests: Requests) -> Vec<u32> {
     let mut replies = Vec::new();
     let mut session = Session::new();
@@ -126,6 +130,12 @@ fn carry_out(mut requests: Requests) -> Vec<u32> {
             }
             14 => session.memory_words = requests.next() as usize,
             15 => session.state_words = requests.next() as usize,
+            16 => {
+                let (list, minute) = (requests.counted(), requests.next());
+                for field in HOURS_FIELDS {
+                    replies.extend(halves(hours(list, minute, field)));
+                }
+            }
             code => {
                 let answer = session.call(code, &mut requests);
                 replies.extend(halves(answer));

@@ -8,15 +8,17 @@ import { recordOf } from './native.js';
 import { random as seeded } from './random.js';
 import { largestSheet, nearMiss, randomWords, sheetParts } from './sheets.js';
 import { playSession } from './sessions.js';
+import { severalFaults, timetable } from './timetables.js';
 
 const VERDICTS = 20000;
 const SESSION_CALLS = 100000;
+const HOURS = 5000;
 const calls = await openProved();
 const passes = (words) => calls.verdict(words) === 0;
 
 // How often each number was given.
 function counter() {
-  const counts = new Array(27).fill(0);
+  const counts = new Array(33).fill(0);
   return { counts, add: (number) => counts[number]++, sum: () => counts.reduce((sum, count) => sum + count) };
 }
 
@@ -64,6 +66,39 @@ test('100,000 calls on sessions, with words of the state poked', () => {
   assert.ok(seen.switched >= 100, `${seen.switched} switches were seen`);
   assert.ok(seen.crowded >= 20, `${seen.crowded} sessions had 16 circuits or more`);
   assert.ok(seen.none >= 10, `${seen.none} sessions were loaded by no words`);
+});
+
+// A list for argo_hours: windows that make a timetable, ones that nearly do, and words that are no windows.
+function hoursList(random) {
+  const windows = timetable(random, { modes: 8 });
+  const words = (random.chance(0.4) ? severalFaults(random, windows) : windows).flatMap(({ start, length, mode }) => [start, length, mode]);
+  if (random.chance(0.1)) words.splice(random.below(words.length + 1), 1);
+  const odd = [0, 7, 8, 10079, 10080, 4294967295, random.word()];
+  if (random.chance(0.2) && words.length > 0) words[random.below(words.length)] = random.choose(odd);
+  return words;
+}
+
+test('5,000 asks of timetables, with all fields', () => {
+  const random = seeded(3);
+  const record = recordOf(calls);
+  const [numbers, seen] = [counter(), { changes: 0, never: 0, nextWeek: 0, none: 0 }];
+  while (numbers.sum() < HOURS) {
+    const list = hoursList(random);
+    const edges = list.filter((_, at) => at % 3 < 2);
+    for (let asks = 0; asks < 10; asks++) {
+      const minute = random.choose([random.below(10080), random.below(10080), 0, 10079, 10080, random.word(), ...edges]);
+      const answer = record.hours(list, minute);
+      assert.deepEqual(answer, calls.hours(list, minute));
+      numbers.add(answer.number);
+      if (answer.number !== 0) continue;
+      seen[answer.changes ? 'changes' : 'never']++;
+      if (answer.changes && answer.minute < minute) seen.nextWeek++;
+      if (list.length === 0) seen.none++;
+    }
+  }
+  assert.equal(record.difference(), null);
+  for (const number of [0, 31, 32]) assert.ok(numbers.counts[number] >= 100, `number ${number}: ${numbers.counts[number]} asks`);
+  for (const [what, count] of Object.entries(seen)) assert.ok(count >= 10, `${what}: ${count} asks`);
 });
 
 // The calls with as many words of the state lent as are told; the planner always lends the published length.

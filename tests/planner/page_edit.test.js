@@ -4,6 +4,8 @@ import assert from 'node:assert/strict';
 import { readFileSync, readdirSync, rmSync } from 'node:fs';
 import { join } from 'node:path';
 import { browser, cell, drawn, example, isMarked, paste, rowsOf, says, select, textOf, type, upload, written } from './open_page.js';
+// The tests of the week need no browser of their own.
+import './page_week.js';
 
 const focusedId = async () => browser.property(await browser.focused(), 'id');
 // What the browser would print now.
