@@ -3,7 +3,7 @@
 ghost use mathlib.Core.Path.{_≡_};
 ghost use mathlib.Core.Bool.{true};
 ghost use Prim.Native.Nat.{_≤_, _<_};
-ghost use Rattle.timetable.specs.Timetable.{timetableFits, scheduleIn};
+ghost use Rattle.timetable.specs.Timetable.{week, timetableFits, scheduleIn};
 ghost use Rattle.timetable.specs.Inner.Edges.{EndedBefore, FirstBehind, nextEdge, firstChange};
 use super::WEEK;
 use super::windows::end_at;
@@ -51,7 +51,7 @@ pub fn schedule_in(list: &[u32], minute: u32) -> u32
 
 // The least edge behind a minute, by the first window that has not ended by it: its start, if that is still to come, else its end.
 fn next_edge(list: &[u32], window: u32, minute: u32) -> u32
-    requires { ⌜ (timetableFits (now list) ≡ true) × (minute < 10080) × FirstBehind (now list) minute window ⌝ }
+    requires { ⌜ (timetableFits (now list) ≡ true) × (minute < week) × FirstBehind (now list) minute window ⌝ }
     ensures { λ r. ⌜ r ≡ nextEdge (now (list .entry)) minute ⌝ }
 {
     if window < windows_of(list) {
@@ -66,7 +66,7 @@ fn next_edge(list: &[u32], window: u32, minute: u32) -> u32
 
 // The first minute before another, from one on, whose schedule is not the one given; that other where there is none.
 pub fn first_change(list: &[u32], from: u32, to: u32, schedule: u32) -> u32
-    requires { ⌜ (timetableFits (now list) ≡ true) × (from ≤ to) × (to ≤ 10080) ⌝ }
+    requires { ⌜ (timetableFits (now list) ≡ true) × (from ≤ to) × (to ≤ week) ⌝ }
     ensures { λ r. ⌜ r ≡ firstChange (now (list .entry)) from to schedule ⌝ }
 {
     let mut window: u32 = 0;
