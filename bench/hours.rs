@@ -1,5 +1,5 @@
 //! Times our hours of a minute against the same walk from edge to edge in Rust, and against a search in Rust that looks through the
-//! windows at each minute. There are 64 windows, and the change lies behind them all.
+//! windows at each minute. There are 64 windows, and the change lies behind them all; where they have gaps, at the last one's start.
 
 mod timing;
 

@@ -48,10 +48,10 @@ uint64_t argo_landed(const uint32_t *state, size_t state_words, uint32_t node, u
 /* Orders a schedule for a period, at least three periods ahead. */
 uint32_t argo_order(uint32_t *state, size_t state_words, uint32_t schedule, uint32_t period);
 
-/* The schedule of a minute of the week (0 to 10,079) by a timetable: three words for each of up to 64 windows, sorted by start, the starting
-   minute, the length in minutes and the schedule (0 to 7); schedule 0 outside all of them, and always where there are no words. It needs no sheet and no state. Field 0: the
-   schedule; 1: 1 where it ever changes, else 0; 2: the next minute of the week at which it differs, 0 where it never does. 31: the words are no
-   timetable; 32: the minute is 10,080 or more. */
+/* The schedule of a minute of the week (0 to 10,079) by a timetable: three words for each of up to 64 windows, sorted by start: the starting
+   minute, the length in minutes and the schedule (0 to 7); schedule 0 outside all of them, and always where there are no words. It needs
+   no sheet and no state. Field 0: the schedule; 1: 1 where it ever changes, else 0; 2: the next minute of the week at which it differs, 0
+   where it never does. 31: the words are no timetable; 32: the minute is 10,080 or more. */
 uint64_t argo_hours(const uint32_t *timetable, size_t timetable_words, uint32_t minute, uint32_t field);
 
 /* Carries out one clock cycle. */

@@ -1,6 +1,6 @@
 //! Reads the book, the definitions that have to be believed (every `specs/` except `specs/Inner/`), as a lecturer would: each number of a
-//! refusal is found by one grep, each definition is used by another one or by a contract, and what stands in `Inner/` is named in few
-//! places. Prints how long the book is. Run from the repository's root.
+//! refusal is found by one grep, each definition is used by another one or by a contract or is a statement that a law fills, and what
+//! stands in `Inner/` is named in few places. Prints how long the book is. Run from the repository's root.
 
 use std::collections::BTreeSet;
 use std::fs;
@@ -84,6 +84,9 @@ fn main() -> ExitCode {
         read(&folder.join("specs"), "antt", &mut definitions);
         read(&folder.join("src"), "rt", &mut sources);
     }
+    let mut proofs = Vec::new();
+    read(Path::new("crates"), "antt", &mut proofs);
+    proofs.retain(|file| file.path.contains("/proofs/"));
     let (inner, book): (Vec<File>, Vec<File>) =
         definitions.into_iter().partition(|file| file.path.contains("/specs/Inner"));
     let mut passed = 0;
@@ -94,6 +97,12 @@ fn main() -> ExitCode {
         let found = gives(&book, number);
         let is_rule = number <= 11 || number == 26;
         judge(if is_rule { found == 1 } else { found >= 1 }, format!("number {number} is given by {found} lines of the book"));
+    }
+    for statement in STATEMENTS {
+        let law = format!(": {statement}");
+        let is_law = |line: &str| line.starts_with("pub ") && line.ends_with(&law);
+        let found = proofs.iter().flat_map(|file| file.text.lines()).filter(|line| is_law(line)).count();
+        judge(found == 1, format!("{statement} is filled by {found} laws"));
     }
     // where a name stands: in the book, and in the contracts of the sources
     let uses: Vec<Vec<BTreeSet<&str>>> = book

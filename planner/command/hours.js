@@ -42,7 +42,7 @@ function minuteNamed(words) {
   const text = words.join(' ').trim();
   if (text.toLowerCase() === 'now') return minuteOfDate(new Date());
   const minute = minuteOfText(text);
-  if (minute === null) throw wrongUse(`MINUTE is ${MINUTE_FORMS}, or now; and not ${cut(text)}`);
+  if (minute === null) throw wrongUse(`MINUTE is ${MINUTE_FORMS}, or now; and not ${JSON.stringify(cut(text))}`);
   return minute;
 }
 

@@ -72,7 +72,8 @@ Says which mode the window rows of a plan give a minute of the week, and when it
 the minute are refused, the only line is 'refused 31' or 'refused 32', and standard error says why and what would help. The sheet itself
 is not judged here: check does that. A file of words has no window rows and is not taken.
   MINUTE   a day and a time as Mo 08:30, in one word or two (Mo, Tu, We, Th, Fr, Sa, Su or the whole English name; 0:00 to 23:59); the
-           minute of the week from Mo 00:00 on, 0 to 10079; or now, by this computer's clock
+           minute of the week from Mo 00:00 on, 0 to 10079 (a greater word is refused with 32); or now, by this
+           computer's clock
   --exam   windows stay in the order of the rows, so that their order is judged too
 ${JSON_OPTION}
 

@@ -152,6 +152,9 @@ export function writeTable(rows, separator = ';') {
   return rows.map((row) => lineOf(row, separator) + '\r\n').join('');
 }
 
+// A row as a line of a document's file, for a planner to copy.
+export const rowText = (cells, { separator }) => lineOf(cells.map(String), SEPARATORS.includes(separator) ? separator : ';');
+
 function lineOf(row, separator) {
   const cells = row.map((cell) => quotedCell(cell, separator));
   const comment = /^\s*#/.test(row[0] ?? '') && cells.some((cell) => cell[0] === '"');

@@ -23,7 +23,7 @@ export function explainHours(document, hours, minute = 0) {
 
 function explainMinute({ hours, timetable }, minute) {
   const within = minute % MINUTES_A_WEEK;
-  const text = `Ask for ${timeText(within)} (minute ${within}), which minute ${minute} is in a later week`;
+  const text = `Ask for ${timeText(within)} (minute ${within}): minute ${minute} falls on it in a later week`;
   return {
     marks: [],
     lines: [`Minute ${minute} is not one of the week: its minutes are 0 (${timeText(0)}) to 10,079 (${timeText(MINUTES_A_WEEK - 1)}).`],
@@ -145,7 +145,7 @@ function explainOneStart(context, first, second) {
   const [short, long] = first.length <= second.length ? [first, second] : [second, first];
   return {
     marks: [first, second].flatMap((window, at) => marksOf(window, ['start'], `the same start as row ${[second, first][at].row + 1}`)),
-    lines: [`${capital(one)} and ${other} have one start, ${start}: each would say which mode is in force from then on.`],
+    lines: [`${capital(one)} and ${other} have one start, ${start}: each would say which mode belongs to the minutes from then on.`],
     help: withStart(context, second, [...begunBehind(context, short, long), takenOut(context, [second], other)]),
   };
 }

@@ -1,4 +1,5 @@
 // Why a sheet is refused by number 26: a circuit that no mode has a slot for.
+import { rowText } from './cells.js';
 import { cut, placeOfMark, placeOfWord } from './document.js';
 import { newSlots } from './free_offsets.js';
 import { capital, circuitName, counted, modeName } from './naming.js';
@@ -64,7 +65,7 @@ function addText(document, parts, { schedule, number, words, letters }) {
     return `Add ${words.join(' ')} behind ${behind} and put ${entries.length + 1} into ${count}: ${entry}`;
   }
   const names = [document.modeNames[schedule], document.circuitNames[circuit]].map((name) => cut(name, MOST_NAME));
-  const row = ['slot', ...names, offset, length, letters].join('; ');
+  const row = rowText(['slot', ...names, offset, length, letters], document);
   return `Add the row ${row}${besideText(document, entries, number)}: a slot ${free}`;
 }
 

@@ -1,4 +1,5 @@
 // Changes of a timetable that may help against number 31: reckoned here, and each tried with the proved call on the whole timetable.
+import { rowText } from './cells.js';
 import { capital } from './naming.js';
 import { RULES } from './rules.js';
 import { TIMETABLE_NUMBER, endOf, inOrderOfStarts, scheduleName, windowCell, wordsOfWindows } from './timetable.js';
@@ -41,7 +42,7 @@ function triedPut(context, window, fields, what) {
 // A shorter window, and a row more for what is then missing.
 function triedSplit(context, window, length, { start, length: rest }, what) {
   const fields = [['length', length]];
-  const row = ['window', timeText(start), rest, scheduleName(context.document, window.mode)].join('; ');
+  const row = rowText(['window', timeText(start), rest, scheduleName(context.document, window.mode)], context.document);
   const change = { put: puts(window, fields), add: [{ start, length: rest, mode: window.mode }] };
   return tried(context, `${putText(window, fields)} and add the row ${row}: ${what}`, change);
 }

@@ -2,8 +2,8 @@
 import assert from 'node:assert/strict';
 import test from 'node:test';
 import { openProved } from '../../planner/command/proved.js';
-import { cellName } from '../../planner/lib/cells.js';
-import { documentOfRows } from '../../planner/lib/document.js';
+import { cellName, writeTable } from '../../planner/lib/cells.js';
+import { documentOfRows, documentOfText } from '../../planner/lib/document.js';
 import { explainHours } from '../../planner/lib/explain_hours.js';
 import { hoursHelpLine } from '../../planner/lib/hours_help.js';
 import { RULES } from '../../planner/lib/rules.js';
@@ -61,7 +61,7 @@ const CASES = {
     ],
     'B12 C12',
     [
-      'Put 120 into C12 and add the row window; Mo 00:00; 1; high wind: what goes on into Monday is a window of its own',
+      'Put 120 into C12 and add the row window;Mo 00:00;1;high wind: what goes on into Monday is a window of its own',
       'Put 120 into C12: the largest length, up to the end of the week',
     ],
   ],
@@ -85,7 +85,7 @@ const CASES = {
     ],
     'B12 C12 B13 C13',
     [
-      'Put 60 into C12 and add the row window; Mo 09:31; 239; normal: the window of row 12 then stops for that of row 13 and goes on behind it',
+      'Put 60 into C12 and add the row window;Mo 09:31;239;normal: the window of row 12 then stops for that of row 13 and goes on behind it',
       'Put 60 into C12: the window of row 12 then ends where that of row 13 begins',
     ],
   ],
@@ -93,7 +93,7 @@ const CASES = {
     ['window;Mo 08:30;90;normal', 'window;510;150;high wind'],
     [
       'The window of mode normal (row 12) and the window of mode high wind (row 13) have one start, Mo 08:30 (B12 and B13): each would say ' +
-        'which mode is in force from then on.',
+        'which mode belongs to the minutes from then on.',
     ],
     'B12 B13',
     [
@@ -149,7 +149,7 @@ test('32: minutes that are none of the week, behind windows that make a timetabl
   const found = explainHours(plan({}, ['window;Mo 09:30;90;normal']), hours, 20000);
   assert.deepEqual([found.number, found.title, found.marks], [32, 'The minute is not one of the week', []]);
   assert.deepEqual(found.lines, ['Minute 20000 is not one of the week: its minutes are 0 (Mo 00:00) to 10,079 (Su 23:59).']);
-  const help = 'Ask for Su 21:20 (minute 9920), which minute 20000 is in a later week. Then it is answered.';
+  const help = 'Ask for Su 21:20 (minute 9920): minute 20000 falls on it in a later week. Then it is answered.';
   assert.deepEqual(found.help.map((one) => hoursHelpLine(one, 32)), [help]);
   for (const minute of [0, 10079]) assert.equal(explainHours(plan({}), hours, minute), null);
   for (const minute of [10080, 4294967295]) assert.equal(explainHours(plan({}), hours, minute).number, 32);
@@ -161,14 +161,29 @@ test('what is just allowed', () => {
   for (const more of rows) for (const exam of [false, true]) assert.equal(explainHours(plan({}, more, exam), hours), null, more[0]);
 });
 
+test('a row that is offered can be pasted into the file, whatever its separator and the name of its mode', () => {
+  for (const separator of [';', ',', '\t']) {
+    for (const mode of ['normal', 'a; b, c', '"quoted"', '=night', "it's late"]) {
+      const rows = [['network', '2', '2', '16'], ['mode', mode, '12'], ['window', 'Su 22:00', '180', mode]];
+      const [help] = explainHours(documentOfText('plan.csv', writeTable(rows, separator)), hours).help;
+      const [, length, row] = /^Put ([0-9]+) into C3 and add the row (.*): what goes on into Monday is a window of its own$/s.exec(help.text);
+      const changed = writeTable([...rows.slice(0, 2), ['window', 'Su 22:00', length, mode]], separator) + row + '\r\n';
+      const mended = documentOfText('plan.csv', changed);
+      assert.deepEqual(mended.problems, [], changed);
+      assert.deepEqual(timetableOf(mended).words, [0, 60, 0, 9960, 120, 0], changed);
+      assert.equal(explainHours(mended, hours), null);
+    }
+  }
+});
+
 // The rows as a planner changes them who reads the text of a help.
 function carriedOut(rows, text) {
   let changed = rows.map((cells) => [...cells]);
   for (const [, value, column, row] of text.matchAll(/[Pp]ut ([^:]+?(?::[0-9]{2})?) into ([B-D])([0-9]+)/g)) {
     changed[Number(row) - 1][column.charCodeAt(0) - 65] = value;
   }
-  const [, added] = /add the row (window; [^:]+:[0-9]{2}; [0-9]+; [^:]+):/.exec(text) ?? [];
-  if (added) changed.push(added.split('; '));
+  const [, added] = /add the row (window;[^:]+:[0-9]{2};[0-9]+;[^:]+):/.exec(text) ?? [];
+  if (added) changed.push(added.split(';'));
   const [, one, from] = /^Take out .*(?:\(row ([0-9]+)\)|from row ([0-9]+) on)/.exec(text) ?? [];
   const isGone = (row) => (one ? row === Number(one) : from && row >= Number(from));
   changed = changed.filter((cells, at) => !(cells[0] === 'window' && isGone(at + 1)));

@@ -66,7 +66,7 @@ function addedText(document, { schedule, number, words }) {
   const [offset, length, circuit, route] = words;
   if (document.kind === 'plan') {
     const cells = ['slot', document.modeNames[schedule], document.circuitNames[circuit], offset, length, lettersOfRoute(route)];
-    return `the row ${cells.join('; ')}${document.exam ? besideText(document, schedule, number) : ''}: `;
+    return `the row ${cells.join(';')}${document.exam ? besideText(document, schedule, number) : ''}: `;
   }
   let at = 5 + 6 * document.words[3];
   for (let before = 0; before < schedule; before++) at += 2 + 4 * document.words[at + 1];

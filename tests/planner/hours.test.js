@@ -46,7 +46,7 @@ const MINUTE_32 = linesOf(
   '\\S*cable-car-week\\.csv: refused with number 32: The minute is not one of the week\\.',
   '  Minute 10080 is not one of the week: .*',
   '  What would help, each tried with the proved call:',
-  '  - Ask for Mo 00:00 \\(minute 0\\), which minute 10080 is in a later week\\. Then it is answered\\.',
+  '  - Ask for Mo 00:00 \\(minute 0\\): minute 10080 falls on it in a later week\\. Then it is answered\\.',
 );
 const NO_MINUTE = linesOf(
   'calqetum: MINUTE is a day and a time, as Mo 08:30 \\(.*\\), or the minute of the week.*, or now; and not .*',

@@ -73,7 +73,7 @@ test('a plan whose circuits have no slots yet is explained, drawn, and passes wh
   await says('refused 26: A circuit has no slot');
   assert.ok((await isMarked('B2')) && !(await isMarked('B3')));
   assert.match(await textOf('#explanation'), /Circuit speed \(B2\) has no slot: none of the 2 modes.*not the only place/s);
-  assert.match(await textOf('#explanation'), /Add the row slot; normal; speed; 0; 2; E.*Take out the 2 circuits.*Then the sheet passes/s);
+  assert.match(await textOf('#explanation'), /Add the row slot;normal;speed;0;2;E.*Take out the 2 circuits.*Then the sheet passes/s);
   assert.match(await textOf('#slots'), /This mode has no slots/);
   assert.equal(await textOf('#grid-caption'), 'The network runs when the sheet passes.');
   await browser.click(await browser.find('#explanation button.jump'));

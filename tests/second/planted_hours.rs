@@ -32,6 +32,7 @@ pub enum Plant {
     SixtyFiveTaken,
     SixtyFourRefused,
     CountInEightBits,
+    WordsInSixteenBits,
     LengthInWordsLimited,
     OneWordTaken,
     TwoWordsTaken,
@@ -42,6 +43,8 @@ pub enum Plant {
     StartUncheckedAndWrapping,
     LengthZeroTaken,
     LengthInSixteenBits,
+    LengthInTwentyFourBits,
+    LengthInThirtyOneBits,
     WrappingSum,
     SignedSum,
     EndOfWeekRefused,
@@ -78,7 +81,7 @@ pub enum Plant {
 }
 
 /// Each fault with its name.
-pub const PLANTS: [(Plant, &str); 67] = [
+pub const PLANTS: [(Plant, &str); 70] = [
     (Plant::EndBelongs, "an end belongs to its window"),
     (Plant::StartDoesNotBelong, "a start does not belong to its window"),
     (Plant::ScheduleStaysBehindWindow, "behind a window its schedule stays"),
@@ -103,6 +106,7 @@ pub const PLANTS: [(Plant, &str); 67] = [
     (Plant::SixtyFiveTaken, "65 windows are taken"),
     (Plant::SixtyFourRefused, "64 windows are refused"),
     (Plant::CountInEightBits, "the number of windows is kept in eight bits"),
+    (Plant::WordsInSixteenBits, "windows are counted by sixteen bits of the number of words"),
     (Plant::LengthInWordsLimited, "64 words are taken for the limit"),
     (Plant::OneWordTaken, "a list with a rest of one word is taken"),
     (Plant::TwoWordsTaken, "a list with a rest of two words is taken"),
@@ -113,6 +117,8 @@ pub const PLANTS: [(Plant, &str); 67] = [
     (Plant::StartUncheckedAndWrapping, "a start is not checked and the end is a wrapping sum"),
     (Plant::LengthZeroTaken, "a length of 0 is taken"),
     (Plant::LengthInSixteenBits, "a length is kept in sixteen bits"),
+    (Plant::LengthInTwentyFourBits, "a length is kept in twenty-four bits"),
+    (Plant::LengthInThirtyOneBits, "a length is kept in thirty-one bits"),
     (Plant::WrappingSum, "the end is a wrapping sum of 32 bits"),
     (Plant::SignedSum, "the end is a signed sum of 32 bits"),
     (Plant::EndOfWeekRefused, "an end of 10,080 is refused"),
@@ -361,6 +367,8 @@ fn end_of(plant: Plant, window: &[u32]) -> i64 {
         Plant::StartInSixteenBits => start_of(plant, window) + i64::from(length),
         Plant::StartSigned => start_of(plant, window) + i64::from(length as i32),
         Plant::LengthInSixteenBits => i64::from(start) + i64::from(length as u16),
+        Plant::LengthInTwentyFourBits => i64::from(start) + i64::from(length % (1 << 24)),
+        Plant::LengthInThirtyOneBits => i64::from(start) + i64::from(length % (1 << 31)),
         Plant::PastTakenAndCut => (i64::from(start) + i64::from(length)).min(WEEK),
         _ => i64::from(start) + i64::from(length),
     }
@@ -416,6 +424,7 @@ fn is_kept(plant: Plant, list: &[u32]) -> bool {
     let checked = match plant {
         Plant::FirstWindowUnchecked => windows.get(1..).unwrap_or(&[]),
         Plant::LastWindowUnchecked => &windows[..windows.len().saturating_sub(1)],
+        Plant::WordsInSixteenBits => &windows[..list.len() % 65_536 / 3],
         _ => &windows,
     };
     let paired = match plant {
@@ -433,6 +442,7 @@ fn size_is_kept(plant: Plant, words: usize) -> bool {
         Plant::SixtyFiveTaken => count <= 65,
         Plant::SixtyFourRefused => count <= 63,
         Plant::CountInEightBits => count % 256 <= 64,
+        Plant::WordsInSixteenBits => words % 65_536 / 3 <= 64,
         Plant::LengthInWordsLimited => words <= 64,
         Plant::EmptyRefused => (1..=64).contains(&count),
         _ => count <= 64,

@@ -179,7 +179,9 @@ fn far_past(random: &mut Random, place: Place) -> Vec<u32> {
     let [start, length, _] = windows[index];
     let least = WEEK + 2 - start;
     let drawn = random.between(least, u32::MAX - start);
-    let lengths = [least, WEEK, 65_536 + length, (1 << 31) - start, 1 << 31, u32::MAX - start, drawn];
+    let narrow = [65_536 + length, (1 << 24) + length, (1 << 31) + length];
+    let wide = [least, WEEK, (1 << 31) - start, 1 << 31, u32::MAX - start, drawn];
+    let lengths = [&narrow[..], &wide].concat();
     windows[index][1] = random.choose(&lengths).max(least);
     windows.concat()
 }
@@ -271,6 +273,12 @@ pub fn very_long_lists(random: &mut Random) -> Vec<Vec<u32>> {
             list.truncate(3 * count as usize - rest);
             lists.push(list);
         }
+    }
+    // Sixteen bits would count 63 windows in the first of these, and none in the second.
+    for words in [65_536 + 191, 65_536 + 2] {
+        let mut list = row_of_minutes(random, 64);
+        list.resize(words, 0);
+        lists.push(list);
     }
     for words in [3 * 65, 3 * 65 + 1, 3 * 65 + 2, 3 * 1_000] {
         lists.push(vec![0; words]);

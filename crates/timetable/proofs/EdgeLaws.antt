@@ -12,7 +12,7 @@ use Rattle.words.proofs.AllLaws.{any-at, any-none}
 use Rattle.words.proofs.WordLaws.{lastOf-same, leastFrom-by, leastFrom-least, leastFrom-most, leastFrom-low}
 use Rattle.timetable.specs.Timetable.{week, windows, startAt, endAt, timetableFits, covers, scheduleOf, scheduleIn}
 use Rattle.timetable.specs.Inner.Edges.{isEdge, nextEdge, FirstBehind}
-use Rattle.timetable.proofs.WindowLaws.{starts, ends, apart}
+use Rattle.timetable.proofs.TimetableLaws.{starts, ends, apart}
 
 -- a start and an end are edges
 pub start-edge : (t : List ℕ) (k : ℕ) → k < windows t → isEdge t (startAt t k) ≡ true

@@ -1,4 +1,4 @@
-pub mod WindowLaws
+pub mod TimetableLaws
 pub mod EdgeLaws
 pub mod HoursLaws
 pub mod Examples

@@ -74,7 +74,7 @@ nextChange t minute = pick (changesIn t minute =? week) never (nextAt ((minute +
 unfoldable pub hoursNumber : List ℕ → ℕ → ℕ
 hoursNumber t minute = unless 31 (timetableFits t) then unless 32 (minute <? week)
 
--- the answer, one to one with the number, the schedule and the change
+-- the answer, one to one with the number and, where that is 0, the schedule and the change
 abbrev pub hoursOf : ℕ → ℕ → Change → Hours
 hoursOf zero schedule never = Always schedule
 hoursOf zero schedule (nextAt minute) = Until schedule minute
@@ -97,13 +97,14 @@ pub record ChangesAt (t : List ℕ) (minute schedule next ahead : ℕ) : Type 0 
   pub stays : (d : ℕ) → d < ahead → scheduleIn t ((minute + d) % week) ≡ schedule
   pub differs : scheduleIn t next ≡ schedule → ⊥
 
--- the claim that an answered minute is right: up to it the schedule is the one given, and there it differs (`change-right`)
+-- the claim that an answered minute is right: up to it the schedule is the one given, and there it differs
+-- (proofs/HoursLaws, `change-right`)
 abbrev pub ChangeRight : Type 0
 ChangeRight =
     (t : List ℕ) (minute schedule next : ℕ) → hoursAnswer t minute ≡ Until schedule next
     → ChangesAt t minute schedule next (changesIn t minute)
 
--- and that a schedule that is answered for always is that of all 10,080 minutes (`never-changes`)
+-- and that a schedule that is answered for always is that of all 10,080 minutes (proofs/HoursLaws, `never-changes`)
 abbrev pub NeverChanges : Type 0
 NeverChanges =
     (t : List ℕ) (minute schedule : ℕ) → hoursAnswer t minute ≡ Always schedule

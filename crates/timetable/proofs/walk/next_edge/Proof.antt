@@ -3,7 +3,7 @@
 -- Assumes nothing.
 use mathlib.Core.Path.{_∙_}
 use native.Mathlib.Omega.{arith}
-use Rattle.timetable.proofs.WindowLaws.{few, ends}
+use Rattle.timetable.proofs.TimetableLaws.{few, ends}
 use Rattle.timetable.proofs.EdgeLaws.{edge-start, edge-end, edge-week}
 use borrow.Author.Needs.{needs}
 use Rattle.timetable.proofs.walk.next_edge.Statement.{statement}

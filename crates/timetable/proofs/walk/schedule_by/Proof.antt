@@ -3,7 +3,7 @@
 -- Assumes nothing.
 use mathlib.Core.Path.{_∙_}
 use native.Mathlib.Omega.{arith}
-use Rattle.timetable.proofs.WindowLaws.{few, schedule-there, schedule-none}
+use Rattle.timetable.proofs.TimetableLaws.{few, schedule-there, schedule-none}
 use borrow.Author.Needs.{needs}
 use Rattle.timetable.proofs.walk.schedule_by.Statement.{statement}
 use Rattle.timetable.proofs.walk.schedule_by.Tie as tie

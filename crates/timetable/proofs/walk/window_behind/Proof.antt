@@ -5,7 +5,7 @@ use mathlib.Core.Path.{_≡_}
 use native.Mathlib.Omega.{arith}
 use Rattle.timetable.specs.Timetable.{windows}
 use Rattle.timetable.specs.Inner.Edges.{EndedBefore}
-use Rattle.timetable.proofs.WindowLaws.{few, ended-more}
+use Rattle.timetable.proofs.TimetableLaws.{few, ended-more}
 use Rattle.timetable.proofs.walk.window_behind.Statement.{statement}
 use Rattle.timetable.proofs.walk.window_behind.Tie as tie
 

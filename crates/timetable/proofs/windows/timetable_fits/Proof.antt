@@ -3,7 +3,7 @@
 use mathlib.Core.Path.{sym, _∙_}
 use native.Mathlib.Omega.{arith}
 use Rattle.timetable.specs.Timetable.{windows}
-use Rattle.timetable.proofs.WindowLaws.{fits-ragged, fits-many, fits-unfit, fits-order}
+use Rattle.timetable.proofs.TimetableLaws.{fits-ragged, fits-many, fits-unfit, fits-order}
 use borrow.Author.Needs.{needs}
 use Rattle.timetable.proofs.windows.timetable_fits.Statement.{statement}
 use Rattle.timetable.proofs.windows.timetable_fits.Tie as tie

@@ -4,7 +4,7 @@
 use native.Mathlib.Omega.{arith}
 use mathlib.Core.Path.{ap, _∙_}
 use Rattle.words.specs.Tests.{_≤?_}
-use Rattle.timetable.proofs.WindowLaws.{fits-empty, fits-late, fits-rest}
+use Rattle.timetable.proofs.TimetableLaws.{fits-empty, fits-late, fits-rest}
 use borrow.Author.Needs.{needs}
 use Rattle.timetable.proofs.windows.window_fits.Statement.{statement}
 use Rattle.timetable.proofs.windows.window_fits.Tie as tie
