@@ -3,7 +3,7 @@
 use Prim.Native.Nat.{ℕ, zero, suc, _+_, _-_, _%_, _≤_, _<_}
 use mathlib.Core.Bool.{Bool, true, false}
 use mathlib.Core.List.{List}
-use mathlib.Core.Path.{_≡_, refl, sym, _∙_, ap}
+use mathlib.Core.Path.{_≡_, refl, sym, _∙_, ap, subst}
 use native.Mathlib.Omega.{arith}
 use native.Mathlib.Decide.{ℕ-discrete, decLt}
 use native.Mathlib.Numerals.{add-one}
@@ -11,7 +11,7 @@ use native.Mathlib.Nat.{not-suc-le-zero}
 use lib.ListN.{length}
 use Rattle.words.specs.Tests.{_≤?_, _<?_, _=?_, _and_, all}
 use Rattle.words.proofs.TestLaws.{and-no, and-on, and-both, and-left, and-right, and-no-right, yes≤, no≤, yes<, no<, yes=, no=, is≤, is<}
-use Rattle.words.proofs.AllLaws.{all-at}
+use Rattle.words.proofs.AllLaws.{all-none, all-more, all-fails, all-at}
 use Rattle.words.proofs.WordLaws.{lastOf-at, lastOf-none}
 use Rattle.timetable.specs.Timetable.{week, windows, startAt, lengthAt, scheduleAt, endAt, windowFits, inOrder, timetableFits, covers, scheduleOf, scheduleIn, OneCovers}
 use Rattle.timetable.specs.Inner.Edges.{EndedBefore, FirstBehind}
@@ -70,7 +70,7 @@ ends-within t k h =
     let rest = and-right (1 ≤? lengthAt t k) _ (and-right (startAt t k <? week) _ h) in
     is≤ (endAt t k) week (and-left (endAt t k ≤? week) _ rest)
 
--- number 31, by what the code finds: the words are no windows, or too many, or some window does not fit, or their order decides
+-- number 31, by what the code finds: the words are no windows, or too many, or the windows decide
 module _ (t : List ℕ) where
   pub fits-ragged : (length t % 3 ≡ 0 → ⊥) → false ≡ timetableFits t
   unfolding timetableFits
@@ -80,18 +80,77 @@ module _ (t : List ℕ) where
   unfolding timetableFits
   fits-many h = sym (and-no-right (length t % 3 =? 0) _ (sym (and-no _ (no≤ h))))
 
-  pub fits-unfit : (count : ℕ) → count ≡ windows t → all count (windowFits t) ≡ false → false ≡ timetableFits t
+  pub fits-windows : (count : ℕ) {v : Bool} → length t % 3 ≡ 0 → windows t ≤ 64 → count ≡ windows t
+      → v ≡ all count (windowFits t) and all (count - 1) (inOrder t) → v ≡ timetableFits t
   unfolding timetableFits
-  fits-unfit count e h =
-      sym (and-no-right (length t % 3 =? 0) _ (and-no-right (windows t ≤? 64) _ (sym (and-no _ (ap (λ n. all n (windowFits t)) (sym e) ∙ h)))))
+  fits-windows count a b e r =
+      and-on (yes= a) (and-on (yes≤ b) (r ∙ ap (λ n. all n (windowFits t) and all (n - 1) (inOrder t)) e))
 
-  pub fits-order : (count : ℕ) {v : Bool} → length t % 3 ≡ 0 → windows t ≤ 64 → count ≡ windows t
-      → all count (windowFits t) ≡ true → v ≡ all (count - 1) (inOrder t) → v ≡ timetableFits t
-  unfolding timetableFits
-  fits-order count a b e h r =
-      and-on (yes= a)
-      (and-on (yes≤ b)
-      (and-on (ap (λ n. all n (windowFits t)) (sym e) ∙ h) (r ∙ ap (λ n. all (n - 1) (inOrder t)) e)))
+-- where the window before window k ended, and 0 where there is none
+pub endBefore : List ℕ → ℕ → ℕ
+endBefore t zero = 0
+endBefore t (suc k) = endAt t k
+
+-- the first k windows fit and are in order, and the last of them has ended there
+pub record Kept (t : List ℕ) (k ended : ℕ) : Type 0 where
+  pub fit : all k (windowFits t) ≡ true
+  pub ordered : all (k - 1) (inOrder t) ≡ true
+  pub last : ended ≡ endBefore t k
+
+pub kept-none : (t : List ℕ) → Kept t 0 0
+unfolding endBefore
+kept-none t = record { fit = sym (all-none (windowFits t)); ordered = sym (all-none (inOrder t)); last = refl }
+
+-- the window before window k ends in time for it, or does not
+in-order : (t : List ℕ) (j : ℕ) → endAt t j ≤ startAt t (suc j) → inOrder t j ≡ true
+unfolding inOrder
+in-order t j h = yes≤ (omega (arith, h, ap (startAt t) (add-one j)))
+
+not-in-order : (t : List ℕ) (j : ℕ) → startAt t (suc j) < endAt t j → inOrder t j ≡ false
+unfolding inOrder
+not-in-order t j h = no≤ (omega (arith, h, ap (startAt t) (add-one j)))
+
+module _ (t : List ℕ) (k ended : ℕ) (kept : Kept t k ended) where
+  ordered-more : ended ≤ startAt t k → all k (inOrder t) ≡ true
+  unfolding all endBefore
+  ordered-more l = go k (kept .ordered) (kept .last) l
+    where
+      go : (k : ℕ) → all (k - 1) (inOrder t) ≡ true → ended ≡ endBefore t k → ended ≤ startAt t k → all k (inOrder t) ≡ true
+      go zero h e l = sym (all-none (inOrder t))
+      go (suc j) h e l =
+          let before : suc j - 1 ≡ j = omega arith in
+          and-both (subst (λ n. all n (inOrder t) ≡ true) before h) (in-order t j (omega arith))
+
+  -- one window more
+  pub kept-more : {end : ℕ} → ended ≤ startAt t k → windowFits t k ≡ true → end ≡ endAt t k → Kept t (k + 1) end
+  unfolding endBefore
+  kept-more l fits e =
+      let before : k ≡ k + 1 - 1 = omega arith in
+      record {
+        fit = all-more (windowFits t) k (kept .fit) fits;
+        ordered = subst (λ n. all n (inOrder t) ≡ true) before (ordered-more l);
+        last = e ∙ sym (ap (endBefore t) (add-one k));
+      }
+
+  -- the next window does not fit, or starts too early; or there is none
+  pub kept-unfit : (count : ℕ) → k < count → windowFits t k ≡ false → false ≡ all count (windowFits t) and all (count - 1) (inOrder t)
+  kept-unfit count l e = and-no _ (sym (all-fails (windowFits t) count k l e))
+
+  pub kept-early : (count : ℕ) → k < count → startAt t k < ended → false ≡ all count (windowFits t) and all (count - 1) (inOrder t)
+  unfolding endBefore
+  kept-early count l h = go k l (kept .last) h
+    where
+      go : (k : ℕ) → k < count → ended ≡ endBefore t k → startAt t k < ended
+          → false ≡ all count (windowFits t) and all (count - 1) (inOrder t)
+      go zero l e h = absurd (let z : ⊥ = omega arith in z)
+      go (suc j) l e h =
+          let early : inOrder t j ≡ false = not-in-order t j (omega arith) in
+          sym (and-no-right (all count (windowFits t)) _ (sym (all-fails (inOrder t) (count - 1) j (omega arith) early)))
+
+  pub kept-done : (count : ℕ) → k ≤ count → count ≤ k → true ≡ all count (windowFits t) and all (count - 1) (inOrder t)
+  kept-done count a b =
+      let same : k ≡ count = omega arith in
+      sym (subst (λ n. (all n (windowFits t) and all (n - 1) (inOrder t)) ≡ true) same (and-both (kept .fit) (kept .ordered)))
 
 -- a timetable that fits
 module _ (t : List ℕ) (fits : timetableFits t ≡ true) where

@@ -5,7 +5,6 @@ use mathlib.Core.Path.{_∙_}
 use native.Mathlib.Omega.{arith}
 use Rattle.timetable.proofs.TimetableLaws.{few, ends}
 use Rattle.timetable.proofs.EdgeLaws.{edge-start, edge-end, edge-week}
-use borrow.Author.Needs.{needs}
 use Rattle.timetable.proofs.walk.next_edge.Statement.{statement}
 use Rattle.timetable.proofs.walk.next_edge.Tie as tie
 
@@ -13,7 +12,7 @@ windows-of-requires : tie.Need-windows-of-requires
 windows-of-requires c κs = few _ (c .before .pre .0)
 
 start-at-requires : tie.Need-start-at-requires
-start-at-requires c κs = search needs
+start-at-requires c κs = omega (arith, c .before .windows-of .ensures)
 
 returns : tie.Need-returns
 returns c =
@@ -23,7 +22,7 @@ returns c =
     start ∙ edge-start _ (entry .pre .0) _ _ (entry .pre .1) (entry .pre .2) (omega (arith, count)) (omega (arith, start))
 
 end-at-requires : tie.Need-end-at-requires
-end-at-requires c κs = search needs
+end-at-requires c κs = omega (arith, c .before .before .before .windows-of .ensures)
 
 cast-result : tie.Need-cast-result
 cast-result c =

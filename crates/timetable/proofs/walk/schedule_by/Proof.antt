@@ -4,7 +4,6 @@
 use mathlib.Core.Path.{_∙_}
 use native.Mathlib.Omega.{arith}
 use Rattle.timetable.proofs.TimetableLaws.{few, schedule-there, schedule-none}
-use borrow.Author.Needs.{needs}
 use Rattle.timetable.proofs.walk.schedule_by.Statement.{statement}
 use Rattle.timetable.proofs.walk.schedule_by.Tie as tie
 
@@ -12,10 +11,10 @@ windows-of-requires : tie.Need-windows-of-requires
 windows-of-requires c κs = few _ (c .before .pre .0)
 
 start-at-requires : tie.Need-start-at-requires
-start-at-requires c κs = search needs
+start-at-requires c κs = omega (arith, c .before .windows-of .ensures)
 
 schedule-at-requires : tie.Need-schedule-at-requires
-schedule-at-requires c κs = search needs
+schedule-at-requires c κs = omega (arith, c .before .before .before .windows-of .ensures)
 
 returns : tie.Need-returns
 returns c =

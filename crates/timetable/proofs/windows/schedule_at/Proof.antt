@@ -1,22 +1,29 @@
--- `timetable::windows::schedule_at` meets its contract: the word is the definition's.
+-- `timetable::windows::schedule_at` meets its contract: a window's words lie in the list.
 -- Assumes nothing.
-use Rattle.timetable.specs.Timetable.{scheduleAt}
+use native.Mathlib.Omega.{arith}
+use mathlib.Core.Path.{refl}
+use Rattle.timetable.specs.Timetable.{windows, scheduleAt}
 use borrow.Author.Needs.{needs}
 use Rattle.timetable.proofs.windows.schedule_at.Statement.{statement}
 use Rattle.timetable.proofs.windows.schedule_at.Tie as tie
 
-mul-get : tie.Need-mul-get
-mul-get c = search needs
+mul-result : tie.Need-mul-result
+mul-result c = search needs
 
-add-get : tie.Need-add-get
-add-get c = search needs
+add-result : tie.Need-add-result
+add-result c = search needs
 
-get-requires : tie.Need-get-requires
-get-requires c κs = search needs
+mul-result-2 : tie.Need-mul-result-2
+mul-result-2 c = search needs
+
+shared-slice-read-result : tie.Need-shared-slice-read-result
+unfolding windows
+shared-slice-read-result c = omega arith
 
 returns : tie.Need-returns
 unfolding scheduleAt
-returns c = c .get .ensures
+returns c = refl
 
 pub schedule-at-spec : {M : Type 1} → statement M
-schedule-at-spec = tie.close (tie.spec mul-get add-get get-requires returns)
+schedule-at-spec =
+    tie.close (tie.spec mul-result add-result mul-result-2 shared-slice-read-result returns)

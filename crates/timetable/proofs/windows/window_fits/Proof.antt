@@ -32,8 +32,7 @@ schedule-at-requires c κs = search needs
 
 returns-3 : tie.Need-returns-3
 unfolding _≤?_
-returns-3 c =
-    let start = c .before .before .before .before .start-at .ensures in
+returns-3 c = let start = c .before .before .before .before .start-at .ensures in
     let end = c .before .before .before .end-at .ensures in
     ap (λ n. n ≤? 7) (c .schedule-at .ensures) ∙ fits-rest _ _ (omega (arith, start, end)) (omega (arith, end))
 
