@@ -61,7 +61,7 @@ fn window_fits(list: &[u32], k: u32) -> bool
 
 // All windows fit, and each starts no earlier than the one before it has ended.
 fn windows_fit(list: &[u32], count: u32) -> bool
-    requires { ⌜ (count ≡ windows (now list)) × (count ≤ 64) ⌝ }
+    requires { ⌜ count ≡ windows (now list) ⌝ }
     ensures { λ r. ⌜ r ≡ all count (windowFits (now (list .entry))) and all (count - 1) (inOrder (now (list .entry))) ⌝ }
 {
     let mut k: u32 = 0;

@@ -18,8 +18,7 @@ unfolding windows
 windows-of-requires c κs = omega arith
 
 windows-fit-requires : tie.Need-windows-fit-requires
-unfolding windows
-windows-fit-requires c κs = (c .windows-of .ensures, omega (arith, c .windows-of .ensures))
+windows-fit-requires c κs = c .windows-of .ensures
 
 returns-3 : tie.Need-returns-3
 unfolding windows

@@ -18,7 +18,7 @@ loop-holds : tie.Need-loop-holds Inv-loop μ-loop
 loop-holds c = (omega arith, kept-none _)
 
 start-at-requires : tie.Need-start-at-requires Inv-loop μ-loop
-start-at-requires c κs = omega (arith, c .before .before .before .pre .0)
+start-at-requires c κs = omega (arith, c .before .before .before .pre)
 
 cast-if1 : tie.Need-cast-if1 Inv-loop μ-loop
 cast-if1 c = omega arith
@@ -27,10 +27,10 @@ returns : tie.Need-returns Inv-loop μ-loop
 returns c = kept-early _ _ _ (c .before .before .before .loop .inv .1) _ (omega arith) (omega (arith, c .before .start-at .ensures))
 
 window-fits-requires : tie.Need-window-fits-requires Inv-loop μ-loop
-window-fits-requires c κs = omega (arith, c .before .before .before .before .before .pre .0)
+window-fits-requires c κs = omega (arith, c .before .before .before .before .before .pre)
 
 end-at-requires : tie.Need-end-at-requires Inv-loop μ-loop
-end-at-requires c κs = omega (arith, c .before .before .before .before .before .before .before .pre .0)
+end-at-requires c κs = omega (arith, c .before .before .before .before .before .before .before .pre)
 
 add-k : tie.Need-add-k Inv-loop μ-loop
 add-k c = omega arith
