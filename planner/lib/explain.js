@@ -7,7 +7,7 @@ import { explainEnd, explainRoute } from './explain_routes.js';
 import { explainUnserved } from './explain_served.js';
 import { explainRanges, explainSlotOrder } from './explain_slots.js';
 import { PERIOD_LIMITS } from './limits.js';
-import { RULES } from './rules.js';
+import { RULES, triedLine } from './rules.js';
 import { UNSERVED_NUMBER } from './served.js';
 import { partsOf } from './sheet.js';
 import { shrink, withCircuits, withEntries, wordsOfSome } from './shrink.js';
@@ -67,7 +67,4 @@ function isElsewhere(document, verdict, found) {
 }
 
 // What would help against a refusal by the number `before`, with what the checker says then, as one line.
-export function helpLine({ text, number }, before = null) {
-  if (number === 0) return `${text}. Then the sheet passes.`;
-  return `${text}. Then number ${number} is ${number === before ? 'still ' : ''}found: ${RULES[number].title}.`;
-}
+export const helpLine = (help, before = null) => triedLine(help, before, 'the sheet passes');

@@ -1,7 +1,7 @@
 // Changes of a timetable that may help against number 31: reckoned here, and each tried with the proved call on the whole timetable.
 import { rowText } from './cells.js';
 import { capital } from './naming.js';
-import { RULES } from './rules.js';
+import { triedLine } from './rules.js';
 import { TIMETABLE_NUMBER, endOf, inOrderOfStarts, scheduleName, windowCell, wordsOfWindows } from './timetable.js';
 import { isSortedByTool, nearest } from './trials.js';
 import { MINUTES_A_WEEK, timeText } from './week.js';
@@ -102,7 +102,6 @@ export function begunBehind(context, early, late) {
 }
 
 // What would help against a refusal by the number `before`, with what the call says then, as one line.
-export function hoursHelpLine({ text, number }, before) {
-  if (number !== 0) return `${text}. Then number ${number} is ${number === before ? 'still ' : ''}found: ${RULES[number].title}.`;
-  return `${text}. Then ${before === TIMETABLE_NUMBER ? 'the timetable is accepted' : 'it is answered'}.`;
+export function hoursHelpLine(help, before) {
+  return triedLine(help, before, before === TIMETABLE_NUMBER ? 'the timetable is accepted' : 'it is answered');
 }

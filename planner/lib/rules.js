@@ -86,6 +86,12 @@ export const RULES = {
   32: rule('The minute is not one of the week', 'The minutes of a week are 0 to 10,079, counted from Monday 00:00.'),
 };
 
+// A change that was tried against a refusal by the number `before`, with what was said then, as one line; `right` says that nothing was refused.
+export function triedLine({ text, number }, before, right) {
+  if (number === 0) return `${text}. Then ${right}.`;
+  return `${text}. Then number ${number} is ${number === before ? 'still ' : ''}found: ${RULES[number].title}.`;
+}
+
 // The numbers by which a sheet is refused, in checking order; the others are those of calls.
 export const SHEET_NUMBERS = [1, 2, 3, 4, 5, 6, 7, 8, 9, 10, 11, 26];
 

@@ -1,7 +1,7 @@
 -- From edge to edge: the schedule stays between two edges, and the first window that has not ended gives the next one.
 -- Assumes nothing.
 use Prim.Native.Nat.{ℕ, _+_, _-_, _≤_, _<_}
-use mathlib.Core.Bool.{true, false}
+use mathlib.Core.Bool.{true, false, false≢true}
 use mathlib.Core.List.{List}
 use mathlib.Core.Path.{_≡_, refl, sym, _∙_, ap, ap₂}
 use native.Mathlib.Omega.{arith}
@@ -9,7 +9,7 @@ use native.Mathlib.Decide.{ℕ-discrete, decLt, decLe}
 use Rattle.words.specs.Tests.{_≤?_, _<?_, _=?_, _and_, _or_}
 use Rattle.words.proofs.TestLaws.{or-yes, or-on, or-skip, yes≤, no≤, yes<, no<, yes=, no=}
 use Rattle.words.proofs.AllLaws.{any-at, any-none}
-use Rattle.words.proofs.WordLaws.{lastOf-same, leastFrom-by, leastFrom-least, leastFrom-most, leastFrom-low}
+use Rattle.words.proofs.WordLaws.{lastOf-same, leastFrom-by, leastFrom-before, leastFrom-low}
 use Rattle.timetable.specs.Timetable.{week, windows, startAt, endAt, timetableFits, covers, scheduleOf, scheduleIn}
 use Rattle.timetable.specs.Inner.Edges.{isEdge, nextEdge, FirstBehind}
 use Rattle.timetable.proofs.TimetableLaws.{starts, ends, apart}
@@ -28,14 +28,10 @@ no-edge : (t : List ℕ) (minute : ℕ)
 unfolding isEdge
 no-edge t minute h = any-none (windows t) _ (λ k l. sym (or-on (no= (h k l .0)) (sym (no= (h k l .1)))))
 
--- the next edge lies behind the minute, and no later than the week's end
+-- the next edge lies behind the minute
 pub edge-later : (t : List ℕ) (minute : ℕ) → minute < nextEdge t minute
 unfolding nextEdge
 edge-later t minute = omega (arith, leastFrom-low (isEdge t) (week - 1 - minute) (minute + 1))
-
-pub edge-within : (t : List ℕ) (minute : ℕ) → minute < week → nextEdge t minute ≤ week
-unfolding nextEdge
-edge-within t minute l = omega (arith, leastFrom-most (isEdge t) (week - 1 - minute) (minute + 1))
 
 -- a minute and one before the next edge
 module _ (t : List ℕ) (minute m : ℕ) (on : minute ≤ m) (before : m < nextEdge t minute) where
@@ -43,9 +39,7 @@ module _ (t : List ℕ) (minute m : ℕ) (on : minute ≤ m) (before : m < nextE
   none-between : (e : ℕ) → isEdge t e ≡ true → minute < e → e ≤ m → ⊥
   unfolding nextEdge
   none-between e is-edge a b =
-      let most = leastFrom-most (isEdge t) (week - 1 - minute) (minute + 1) in
-      let least = leastFrom-least (isEdge t) (week - 1 - minute) (minute + 1) e (omega arith) (omega (arith, most)) is-edge in
-      omega (arith, least)
+      false≢true (sym (leastFrom-before (isEdge t) (week - 1 - minute) (minute + 1) e (omega arith) (omega arith)) ∙ is-edge)
 
   same-start : (k : ℕ) → k < windows t → (startAt t k ≤? m) ≡ (startAt t k ≤? minute)
   same-start k l = go (decLe (startAt t k) minute) (decLe (startAt t k) m)

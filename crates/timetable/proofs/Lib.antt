@@ -1,4 +1,5 @@
 pub mod TimetableLaws
 pub mod EdgeLaws
+pub mod WalkLaws
 pub mod HoursLaws
 pub mod Examples

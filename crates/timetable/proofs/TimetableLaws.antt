@@ -14,6 +14,7 @@ use Rattle.words.proofs.TestLaws.{and-no, and-on, and-both, and-left, and-right
 use Rattle.words.proofs.AllLaws.{all-none, all-more, all-fails, all-at}
 use Rattle.words.proofs.WordLaws.{lastOf-at, lastOf-none}
 use Rattle.timetable.specs.Timetable.{week, windows, startAt, lengthAt, scheduleAt, endAt, windowFits, inOrder, timetableFits, covers, scheduleOf, scheduleIn, OneCovers}
+use Rattle.timetable.specs.Inner.Windows.{firstWindowsFit}
 use Rattle.timetable.specs.Inner.Edges.{EndedBefore, FirstBehind}
 
 -- one window, by what the code reads of it
@@ -81,10 +82,10 @@ module _ (t : List ℕ) where
   fits-many h = sym (and-no-right (length t % 3 =? 0) _ (sym (and-no _ (no≤ h))))
 
   pub fits-windows : (count : ℕ) {v : Bool} → length t % 3 ≡ 0 → windows t ≤ 64 → count ≡ windows t
-      → v ≡ all count (windowFits t) and all (count - 1) (inOrder t) → v ≡ timetableFits t
+      → v ≡ firstWindowsFit t count → v ≡ timetableFits t
   unfolding timetableFits
   fits-windows count a b e r =
-      and-on (yes= a) (and-on (yes≤ b) (r ∙ ap (λ n. all n (windowFits t) and all (n - 1) (inOrder t)) e))
+      and-on (yes= a) (and-on (yes≤ b) (r ∙ ap (firstWindowsFit t) e))
 
 -- where the window before window k ended, and 0 where there is none
 pub endBefore : List ℕ → ℕ → ℕ
@@ -93,13 +94,12 @@ endBefore t (suc k) = endAt t k
 
 -- the first k windows fit and are in order, and the last of them has ended there
 pub record Kept (t : List ℕ) (k ended : ℕ) : Type 0 where
-  pub fit : all k (windowFits t) ≡ true
-  pub ordered : all (k - 1) (inOrder t) ≡ true
+  pub fit : firstWindowsFit t k ≡ true
   pub last : ended ≡ endBefore t k
 
 pub kept-none : (t : List ℕ) → Kept t 0 0
 unfolding endBefore
-kept-none t = record { fit = sym (all-none (windowFits t)); ordered = sym (all-none (inOrder t)); last = refl }
+kept-none t = record { fit = and-both (sym (all-none (windowFits t))) (sym (all-none (inOrder t))); last = refl }
 
 -- the window before window k ends in time for it, or does not
 in-order : (t : List ℕ) (j : ℕ) → endAt t j ≤ startAt t (suc j) → inOrder t j ≡ true
@@ -113,7 +113,7 @@ not-in-order t j h = no≤ (omega (arith, h, ap (startAt t) (add-one j)))
 module _ (t : List ℕ) (k ended : ℕ) (kept : Kept t k ended) where
   ordered-more : ended ≤ startAt t k → all k (inOrder t) ≡ true
   unfolding all endBefore
-  ordered-more l = go k (kept .ordered) (kept .last) l
+  ordered-more l = go k (and-right (all k (windowFits t)) _ (kept .fit)) (kept .last) l
     where
       go : (k : ℕ) → all (k - 1) (inOrder t) ≡ true → ended ≡ endBefore t k → ended ≤ startAt t k → all k (inOrder t) ≡ true
       go zero h e l = sym (all-none (inOrder t))
@@ -127,41 +127,42 @@ module _ (t : List ℕ) (k ended : ℕ) (kept : Kept t k ended) where
   kept-more l fits e =
       let before : k ≡ k + 1 - 1 = omega arith in
       record {
-        fit = all-more (windowFits t) k (kept .fit) fits;
-        ordered = subst (λ n. all n (inOrder t) ≡ true) before (ordered-more l);
+        fit =
+            and-both
+            (all-more (windowFits t) k (and-left _ _ (kept .fit)) fits)
+            (subst (λ n. all n (inOrder t) ≡ true) before (ordered-more l));
         last = e ∙ sym (ap (endBefore t) (add-one k));
       }
 
   -- the next window does not fit, or starts too early; or there is none
-  pub kept-unfit : (count : ℕ) → k < count → windowFits t k ≡ false → false ≡ all count (windowFits t) and all (count - 1) (inOrder t)
+  pub kept-unfit : (count : ℕ) → k < count → windowFits t k ≡ false → false ≡ firstWindowsFit t count
   kept-unfit count l e = and-no _ (sym (all-fails (windowFits t) count k l e))
 
-  pub kept-early : (count : ℕ) → k < count → startAt t k < ended → false ≡ all count (windowFits t) and all (count - 1) (inOrder t)
+  pub kept-early : (count : ℕ) → k < count → startAt t k < ended → false ≡ firstWindowsFit t count
   unfolding endBefore
   kept-early count l h = go k l (kept .last) h
     where
-      go : (k : ℕ) → k < count → ended ≡ endBefore t k → startAt t k < ended
-          → false ≡ all count (windowFits t) and all (count - 1) (inOrder t)
+      go : (k : ℕ) → k < count → ended ≡ endBefore t k → startAt t k < ended → false ≡ firstWindowsFit t count
       go zero l e h = absurd (let z : ⊥ = omega arith in z)
       go (suc j) l e h =
           let early : inOrder t j ≡ false = not-in-order t j (omega arith) in
           sym (and-no-right (all count (windowFits t)) _ (sym (all-fails (inOrder t) (count - 1) j (omega arith) early)))
 
-  pub kept-done : (count : ℕ) → k ≤ count → count ≤ k → true ≡ all count (windowFits t) and all (count - 1) (inOrder t)
+  pub kept-done : (count : ℕ) → k ≤ count → count ≤ k → true ≡ firstWindowsFit t count
   kept-done count a b =
       let same : k ≡ count = omega arith in
-      sym (subst (λ n. (all n (windowFits t) and all (n - 1) (inOrder t)) ≡ true) same (and-both (kept .fit) (kept .ordered)))
+      sym (subst (λ n. firstWindowsFit t n ≡ true) same (kept .fit))
 
 -- a timetable that fits
 module _ (t : List ℕ) (fits : timetableFits t ≡ true) where
-  few-windows : (windows t ≤? 64 and all (windows t) (windowFits t) and all (windows t - 1) (inOrder t)) ≡ true
+  few-windows : (windows t ≤? 64 and firstWindowsFit t (windows t)) ≡ true
   unfolding timetableFits
   few-windows = and-right (length t % 3 =? 0) _ fits
 
   pub few : windows t ≤ 64
   few = is≤ (windows t) 64 (and-left (windows t ≤? 64) _ few-windows)
 
-  windows-fit : (all (windows t) (windowFits t) and all (windows t - 1) (inOrder t)) ≡ true
+  windows-fit : firstWindowsFit t (windows t) ≡ true
   windows-fit = and-right (windows t ≤? 64) _ few-windows
 
   pub starts : (k : ℕ) → k < windows t → startAt t k < endAt t k

@@ -1,1 +1,2 @@
+pub mod Windows
 pub mod Edges

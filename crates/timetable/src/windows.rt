@@ -1,8 +1,8 @@
 // The windows of a timetable, and number 31.
 ghost use mathlib.Core.Path.{_≡_};
-ghost use Prim.Native.Nat.{_-_, _≤_, _<_};
-ghost use Rattle.words.specs.Tests.{_and_, all};
-ghost use Rattle.timetable.specs.Timetable.{windows, startAt, scheduleAt, endAt, windowFits, inOrder, timetableFits};
+ghost use Prim.Native.Nat.{_≤_, _<_};
+ghost use Rattle.timetable.specs.Timetable.{windows, startAt, scheduleAt, endAt, windowFits, timetableFits};
+ghost use Rattle.timetable.specs.Inner.Windows.{firstWindowsFit};
 use super::WEEK;
 
 // The most windows that a timetable has.
@@ -62,7 +62,7 @@ fn window_fits(list: &[u32], k: u32) -> bool
 // All windows fit, and each starts no earlier than the one before it has ended.
 fn windows_fit(list: &[u32], count: u32) -> bool
     requires { ⌜ count ≡ windows (now list) ⌝ }
-    ensures { λ r. ⌜ r ≡ all count (windowFits (now (list .entry))) and all (count - 1) (inOrder (now (list .entry))) ⌝ }
+    ensures { λ r. ⌜ r ≡ firstWindowsFit (now (list .entry)) count ⌝ }
 {
     let mut k: u32 = 0;
     let mut ended: u64 = 0;

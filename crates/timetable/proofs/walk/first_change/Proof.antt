@@ -5,7 +5,7 @@ use Prim.Native.Nat.{_≤_, _-_}
 use native.Mathlib.Omega.{arith}
 use Rattle.timetable.specs.Inner.Edges.{EndedBefore}
 use Rattle.timetable.proofs.EdgeLaws.{edge-later}
-use Rattle.timetable.proofs.HoursLaws.{Passed, passed-none, passed-more, change-found, change-none, ended-on}
+use Rattle.timetable.proofs.WalkLaws.{Passed, passed-none, passed-more, change-found, change-none, ended-on}
 use Rattle.timetable.proofs.walk.first_change.Statement.{statement}
 use Rattle.timetable.proofs.walk.first_change.Tie as tie
 
