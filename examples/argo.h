@@ -28,6 +28,22 @@ uint32_t argo_load(const uint32_t *sheet, size_t sheet_words, uint32_t *state, s
 /* Starts a transfer of a circuit: count words from the source's address read to the destination's address write; kind 0 or 2. */
 uint32_t argo_start(uint32_t *state, size_t state_words, uint32_t circuit, uint32_t read, uint32_t write, uint32_t count, uint32_t kind);
 
+/* A transfer of a list: its circuit, where its words are read and written, how many they are, and their kind. */
+struct argo_transfer {
+    uint32_t circuit, read, write, count, kind;
+};
+
+/* Starts a list of up to 64 transfers, each as argo_start would after those before it, and writes an answer word for each: 0 where it was
+   started, else 15, 16 or 17. Answer words behind the list stay as they were. The state is tested once for all of them (12, 13); 21: the
+   list is longer than 64, or there are fewer answer words than transfers, and nothing is started and no answer word written. */
+uint32_t argo_start_all(uint32_t *state, size_t state_words, const struct argo_transfer *transfers, size_t transfer_count,
+                        uint32_t *answers, size_t answer_words);
+
+/* The same with word i of five lists for transfer i, for hosts without structs; 21 also where the five are not equally long. */
+uint32_t argo_start_lists(uint32_t *state, size_t state_words, const uint32_t *circuits, size_t circuit_words, const uint32_t *reads,
+                          size_t read_words, const uint32_t *writes, size_t write_words, const uint32_t *counts, size_t count_words,
+                          const uint32_t *kinds, size_t kind_words, uint32_t *answers, size_t answer_words);
+
 /* Stores a word at a node's address. */
 uint32_t argo_store(const uint32_t *state, size_t state_words, uint32_t *memory, size_t memory_words, uint32_t node, uint32_t address,
                     uint32_t word);

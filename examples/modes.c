@@ -57,6 +57,18 @@ static int is_known(void) {
     return 1;
 }
 
+/* Starts every circuit that has no words left, all by one list. */
+static void start_idle(void) {
+    struct argo_transfer idle[CIRCUITS];
+    uint32_t answers[CIRCUITS];
+    size_t count = 0;
+    for (uint32_t c = 0; c < CIRCUITS; c++)
+        if (argo_words_left(state, STATE, c) == 0)
+            idle[count++] = (struct argo_transfer){c, circuits[c].read, circuits[c].write, circuits[c].count, 0};
+    carried_out("list of starts", argo_start_all(state, STATE, idle, count, answers, CIRCUITS));
+    for (size_t i = 0; i < count; i++) carried_out("start", answers[i]);
+}
+
 /* The circuit whose receive region has an address of a node. */
 static int circuit_at(uint32_t node, uint32_t address) {
     for (int c = 0; c < CIRCUITS; c++)
@@ -91,9 +103,7 @@ int main(void) {
         if (period == 0) carried_out("order", argo_order(state, STATE, 1, 3));
         if (period == 3) carried_out("order", argo_order(state, STATE, 2, 6));
         for (uint32_t cycle = 0; cycle < PERIOD; cycle++) {
-            for (uint32_t c = 0; c < CIRCUITS; c++)
-                if (argo_words_left(state, STATE, c) == 0)
-                    carried_out("start", argo_start(state, STATE, c, circuits[c].read, circuits[c].write, circuits[c].count, 0));
+            start_idle();
             carried_out("cycle", argo_cycle(state, STATE, memory, NODES * ROOM));
             for (uint32_t node = 0; node < NODES; node++) {
                 if (argo_landed(state, STATE, node, 0) != 1) continue;

@@ -8,8 +8,8 @@ use std::path::{Path, PathBuf};
 use std::process::ExitCode;
 
 /// Statements that stand for themselves: proofs fill them.
-const STATEMENTS: [&str; 8] =
-    ["Demand3", "OneMachine", "TableHolds", "FourKinds", "DistanceFormula", "OneCovers", "ChangeRight", "NeverChanges"];
+const STATEMENTS: [&str; 9] =
+    ["Demand3", "OneMachine", "TableHolds", "FourKinds", "DistanceFormula", "OneCovers", "ChangeRight", "NeverChanges", "AsSingles"];
 
 /// What the book may name of the inner definitions: the cycle in words, of which OneMachine says that it is the article's; and a node of
 /// a grid, of which DistanceFormula speaks.
@@ -93,7 +93,7 @@ fn main() -> ExitCode {
     let mut complaints = Vec::new();
     let mut judge = |holds: bool, complaint: String| if holds { passed += 1 } else { complaints.push(complaint) };
 
-    for number in (1..=20).chain([26, 31, 32]) {
+    for number in (1..=21).chain([26, 31, 32]) {
         let found = gives(&book, number);
         let is_rule = number <= 11 || number == 26;
         judge(if is_rule { found == 1 } else { found >= 1 }, format!("number {number} is given by {found} lines of the book"));

@@ -1,9 +1,11 @@
-//! The library's exported calls. A slice is lent as its pointer and its length in words.
+//! The library's exported calls. A slice is lent as its pointer and its length in words; a list of transfers as
+//! its pointer and its length in records.
 
 // Each program calls some of them.
 #![allow(dead_code)]
 
-use second::calls::Calls;
+use second::calls::{Calls, FIELDS};
+use second::machine::Transfer;
 
 extern "C" {
     fn argo_load(
@@ -45,6 +47,30 @@ extern "C" {
     fn argo_landed(state: *const u32, state_words: usize, node: u32, field: u32) -> u64;
     fn argo_order(state: *mut u32, state_words: usize, schedule: u32, period_number: u32) -> u32;
     fn argo_cycle(state: *mut u32, state_words: usize, memory: *mut u32, memory_words: usize) -> u32;
+    fn argo_start_all(
+        state: *mut u32,
+        state_words: usize,
+        transfers: *const Transfer,
+        transfers_len: usize,
+        answers: *mut u32,
+        answers_words: usize,
+    ) -> u32;
+    fn argo_start_lists(
+        state: *mut u32,
+        state_words: usize,
+        circuits: *const u32,
+        circuits_words: usize,
+        reads: *const u32,
+        reads_words: usize,
+        writes: *const u32,
+        writes_words: usize,
+        counts: *const u32,
+        counts_words: usize,
+        kinds: *const u32,
+        kinds_words: usize,
+        answers: *mut u32,
+        answers_words: usize,
+    ) -> u32;
     fn argo_state_words() -> u32;
     fn argo_entries(sheet: *const u32, sheet_words: usize, schedule: u32, field: u32) -> u64;
     fn argo_hours(list: *const u32, list_words: usize, minute: u32, field: u32) -> u64;
@@ -104,6 +130,41 @@ impl Calls for Exports {
 
     fn cycle(&mut self, state: &mut [u32], memory: &mut [u32]) -> u32 {
         unsafe { argo_cycle(state.as_mut_ptr(), state.len(), memory.as_mut_ptr(), memory.len()) }
+    }
+
+    fn start_all(&mut self, state: &mut [u32], transfers: &[Transfer], answers: &mut [u32]) -> u32 {
+        unsafe {
+            argo_start_all(
+                state.as_mut_ptr(),
+                state.len(),
+                transfers.as_ptr(),
+                transfers.len(),
+                answers.as_mut_ptr(),
+                answers.len(),
+            )
+        }
+    }
+
+    fn start_lists(&mut self, state: &mut [u32], lists: [&[u32]; FIELDS], answers: &mut [u32]) -> u32 {
+        let [circuits, reads, writes, counts, kinds] = lists;
+        unsafe {
+            argo_start_lists(
+                state.as_mut_ptr(),
+                state.len(),
+                circuits.as_ptr(),
+                circuits.len(),
+                reads.as_ptr(),
+                reads.len(),
+                writes.as_ptr(),
+                writes.len(),
+                counts.as_ptr(),
+                counts.len(),
+                kinds.as_ptr(),
+                kinds.len(),
+                answers.as_mut_ptr(),
+                answers.len(),
+            )
+        }
     }
 
     fn state_words(&mut self) -> u32 {

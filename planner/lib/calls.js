@@ -41,6 +41,17 @@ function callsOf(exported) {
     return [listPlace * 4, BigInt(list.length)];
   }
 
+  // Makes a call on lists that it only reads and on words that it writes, lent one behind another: its number, and those words then.
+  function answered(lists, answers, slices, call) {
+    let end = listPlace;
+    const lent = [...lists, answers].map((list) => [(end += list.length) - list.length, list]);
+    reach(end);
+    for (const [place, list] of lent) words.set(list, place);
+    const places = lent.map(([place, list]) => [place * 4, BigInt(list.length)]);
+    const number = call(...state, ...slices(places.slice(0, -1)), ...places.at(-1));
+    return { number, answers: [...words.subarray(end - answers.length, end)] };
+  }
+
   const state = [statePlace * 4, BigInt(stateWords)];
   const memory = () => [memoryPlace * 4, BigInt(memoryWords)];
 
@@ -67,6 +78,13 @@ function callsOf(exported) {
     },
 
     start: (circuit, read, write, count, kind) => exported.argo_start(...state, circuit, read, write, count, kind),
+
+    // Starts a list of transfers by one call, each as [circuit, read, write, count, kind]: its number and the answer words, which are 0 or
+    // the number of a transfer's refusal where the list is taken; and the same of five lists of words, for tests.
+    startAll: (transfers, answers = transfers.map(() => 0)) =>
+      answered([transfers.flat()], answers, ([[place]]) => [place, BigInt(transfers.length)], exported.argo_start_all),
+    startLists: (lists, answers) => answered(lists, answers, (lent) => lent.flat(), exported.argo_start_lists),
+
     store: (node, address, word) => exported.argo_store(...state, ...memory(), node, address, word),
     fetch: (node, address) => unpacked(exported.argo_fetch(...state, ...memory(), node, address)),
     wordsLeft: (circuit) => unpacked(exported.argo_words_left(...state, circuit)),

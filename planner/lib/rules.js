@@ -1,4 +1,4 @@
-// The numbers of a refusal, 1 to 20, 26, 31 and 32, in a planner's words; and why a call of a run was refused.
+// The numbers of a refusal, 1 to 21, 26, 31 and 32, in a planner's words; and why a call of a run was refused.
 import { cellName } from './cells.js';
 import { ROWS } from './calls.js';
 import { capital, circuitName, counted, modeName } from './naming.js';
@@ -73,6 +73,10 @@ export const RULES = {
   20: rule(
     'Words meet on a wire, or a word is lost',
     'Two words want one wire, a word has no header, or a word would land beyond the memory; a run of a sheet that passes never gets there.',
+  ),
+  21: rule(
+    'A list of transfers cannot be taken',
+    'At most 64 transfers are started together, with a word for the answer to each; a run of a plan starts no more at once.',
   ),
   26: rule(
     'A circuit has no slot',

@@ -9,6 +9,7 @@ export const SOURCE_WIRE = 5;
 export const MEMORY_WIRE = 4;
 const PORTS = 5;
 const MOST_SENT = 100;
+const MOST_LISTED = 64;
 
 // A document's memory rows and acts as calls, each with its row and the column of the cell that it is about.
 export function callsOfPlan(document) {
@@ -70,13 +71,36 @@ function lentStores(contents, parts, stores) {
   });
 }
 
-// Starts every circuit that has no words left. The register is looked at first, since each call tests the whole state.
-function startIdle(calls, parts) {
-  for (const { number, words } of parts.circuits) {
-    const [, , readOffset, readLength, receiveOffset, receiveLength] = words;
-    const count = Math.min(readLength, receiveLength, MOST_SENT);
-    if (calls.register(ROWS.left, number) === 0) calls.start(number, readOffset, receiveOffset, count, 0);
+// Starts transfers together: the number of each, in their order. A list takes so many at once; its call tests the whole state one time.
+function startTogether(calls, transfers) {
+  const numbers = [];
+  for (let begin = 0; begin < transfers.length; begin += MOST_LISTED) {
+    const listed = transfers.slice(begin, begin + MOST_LISTED);
+    const { number, answers } = calls.startAll(listed);
+    numbers.push(...(number === 0 ? answers : listed.map(() => number)));
   }
+  return numbers;
+}
+
+// Starts every circuit that has no words left.
+function startIdle(calls, parts) {
+  const idle = parts.circuits.filter(({ number }) => calls.register(ROWS.left, number) === 0);
+  const transfers = idle.map(({ number, words: [, , readOffset, readLength, receiveOffset, receiveLength] }) => {
+    return [number, readOffset, receiveOffset, Math.min(readLength, receiveLength, MOST_SENT), 0];
+  });
+  startTogether(calls, transfers);
+}
+
+// Carries out the acts of one cycle, its starts as one list, and gives the first in the file's order that is refused, with its number, or
+// null. No start depends on a store or an order of its cycle, nor they on it, so that the list may come first.
+function carryOutActs(calls, acts) {
+  const starts = acts.filter(({ what }) => what === 'start');
+  const numbers = startTogether(calls, starts.map((act) => act.arguments));
+  for (const act of acts) {
+    const number = act.what === 'start' ? numbers.shift() : calls[act.what](...act.arguments);
+    if (number !== 0) return { number, ...act };
+  }
+  return null;
 }
 
 // Opens a run. `refused` is the first call that was refused, or null; behind one, nothing more is carried out. With `sending`, every
@@ -96,19 +120,20 @@ export function openRun(calls, words, { stores = [], acts = [], sending = false 
   const elsewhere = lentStores(contents, parts, stores);
   const loaded = calls.load(words, contents);
   if (loaded !== 0) return refuse(loaded, { what: 'load', row: null, column: null });
-  const carriedOut = (call) => {
-    const number = calls[call.what](...call.arguments);
-    if (number !== 0) refuse(number, call);
-    return number === 0;
-  };
-  if (!elsewhere.every(carriedOut)) return run;
+  run.refused = carryOutActs(calls, elsewhere);
+  if (run.refused) return run;
   let next = 0;
 
   // Carries out the acts of the present cycle and the cycle; null where one is refused.
   run.step = () => {
     if (run.refused) return null;
     if (sending) startIdle(calls, parts);
-    else for (; next < acts.length && acts[next].cycle <= run.cycle; next++) if (!carriedOut(acts[next])) return null;
+    else {
+      const begin = next;
+      while (next < acts.length && acts[next].cycle <= run.cycle) next++;
+      run.refused = carryOutActs(calls, acts.slice(begin, next));
+      if (run.refused) return null;
+    }
     const clock = [0, 1, 2].map((place) => calls.register(ROWS.clock, place));
     const wires = outputs(calls, run.nodes);
     const number = calls.cycle();

@@ -9,7 +9,7 @@ const root = join(dirname(fileURLToPath(import.meta.url)), '..', '..');
 const archive = join(root, 'target', 'staticlib', 'libexports.a');
 const source = join(root, 'tests', 'planner', 'native.rs');
 const model = join(root, 'tests', 'second');
-const CODES = { load: 3, start: 4, store: 5, fetch: 6, wordsLeft: 7, periodNumber: 8, landedField: 9, order: 10, cycle: 11 };
+const CODES = { load: 3, start: 4, store: 5, fetch: 6, wordsLeft: 7, periodNumber: 8, landedField: 9, order: 10, cycle: 11, startAll: 17, startLists: 18 };
 const [VERDICT, ENTRIES, STATE_WORD, MEMORY_WORD, MEMORY_LENGTH, STATE_LENGTH, HOURS] = [1, 2, 12, 13, 14, 15, 16];
 // The fields of a timetable's answer, and two that it does not have.
 const HOURS_FIELDS = [0, 1, 2, 3, 0xffffffff];
@@ -65,6 +65,13 @@ function hashOf(...slices) {
   return [first >>> 0, second >>> 0];
 }
 
+// The slices that a call is lent beside state and memory, in the order in which a request has them.
+const slicesOf = {
+  load: (slices) => slices,
+  startAll: ([transfers, answers]) => [transfers.flat(), answers],
+  startLists: ([lists, answers]) => [...lists, answers],
+};
+
 // A record: every request is made through the calls and written down with its reply.
 export function recordOf(calls) {
   const [requests, replies] = [wordList(), wordList()];
@@ -95,10 +102,11 @@ export function recordOf(calls) {
     },
     call(name, ...list) {
       const answer = calls[name](...list);
-      const { number, value = 0 } = typeof answer === 'number' ? { number: answer } : answer;
-      const words = name === 'load' ? list.flatMap((slice) => [slice.length, ...slice]) : list;
-      note([CODES[name], ...words], [number, value, ...hashOf(calls.lentState(), calls.lentMemory())]);
-      return { number, value };
+      const { number, value = 0, answers = [] } = typeof answer === 'number' ? { number: answer } : answer;
+      const slices = slicesOf[name]?.(list);
+      const words = slices ? slices.flatMap((slice) => [slice.length, ...slice]) : list;
+      note([CODES[name], ...words], [number, value, ...answers, ...hashOf(calls.lentState(), calls.lentMemory())]);
+      return { number, value, answers };
     },
     pokeState(at, word) {
       calls.lentState()[at] = word;

@@ -8,6 +8,7 @@ mod exports;
 
 use exports::{entries, hours, Exports};
 use second::calls::Calls;
+use second::machine::Transfer;
 use std::io::{self, Read, Write};
 
 extern "C" {
@@ -104,9 +105,26 @@ fn halves(answer: u64) -> [u32; 2] {
     [(answer >> 32) as u32, answer as u32]
 }
 
+/// Starts a list of transfers: code 17 has them as records, 18 as five lists of words. The
+/// words for the answers come last.
+fn start_listed(code: u32, state: &mut [u32], requests: &mut Requests) -> (u32, Vec<u32>) {
+    if code == 17 {
+        let transfers: Vec<Transfer> = requests.counted().chunks_exact(5).map(transfer).collect();
+        let mut answers = requests.counted().to_vec();
+        return (Exports.start_all(state, &transfers, &mut answers), answers);
+    }
+    let lists = [(); 5].map(|()| requests.counted());
+    let mut answers = requests.counted().to_vec();
+    (Exports.start_lists(state, lists, &mut answers), answers)
+}
+
+fn transfer(words: &[u32]) -> Transfer {
+    Transfer { circuit: words[0], read: words[1], write: words[2], count: words[3], kind: words[4] }
+}
+
 /// Carries out all requests. Codes 1 and 2 judge a sheet and find its entries, 3 to 11 are the
 /// calls on the session, 12 to 15 change a lent word or how many are lent and reply nothing, 16
-/// asks a timetable for a minute.
+/// asks a timetable for a minute, 17 and 18 start a list of transfers and reply its answers too.
 fn carry_out(mut requests: Requests) -> Vec<u32> {
     let mut replies = Vec::new();
     let mut session = Session::new();
@@ -135,6 +153,12 @@ fn carry_out(mut requests: Requests) -> Vec<u32> {
                 for field in HOURS_FIELDS {
                     replies.extend(halves(hours(list, minute, field)));
                 }
+            }
+            code @ (17 | 18) => {
+                let (number, answers) = start_listed(code, &mut session.state[..session.state_words], &mut requests);
+                replies.extend([number, 0]);
+                replies.extend(answers);
+                replies.extend(session.hash());
             }
             code => {
                 let answer = session.call(code, &mut requests);

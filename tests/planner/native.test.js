@@ -55,13 +55,14 @@ test('20,000 verdicts, and where entries lie', () => {
 test('100,000 calls on sessions, with words of the state poked', () => {
   const random = seeded(2);
   const record = recordOf(calls);
-  const [numbers, seen] = [counter(), { landed: 0, switched: 0, crowded: 0, none: 0 }];
+  const [numbers, seen] = [counter(), { landed: 0, switched: 0, crowded: 0, none: 0, listed: counter() }];
   while (numbers.sum() < SESSION_CALLS) playSession(random, record, passes, numbers, seen);
   assert.equal(record.difference(), null);
   const { counts } = numbers;
   assert.ok(counts[0] >= numbers.sum() / 3, `${counts[0]} of ${numbers.sum()} calls were carried out`);
-  for (let number = 13; number <= 20; number++) assert.ok(counts[number] >= 100, `number ${number}: ${counts[number]} calls`);
+  for (let number = 13; number <= 21; number++) assert.ok(counts[number] >= 100, `number ${number}: ${counts[number]} calls`);
   assert.ok(counts[26] >= 20, `${counts[26]} loads were refused with number 26`);
+  for (const number of [0, 15, 16, 17]) assert.ok(seen.listed.counts[number] >= 100, `${number} answers ${seen.listed.counts[number]} transfers`);
   assert.ok(seen.landed >= 1000, `${seen.landed} landings were seen`);
   assert.ok(seen.switched >= 100, `${seen.switched} switches were seen`);
   assert.ok(seen.crowded >= 20, `${seen.crowded} sessions had 16 circuits or more`);
@@ -112,6 +113,15 @@ async function callsOfLength() {
   const state = () => [place * 4, BigInt(stateLength)];
   const memory = () => [memoryPlace * 4, BigInt(memoryLength)];
   const value = (answer) => ({ number: Number(BigInt.asUintN(64, answer) >> 32n), value: Number(answer & 0xffffffffn) });
+  // The words for answers lie behind every list.
+  const answersPlace = sheetPlace + 1000;
+  const lentAnswers = (answers) => [answersPlace * 4, BigInt(answers.length)];
+  function answered(lists, answers, call) {
+    const lent = lists.map((list, at) => [sheetPlace + 100 * at, list]);
+    for (const [at, list] of [...lent, [answersPlace, answers]]) words().set(list, at);
+    const number = call(lent.map(([at, list]) => [at * 4, BigInt(list.length)]));
+    return { number, answers: [...words().subarray(answersPlace, answersPlace + answers.length)] };
+  }
   return {
     lendState: (length) => (stateLength = length),
     lentState: () => words().subarray(place, place + stateLength),
@@ -123,6 +133,9 @@ async function callsOfLength() {
       return exported.argo_load(sheetPlace * 4, BigInt(sheet.length), ...state(), ...memory());
     },
     start: (...list) => exported.argo_start(...state(), ...list),
+    startAll: (transfers, answers) =>
+      answered([transfers.flat()], answers, ([[at]]) => exported.argo_start_all(...state(), at, BigInt(transfers.length), ...lentAnswers(answers))),
+    startLists: (lists, answers) => answered(lists, answers, (lent) => exported.argo_start_lists(...state(), ...lent.flat(), ...lentAnswers(answers))),
     store: (...list) => exported.argo_store(...state(), ...memory(), ...list),
     fetch: (...list) => value(exported.argo_fetch(...state(), ...memory(), ...list)),
     wordsLeft: (...list) => value(exported.argo_words_left(...state(), ...list)),
@@ -138,6 +151,7 @@ test('states that are too short, and longer ones', async () => {
   const list = [
     ['start', 0, 0, 0, 3, 0], ['store', 0, 0, 11], ['fetch', 0, 0], ['wordsLeft', 0],
     ['periodNumber'], ['landedField', 1, 0], ['order', 0, 3], ['cycle'],
+    ['startAll', [[0, 0, 0, 3, 0]], [7, 8]], ['startLists', [[0], [0], [0], [3], [0]], [7, 8]],
   ];
   const record = recordOf(await callsOfLength());
   const published = calls.stateWords;

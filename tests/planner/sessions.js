@@ -23,10 +23,29 @@ function startOf(random, { parts }) {
   return [circuit, inside(readOffset, readLength), inside(receiveOffset, receiveLength), count, kind];
 }
 
+// A list of starts and words for its answers, mostly as many; now and then longer than a list may be.
+function startsOf(random, session) {
+  const count = random.chance(0.9) ? random.below(9) : random.choose([63, 64, 65, 70]);
+  const transfers = Array.from({ length: count }, () => startOf(random, session));
+  const spare = random.chance(0.8) ? random.below(3) : -1;
+  return [transfers, Array.from({ length: Math.max(0, count + spare) }, () => random.word())];
+}
+
+// The same as five lists of words, now and then one of them shorter or longer.
+function listsOf(random, session) {
+  const [transfers, answers] = startsOf(random, session);
+  const lists = [0, 1, 2, 3, 4].map((field) => transfers.map((words) => words[field]));
+  if (random.chance(0.2)) random.choose(lists).push(random.word());
+  if (random.chance(0.2)) random.choose(lists).pop();
+  return [lists, answers];
+}
+
 // The calls, each as often as it stands here.
 const CALLS = [
   ...new Array(9).fill(() => ['cycle']),
   ...new Array(4).fill((random, session) => ['start', ...startOf(random, session)]),
+  (random, session) => ['startAll', ...startsOf(random, session)],
+  (random, session) => ['startLists', ...listsOf(random, session)],
   ...new Array(2).fill((random, session) => ['landedField', near(random, session.nodes), random.choose([0, 0, 1, 2, 3, 4, 0xffffffff])]),
   (random, session) => ['store', near(random, session.nodes), near(random, session.parts.memory), random.word()],
   (random, session) => ['fetch', near(random, session.nodes), near(random, session.parts.memory)],
@@ -97,6 +116,7 @@ function maker(session, numbers, seen) {
     const before = session.register(0, 2);
     const answer = session.record.call(name, ...list);
     numbers.add(answer.number);
+    if (name === 'startAll' && answer.number === 0) for (const told of answer.answers.slice(0, list[0].length)) seen.listed.add(told);
     if (name !== 'cycle' || answer.number !== 0) return answer;
     if (session.register(0, 2) !== before) seen.switched++;
     for (let node = 0; node < session.nodes; node++) {

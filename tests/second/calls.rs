@@ -1,8 +1,11 @@
-//! The nine calls on lent words, as whoever carries them out has to offer them, and the
-//! second machine as one who does. An answer is number × 2^32 + value.
+//! The ten calls on lent words, one of them in two forms, as whoever carries them out has to
+//! offer them, and the second machine as one who does. An answer is number × 2^32 + value.
 
 use super::lent::{Reader, STATE_WORDS};
-use super::machine::{Landing, Machine};
+use super::machine::{Landing, Machine, Transfer};
+
+/// How many words a record of a list has.
+pub const FIELDS: usize = 5;
 
 pub trait Calls {
     fn load(&mut self, sheet: &[u32], state: &mut [u32], memory: &[u32]) -> u32;
@@ -15,9 +18,14 @@ pub trait Calls {
     fn landed(&mut self, state: &[u32], node: u32, field: u32) -> u64;
     fn order(&mut self, state: &mut [u32], schedule: u32, period_number: u32) -> u32;
     fn cycle(&mut self, state: &mut [u32], memory: &mut [u32]) -> u32;
+    /// A list of transfers, and a word for the answer to each.
+    fn start_all(&mut self, state: &mut [u32], transfers: &[Transfer], answers: &mut [u32]) -> u32;
+    /// The same over lists of words: circuits, read addresses, write addresses, counts, kinds.
+    fn start_lists(&mut self, state: &mut [u32], lists: [&[u32]; FIELDS], answers: &mut [u32]) -> u32;
     fn state_words(&mut self) -> u32;
 }
 
+/// A call with its arguments; the answers of a list are the words lent for them, as they are before it.
 #[derive(Clone, Debug)]
 pub enum Call {
     Load { sheet: Vec<u32> },
@@ -29,9 +37,17 @@ pub enum Call {
     WhatLanded { node: u32, field: u32 },
     Order { schedule: u32, period_number: u32 },
     Cycle,
+    StartAll { transfers: Vec<Transfer>, answers: Vec<u32> },
+    StartLists { lists: [Vec<u32>; FIELDS], answers: Vec<u32> },
 }
 
 impl Call {
+    /// The single start of a transfer.
+    pub fn start(transfer: Transfer) -> Call {
+        let Transfer { circuit, read, write, count, kind } = transfer;
+        Call::Start { circuit, read, write, count, kind }
+    }
+
     pub fn name(&self) -> &'static str {
         match self {
             Call::Load { .. } => "load",
@@ -43,6 +59,8 @@ impl Call {
             Call::WhatLanded { .. } => "what landed",
             Call::Order { .. } => "order",
             Call::Cycle => "cycle",
+            Call::StartAll { .. } => "start all",
+            Call::StartLists { .. } => "start lists",
         }
     }
 
@@ -51,13 +69,30 @@ impl Call {
         matches!(self, Call::Fetch { .. } | Call::WordsLeft { .. } | Call::PeriodNumber | Call::WhatLanded { .. })
     }
 
-    /// The call for a reader; a long sheet is cut.
+    /// The words that a list is lent for answers, as they are before the call.
+    pub fn unanswered(&self) -> Option<&[u32]> {
+        match self {
+            Call::StartAll { answers, .. } | Call::StartLists { answers, .. } => Some(answers),
+            _ => None,
+        }
+    }
+
+    /// The records of a list in either form; none where the lists of words differ in length.
+    pub fn transfers(&self) -> Option<Vec<Transfer>> {
+        match self {
+            Call::StartAll { transfers, .. } => Some(transfers.clone()),
+            Call::StartLists { lists, .. } => transfers_of(slices(lists)),
+            _ => None,
+        }
+    }
+
+    /// The call for a reader; a long sheet or list is cut.
     pub fn start_of_text(&self) -> String {
         format!("{self:?}").chars().take(300).collect()
     }
 
-    /// Makes the call on the lent slices.
-    pub fn make(&self, calls: &mut impl Calls, state: &mut [u32], memory: &mut [u32]) -> u64 {
+    /// Makes the call on the lent slices; only a list is lent words for answers.
+    pub fn make(&self, calls: &mut impl Calls, state: &mut [u32], memory: &mut [u32], answers: &mut [u32]) -> u64 {
         match *self {
             Call::Load { ref sheet } => only_number(calls.load(sheet, state, memory)),
             Call::Start { circuit, read, write, count, kind } => {
@@ -70,8 +105,39 @@ impl Call {
             Call::WhatLanded { node, field } => calls.landed(state, node, field),
             Call::Order { schedule, period_number } => only_number(calls.order(state, schedule, period_number)),
             Call::Cycle => only_number(calls.cycle(state, memory)),
+            Call::StartAll { ref transfers, .. } => only_number(calls.start_all(state, transfers, answers)),
+            Call::StartLists { ref lists, .. } => only_number(calls.start_lists(state, slices(lists), answers)),
         }
     }
+}
+
+fn slices(lists: &[Vec<u32>; FIELDS]) -> [&[u32]; FIELDS] {
+    lists.each_ref().map(Vec::as_slice)
+}
+
+/// Records as lists of words.
+pub fn lists_of(transfers: &[Transfer]) -> [Vec<u32>; FIELDS] {
+    let list = |field: fn(&Transfer) -> u32| transfers.iter().map(field).collect();
+    [
+        list(|transfer| transfer.circuit),
+        list(|transfer| transfer.read),
+        list(|transfer| transfer.write),
+        list(|transfer| transfer.count),
+        list(|transfer| transfer.kind),
+    ]
+}
+
+/// Lists of words as records; none where their lengths differ.
+pub fn transfers_of(lists: [&[u32]; FIELDS]) -> Option<Vec<Transfer>> {
+    let length = lists[0].len();
+    if lists.iter().any(|list| list.len() != length) {
+        return None;
+    }
+    let record = |place: usize| {
+        let [circuit, read, write, count, kind] = lists.map(|list| list[place]);
+        Transfer { circuit, read, write, count, kind }
+    };
+    Some((0..length).map(record).collect())
 }
 
 fn only_number(number: u32) -> u64 {
@@ -203,6 +269,14 @@ impl Calls for Second {
 
     fn cycle(&mut self, state: &mut [u32], memory: &mut [u32]) -> u32 {
         self.change(state, |machine| machine.cycle(memory))
+    }
+
+    fn start_all(&mut self, state: &mut [u32], transfers: &[Transfer], answers: &mut [u32]) -> u32 {
+        self.change(state, |machine| machine.start_all(transfers, answers))
+    }
+
+    fn start_lists(&mut self, state: &mut [u32], lists: [&[u32]; FIELDS], answers: &mut [u32]) -> u32 {
+        self.change(state, |machine| machine.start_all(&transfers_of(lists).ok_or(21u32)?, answers))
     }
 
     fn state_words(&mut self) -> u32 {

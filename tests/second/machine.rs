@@ -1,5 +1,5 @@
 //! A second machine, coded from document 01, the article and docs/STATE.md, without our code or definitions: routers of
-//! three stages, senders, receive units, the clock and the order, and the nine calls upon them. What the papers leave free and
+//! three stages, senders, receive units, the clock and the order, and the ten calls upon them. What the papers leave free and
 //! the causes of number 20 are as docs/STATE.md lists them. Every register there is a field here. A machine's sheet has
 //! passed the second checker once, when the machine was made: by 1 to 11 and 26 for a load, by 1 to 11 for a state.
 
@@ -22,6 +22,20 @@ pub const LAST: u32 = 3;
 
 pub const DATA: u32 = 0;
 pub const INTERRUPT: u32 = 2;
+
+/// The most records that a list may have.
+pub const MOST_TRANSFERS: usize = 64;
+
+/// What a start asks for; as a record of a list it is lent as five words in this order.
+#[repr(C)]
+#[derive(Clone, Copy, Debug, PartialEq, Eq)]
+pub struct Transfer {
+    pub circuit: u32,
+    pub read: u32,
+    pub write: u32,
+    pub count: u32,
+    pub kind: u32,
+}
 
 /// What a wire or a stage holds.
 #[derive(Clone, Copy, Debug, Default, PartialEq, Eq)]
@@ -301,6 +315,18 @@ impl Machine {
             return Err(17);
         }
         *sender = Sender { left: count, read, write, kind, to_go: sender.to_go };
+        Ok(())
+    }
+
+    /// One start after the other; an answer word for each, 0 or its number.
+    pub fn start_all(&mut self, transfers: &[Transfer], answers: &mut [u32]) -> Result<(), u32> {
+        if transfers.len() > MOST_TRANSFERS || answers.len() < transfers.len() {
+            return Err(21);
+        }
+        for (transfer, answer) in transfers.iter().zip(answers) {
+            let Transfer { circuit, read, write, count, kind } = *transfer;
+            *answer = self.start(circuit, read, write, count, kind).err().unwrap_or(0);
+        }
         Ok(())
     }
 

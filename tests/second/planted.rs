@@ -1,9 +1,11 @@
-//! Machines that are wrong about sheets of no words or about circuits that no schedule serves,
-//! planted for the self tests: each of them has to be noticed.
+//! Machines that are wrong about sheets of no words, about circuits that no schedule serves or
+//! about lists of transfers, planted for the self tests: each of them has to be noticed.
 
-use super::calls::{Calls, Second};
+use super::calls::{Calls, Second, FIELDS};
 use super::checker;
 use super::lent::{MOVING_WORDS, SHEET, SHEET_LENGTH, STATE_WORDS};
+use super::machine::Transfer;
+use super::planted_lists::WrongList;
 use super::sheets::idle_network;
 
 #[derive(Clone, Copy, Debug, PartialEq, Eq)]
@@ -36,6 +38,7 @@ pub enum Wrong {
     RefusesUnservedStates,
     /// A start on an unserved circuit is refused by 26.
     RefusesUnservedStarts,
+    List(WrongList),
 }
 
 /// What a load can have wrong, and so a session can show.
@@ -115,7 +118,7 @@ impl Planted {
 }
 
 /// The sheet in a state that is long enough for it.
-fn stored_sheet(state: &[u32]) -> Option<&[u32]> {
+pub fn stored_sheet(state: &[u32]) -> Option<&[u32]> {
     let length = *state.get(SHEET_LENGTH)? as usize;
     state.get(SHEET..)?.get(..length)
 }
@@ -124,7 +127,7 @@ fn has_26(sheet: &[u32]) -> bool {
     checker::verdict(sheet) == 26
 }
 
-fn is_served(sheet: &[u32], circuit: u32) -> bool {
+pub fn is_served(sheet: &[u32], circuit: u32) -> bool {
     let sheet = checker::read(sheet).expect("the sheet of a sound state");
     let mut entries = sheet.schedules.iter().flat_map(|schedule| &schedule.entries);
     entries.any(|entry| entry.circuit == u64::from(circuit))
@@ -198,6 +201,20 @@ impl Calls for Planted {
         self.change(state, |second, state| second.cycle(state, memory))
     }
 
+    fn start_all(&mut self, state: &mut [u32], transfers: &[Transfer], answers: &mut [u32]) -> u32 {
+        match self.wrong {
+            Wrong::List(wrong) => wrong.start_all(&mut self.second, state, transfers, answers),
+            _ => self.change(state, |second, state| second.start_all(state, transfers, answers)),
+        }
+    }
+
+    fn start_lists(&mut self, state: &mut [u32], lists: [&[u32]; FIELDS], answers: &mut [u32]) -> u32 {
+        match self.wrong {
+            Wrong::List(wrong) => wrong.start_lists(&mut self.second, state, lists, answers),
+            _ => self.change(state, |second, state| second.start_lists(state, lists, answers)),
+        }
+    }
+
     fn state_words(&mut self) -> u32 {
         self.second.state_words()
     }
@@ -211,4 +228,13 @@ pub fn are_noticed(wrongs: &[Wrong], is_noticed: impl Fn(&mut Planted) -> bool) 
         println!("not noticed: {wrong:?}");
     }
     unnoticed.is_empty()
+}
+
+/// Says where a right machine in a wrong one's place is noticed too; true where it is not.
+pub fn goes_unnoticed(right: Wrong, is_noticed: impl Fn(&mut Planted) -> bool) -> bool {
+    let noticed = is_noticed(&mut Planted::new(right));
+    if noticed {
+        println!("noticed without a fault: {right:?}");
+    }
+    !noticed
 }

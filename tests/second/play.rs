@@ -1,16 +1,18 @@
 //! Plays generated sessions call by call: whoever is tested, the second machine and the
 //! reckoning of every circuit have to say the same, and every lent word has to be as the
 //! second machine says, after refused calls too. A load of no words has to do what a load of
-//! the idle network does that they stand for.
+//! the idle network does that they stand for, and a list of transfers the same in both forms.
 
-use super::calls::{number_of, Call, Calls, Second};
+use super::calls::{lists_of, number_of, Call, Calls, Second};
 use super::coverage::Coverage;
 use super::lent::{Row, PERIOD_NUMBER, STATE_WORDS};
-use super::machine::{Machine, INTERRUPT};
+use super::lists::{LIST_WAYS, ONE_OF_OTHER_LENGTH};
+use super::machine::{Machine, Transfer, INTERRUPT};
 use super::reckoning::{Calendar, Reckoning, Word};
-use super::sessions::{Generator, Made, NO_WORDS_FROM, SESSIONS, UNSERVED_LOADS};
+use super::sessions::{Generator, Made, LISTS_FROM, NO_WORDS_FROM, SESSIONS, UNSERVED_LOADS};
 use super::sheets::idle_network;
 use super::words::{Lent, Words};
+use std::ops::Range;
 use std::process::ExitCode;
 
 const DIFFERENCES_SHOWN: usize = 5;
@@ -22,6 +24,13 @@ const LOADS_NO_WORDS: &str = "situation: session in which no words are loaded";
 const SESSIONS_REQUIRED_OF_NO_WORDS: u64 = 40;
 /// Of each way to lend slices to a load of a sheet with an unserved circuit.
 const UNSERVED_LOADS_REQUIRED: u64 = 50;
+const LIST: &str = "situation: list in both forms";
+const LISTS_REQUIRED: u64 = 600;
+/// Of each way to make a list.
+const LISTS_OF_WAY_REQUIRED: u64 = 10;
+/// Of each number of the two forms, and of each answer to a record.
+const LIST_ANSWERS_REQUIRED: u64 = 50;
+const RECORD_ANSWERS_REQUIRED: u64 = 500;
 
 struct Player<'a, C> {
     tested: &'a mut C,
@@ -30,6 +39,8 @@ struct Player<'a, C> {
     reckonings: Vec<Reckoning>,
     /// What holds without circuits too; there is one once a load was carried out.
     calendar: Option<Calendar>,
+    /// Which circuits a list started last.
+    started_by_list: Vec<bool>,
     /// Whether the network was loaded by no words.
     idle: bool,
     loads_of_no_words: u32,
@@ -58,10 +69,9 @@ pub fn play_all(tested: &mut impl Calls) -> ExitCode {
     for difference in differences.iter().take(DIFFERENCES_SHOWN) {
         println!("{difference}");
     }
-    let mut complete = coverage.has_all(wanted().iter().map(String::as_str))
-        & coverage.has_at_least(SESSIONS_REQUIRED_OF_NO_WORDS, LOADS_NO_WORDS);
-    for name in UNSERVED_LOADS {
-        complete &= coverage.has_at_least(UNSERVED_LOADS_REQUIRED, &made_name(name));
+    let mut complete = coverage.has_all(wanted().iter().map(String::as_str));
+    for (count, name) in wanted_often() {
+        complete &= coverage.has_at_least(count, &name);
     }
     let failed = differences.len() + usize::from(!complete);
     println!("{passed} passed, {failed} failed");
@@ -75,13 +85,36 @@ pub fn play_all(tested: &mut impl Calls) -> ExitCode {
 /// Whether a session in which no words are loaded tells someone from the second machine. Sheets with
 /// an unserved circuit are loaded there too.
 pub fn is_noticed(tested: &mut impl Calls) -> bool {
-    (NO_WORDS_FROM..SESSIONS).any(|session| play(tested, &mut Coverage::default(), session).is_err())
+    is_noticed_in(tested, NO_WORDS_FROM..LISTS_FROM)
+}
+
+/// Whether a session with lists does.
+pub fn is_noticed_by_lists(tested: &mut impl Calls) -> bool {
+    is_noticed_in(tested, LISTS_FROM..SESSIONS)
+}
+
+fn is_noticed_in(tested: &mut impl Calls, mut sessions: Range<u64>) -> bool {
+    sessions.any(|session| play(tested, &mut Coverage::default(), session).is_err())
+}
+
+/// What should be met often, and how often.
+fn wanted_often() -> Vec<(u64, String)> {
+    let mut names = vec![(SESSIONS_REQUIRED_OF_NO_WORDS, LOADS_NO_WORDS.to_string())];
+    names.extend(UNSERVED_LOADS.map(|name| (UNSERVED_LOADS_REQUIRED, made_name(name))));
+    names.push((LISTS_REQUIRED, LIST.to_string()));
+    let list_ways = LIST_WAYS.iter().chain(ONE_OF_OTHER_LENGTH.iter().flatten());
+    names.extend(list_ways.map(|name| (LISTS_OF_WAY_REQUIRED, made_name(name))));
+    for form in ["start all", "start lists"] {
+        names.extend([0, 12, 21].map(|number| (LIST_ANSWERS_REQUIRED, answer_name(form, number))));
+    }
+    names.extend([0, 15, 16, 17].map(|answer| (RECORD_ANSWERS_REQUIRED, record_name(answer))));
+    names
 }
 
 /// Every call with every number that a session can meet, on the idle network too, and the
 /// situations that matter.
 fn wanted() -> Vec<String> {
-    let numbers: [(&str, &[u32]); 9] = [
+    let numbers: [(&str, &[u32]); 11] = [
         ("load", &[0, 1, 2, 3, 4, 5, 6, 7, 8, 9, 10, 11, 12, 14, 26]),
         ("start", &[0, 12, 15, 16, 17]),
         ("store", &[0, 12, 14, 15]),
@@ -91,8 +124,10 @@ fn wanted() -> Vec<String> {
         ("what landed", &[0, 12, 15]),
         ("order", &[0, 12, 15, 18, 19]),
         ("cycle", &[0, 12, 14]),
+        ("start all", &[0, 12, 21]),
+        ("start lists", &[0, 12, 21]),
     ];
-    let idle_numbers: [(&str, &[u32]); 9] = [
+    let idle_numbers: [(&str, &[u32]); 11] = [
         ("load", &[0, 1, 12, 14, 26]),
         ("start", &[12, 15]),
         ("store", &[0, 12, 14, 15]),
@@ -102,6 +137,8 @@ fn wanted() -> Vec<String> {
         ("what landed", &[0, 12, 15]),
         ("order", &[0, 12, 15, 18, 19]),
         ("cycle", &[0, 12, 14]),
+        ("start all", &[0, 12, 21]),
+        ("start lists", &[0, 12, 21]),
     ];
     let mut names = Vec::new();
     for (call, numbers) in numbers {
@@ -134,6 +171,11 @@ fn answer_name(call: &str, number: u32) -> String {
     }
 }
 
+/// Of a record in a list.
+fn record_name(answer: u32) -> String {
+    answer_name("record", answer)
+}
+
 fn made_name(name: &str) -> String {
     format!("made: {name}")
 }
@@ -150,7 +192,7 @@ const IDLE_SITUATIONS: [&str; 5] = [
     "period number wraps",
 ];
 
-const SITUATIONS: [&str; 29] = [
+const SITUATIONS: [&str; 36] = [
     "state longer than published",
     "start of a circuit that only another schedule serves",
     "switch to a schedule that serves a circuit which the one before did not, with words left",
@@ -180,6 +222,13 @@ const SITUATIONS: [&str; 29] = [
     "no words loaded in the midst of transfers",
     "no words loaded while words travel",
     "refused call on a state with words travelling",
+    "list while words travel",
+    "list starts several circuits",
+    "by a list, start of a circuit that only another schedule serves",
+    "by a list, start while earlier words of the circuit travel",
+    "by a list, start in the first cycle of the circuit's slot",
+    "by a list, start a cycle after its slot began",
+    "word of a transfer that a list started lands",
 ];
 
 const WAYS: [&str; 18] = [
@@ -212,6 +261,7 @@ fn play(tested: &mut impl Calls, coverage: &mut Coverage, session: u64) -> Resul
         second: Second::living(),
         reckonings: Vec::new(),
         calendar: None,
+        started_by_list: Vec::new(),
         idle: false,
         loads_of_no_words: 0,
         actual: words.clone(),
@@ -241,8 +291,7 @@ impl<C: Calls> Player<'_, C> {
     /// Makes one call and compares the answer and every lent word.
     fn make(&mut self, made: &Made) -> Result<(), String> {
         let before = self.calendar.is_some().then(|| self.second.view().clone());
-        let loads_no_words = matches!(&made.call, Call::Load { sheet } if sheet.is_empty());
-        let unloaded = loads_no_words.then(|| self.actual.clone());
+        let other_form = other_form(&made.call).map(|call| (call, self.actual.clone()));
         let expected = self.expected.make(&made.call, made.lent, &mut self.second);
         let actual = self.actual.make(&made.call, made.lent, self.tested);
         let complaint =
@@ -254,18 +303,11 @@ impl<C: Calls> Player<'_, C> {
             return Err(complaint(format!("answered {actual:#x}, second machine {expected:#x}")));
         }
         self.actual.compare(&self.expected).map_err(complaint)?;
-        if let Some(unloaded) = unloaded {
-            self.load_written_out(unloaded, made.lent, actual).map_err(complaint)?;
-            self.coverage.met(&answer_name(LOAD_OF_NO_WORDS, made.expected));
+        self.compare_answers(made).map_err(complaint)?;
+        if let Some((call, words)) = other_form {
+            self.make_in_other_form(&call, words, made, actual).map_err(complaint)?;
         }
-        self.coverage.met(&answer_name(made.call.name(), made.expected));
-        if self.idle {
-            self.coverage.met(&idle_name(&answer_name(made.call.name(), made.expected)));
-        }
-        self.coverage.met(&made_name(made.name));
-        if made.lent.state > STATE_WORDS {
-            self.coverage.met("situation: state longer than published");
-        }
+        self.note_answer(made);
         if let Some(before) = &before {
             self.note_situation(before, made);
         }
@@ -276,15 +318,50 @@ impl<C: Calls> Player<'_, C> {
         Ok(())
     }
 
-    /// Loads the idle network by its own words, where no words were loaded: the answer and every
-    /// lent word have to be the same.
-    fn load_written_out(&mut self, mut words: Words, lent: Lent, answer: u64) -> Result<(), String> {
-        let call = Call::Load { sheet: idle_network().words() };
-        let written_out = words.make(&call, lent, self.tested);
-        if written_out != answer {
-            return Err(format!("answered {answer:#x}, a load of the idle network's words {written_out:#x}"));
+    /// The words lent for answers to a list, by the way its records were made; all others stay.
+    fn compare_answers(&self, made: &Made) -> Result<(), String> {
+        let Some(unanswered) = made.call.unanswered() else {
+            return Ok(());
+        };
+        let written = if made.expected == 0 { &made.answers[..] } else { &[] };
+        let answers = [written, &unanswered[written.len()..]].concat();
+        if self.expected.answers.starts_with(&answers) {
+            Ok(())
+        } else {
+            Err(format!("made for the answers {answers:?}, second machine {:?}", self.expected.answers))
         }
-        words.compare(&self.expected).map_err(|what| format!("after a load of the idle network's words: {what}"))
+    }
+
+    /// Makes the call in its other form on a copy of the words: the answer and every lent word have to
+    /// be the same.
+    fn make_in_other_form(&mut self, call: &Call, mut words: Words, made: &Made, answer: u64) -> Result<(), String> {
+        let other = words.make(call, made.lent, self.tested);
+        if other != answer {
+            return Err(format!("answered {answer:#x}, as {} {other:#x}", call.start_of_text()));
+        }
+        words.compare(&self.expected).map_err(|what| format!("as {}: {what}", call.start_of_text()))?;
+        if matches!(call, Call::Load { .. }) {
+            self.coverage.met(&answer_name(LOAD_OF_NO_WORDS, made.expected));
+        } else {
+            self.coverage.met(&answer_name(call.name(), made.expected));
+            self.coverage.met(LIST);
+        }
+        Ok(())
+    }
+
+    fn note_answer(&mut self, made: &Made) {
+        let name = answer_name(made.call.name(), made.expected);
+        self.coverage.met(&name);
+        if self.idle {
+            self.coverage.met(&idle_name(&name));
+        }
+        self.coverage.met(&made_name(made.name));
+        if made.lent.state > STATE_WORDS {
+            self.coverage.met("situation: state longer than published");
+        }
+        if made.expected == 0 {
+            made.answers.iter().for_each(|&answer| self.coverage.met(&record_name(answer)));
+        }
     }
 
     /// What words left and what landed answer, for every circuit and node.
@@ -292,13 +369,13 @@ impl<C: Calls> Player<'_, C> {
         let circuits = self.second.view().senders.len();
         for circuit in 0..circuits as u32 {
             let call = Call::WordsLeft { circuit };
-            self.make(&Made { name: "words left of every circuit", call, lent, expected: 0 })?;
+            self.make(&Made::new("words left of every circuit", call, lent, 0))?;
         }
         let landed: Vec<bool> = self.second.view().nodes.iter().map(|node| node.landing.mark == 1).collect();
         for (node, landed) in (0..).zip(landed) {
             for field in 0..if landed { 4 } else { 1 } {
                 let call = Call::WhatLanded { node, field };
-                self.make(&Made { name: "what landed at every node", call, lent, expected: 0 })?;
+                self.make(&Made::new("what landed at every node", call, lent, 0))?;
             }
         }
         Ok(())
@@ -334,9 +411,18 @@ impl<C: Calls> Player<'_, C> {
                 self.reckonings = (0..sheet.circuits.len())
                     .map(|circuit| Reckoning::new(sheet, circuit, &self.actual.memory))
                     .collect();
+                self.started_by_list = vec![false; self.reckonings.len()];
             }
             Call::Start { circuit, read, write, count, kind } => {
-                self.reckonings[circuit as usize].start(read, write, count, kind)
+                self.reckonings[circuit as usize].start(read, write, count, kind);
+                self.started_by_list[circuit as usize] = false;
+            }
+            // A record answered with 0 counts as a start.
+            Call::StartAll { .. } | Call::StartLists { .. } => {
+                for Transfer { circuit, read, write, count, kind } in self.taken_records(call) {
+                    self.reckonings[circuit as usize].start(read, write, count, kind);
+                    self.started_by_list[circuit as usize] = true;
+                }
             }
             Call::Store { node, address, word } => {
                 self.reckonings.iter_mut().for_each(|reckoning| reckoning.store(node, address, word))
@@ -350,6 +436,12 @@ impl<C: Calls> Player<'_, C> {
             }
             _ => {}
         }
+    }
+
+    /// The records of a list that were answered with 0, in their order.
+    fn taken_records(&self, call: &Call) -> Vec<Transfer> {
+        let answered = call.transfers().into_iter().flatten().zip(&self.actual.answers);
+        answered.filter(|&(_, &answer)| answer == 0).map(|(transfer, _)| transfer).collect()
     }
 
     /// The machine has the words of the tested state by now; it shows what is reckoned.
@@ -388,6 +480,9 @@ impl<C: Calls> Player<'_, C> {
             match made.call {
                 Call::Load { ref sheet } => self.note_load(before, sheet, travelling, &mut names),
                 Call::Start { circuit, .. } => self.note_start(before, circuit as usize, &mut names),
+                Call::StartAll { .. } | Call::StartLists { .. } => {
+                    self.note_list(before, &made.call, travelling, &mut names)
+                }
                 Call::Store { node, address, .. } => self.note_store(before, node, address, &mut names),
                 Call::Order { period_number, .. } if period_number < before.period_number() => {
                     names.push("order for a period behind the wrap".to_string());
@@ -440,6 +535,19 @@ impl<C: Calls> Player<'_, C> {
         }
     }
 
+    fn note_list(&self, before: &Machine, call: &Call, travelling: bool, names: &mut Vec<String>) {
+        if travelling {
+            names.push("list while words travel".to_string());
+        }
+        let taken = self.taken_records(call);
+        if taken.len() > 1 {
+            names.push("list starts several circuits".to_string());
+        }
+        let mut starts = Vec::new();
+        taken.iter().for_each(|transfer| self.note_start(before, transfer.circuit as usize, &mut starts));
+        names.extend(starts.iter().map(|name| format!("by a list, {name}")));
+    }
+
     fn note_store(&self, before: &Machine, node: u32, address: u32, names: &mut Vec<String>) {
         for (circuit, sender) in before.senders.iter().enumerate() {
             let source = before.sheet.sheet.circuits[circuit].source;
@@ -460,9 +568,12 @@ impl<C: Calls> Player<'_, C> {
         for (number, node) in after.nodes.iter().enumerate().filter(|(_, node)| node.landing.mark == 1) {
             landings += 1;
             names.push(if node.landing.kind == INTERRUPT { "interrupt lands" } else { "data lands" }.to_string());
-            let receives = |reckoning: &&Reckoning| reckoning.receives_at(number as u32, node.landing.address);
-            if let Some(reckoning) = self.reckonings.iter().find(receives) {
-                names.push(format!("landing after {} hops", reckoning.hops));
+            let receives = |reckoning: &Reckoning| reckoning.receives_at(number as u32, node.landing.address);
+            if let Some(circuit) = self.reckonings.iter().position(receives) {
+                names.push(format!("landing after {} hops", self.reckonings[circuit].hops));
+                if self.started_by_list[circuit] {
+                    names.push("word of a transfer that a list started lands".to_string());
+                }
             }
             if node.landing.address == 16_383 {
                 names.push("landing at the last address of a memory of 16,384 words".to_string());
@@ -484,6 +595,20 @@ impl<C: Calls> Player<'_, C> {
         if after.clock.cycle == 0 {
             note_period(before, after, travelling, names);
         }
+    }
+}
+
+/// A call that has to do the same: no words are loaded as the idle network's, a list comes in its other form.
+fn other_form(call: &Call) -> Option<Call> {
+    match call {
+        Call::Load { sheet } if sheet.is_empty() => Some(Call::Load { sheet: idle_network().words() }),
+        Call::StartAll { transfers, answers } => {
+            Some(Call::StartLists { lists: lists_of(transfers), answers: answers.clone() })
+        }
+        Call::StartLists { answers, .. } => {
+            call.transfers().map(|transfers| Call::StartAll { transfers, answers: answers.clone() })
+        }
+        _ => None,
     }
 }
 

@@ -2,19 +2,22 @@
 //! generated sessions with some words or all registers written over, or with the slots of a circuit
 //! dropped from their sheet. The second machine says each answer and every lent word afterwards,
 //! refused calls included. What a load of no words leaves, and what is then answered, stands here
-//! besides, and that a transfer on a circuit that no schedule serves is taken and never sends.
+//! besides, and that a transfer on a circuit that no schedule serves is taken and never sends. Lists of
+//! transfers are asked of every hand-made state, and of some others.
 
-use super::calls::{number_of, Call, Calls, Second};
+use super::calls::{lists_of, number_of, Call, Calls, Second};
 use super::coverage::Coverage;
 use super::hand_made::{
     hand_made_cycles, hand_made_plan, hand_made_states, most_words, rest_in, unserved_plans, unserved_states, Expected,
     HandMade, HandMadeCycle, Unserved,
 };
+use super::hand_made_lists::{both_forms, hand_made_lists, HandMadeList, ListsOfState};
 use super::lent::{
     Clause, Reader, Row, CYCLE, MOVING_WORDS, ORDER_MARK, ORDER_PERIOD, ORDER_SCHEDULE, PERIOD_NUMBER, ROW_WORDS,
     SCHEDULE, SHEET, SHEET_LENGTH, STATE_WORDS,
 };
-use super::machine::{Cell, Fault, Machine, DATA, EMPTY, HEADER, INTERRUPT, LAST, PORTS};
+use super::lists::unanswered;
+use super::machine::{Cell, Fault, Machine, Transfer, DATA, EMPTY, HEADER, INTERRUPT, LAST, PORTS};
 use super::sessions::{Generator, NO_WORDS_FROM, SPARE_WORDS};
 use super::sheets::{idle_network, sheet_a, Plan, Random};
 use super::words::{Lent, Words};
@@ -29,6 +32,8 @@ const POKED_STATES_REQUIRED: usize = 20_000;
 /// Every so many of the snapshots also have a circuit that is served no longer.
 const UNSERVED_EVERY: u64 = 4;
 const UNSERVED_STATES_OF_EACH: usize = 6;
+/// Every so many of the poked states are also lent to a list.
+const LISTS_EVERY: usize = 30;
 const CYCLES_OF_HAND_MADE: usize = 12;
 /// Some periods of most sheets.
 const CYCLES_OF_UNSERVED: u32 = 40;
@@ -55,6 +60,7 @@ pub fn run_all(tested: &mut impl Calls) -> ExitCode {
     unserved_states().iter().for_each(|state| runner.run_unserved(state));
     unserved_plans().iter().for_each(|plan| runner.run_unserved_transfers(plan));
     runner.run_hand_made_cycles();
+    runner.run_hand_made_lists();
     runner.run_example_m();
     let poked = runner.run_poked();
     runner.coverage.print();
@@ -90,6 +96,20 @@ pub fn is_noticed(tested: &mut impl Calls) -> bool {
         noticed = !runner.differences.is_empty();
     }
     noticed
+}
+
+/// Whether a list made by hand, or one on a state with an unserved circuit, tells someone from the second
+/// machine. Some of these states are unsound.
+pub fn is_noticed_by_lists(tested: &mut impl Calls) -> bool {
+    let mut runner = Runner::new(tested);
+    runner.run_hand_made_lists();
+    if !runner.differences.is_empty() {
+        return true;
+    }
+    unserved_states().iter().any(|Unserved { plan, made }| {
+        let words = written_over(&loaded_by(&plan.words(), &unloaded_for(plan)), &made.pokes);
+        runner.call_lists("unserved", made, &words, &ListsOfState::new(plan), 0).is_err()
+    })
 }
 
 /// Every clause and every cause of number 20, made by hand and come upon by chance. By chance
@@ -143,12 +163,22 @@ fn wanted() -> Vec<String> {
         names.push(format!("{group}: cycle carried out"));
     }
     names.push("midst, unserved: load refused".to_string());
+    for form in ["start all", "start lists"] {
+        for group in ["hand-made", "unserved"] {
+            names.extend([0, 12, 13, 21].map(|number| format!("{group}: {form}, {number}")));
+        }
+        names.extend([0, 13].map(|number| format!("poked: {form}, {number}")));
+    }
     names
 }
 
 /// Each call that tests the state, as the idle network would take it; a circuit it does not have.
-fn calls_of_idle_network() -> [Call; 8] {
+fn calls_of_idle_network() -> [Call; 10] {
+    let transfer = Transfer { circuit: 0, read: 0, write: 0, count: 1, kind: DATA };
+    let answers = unanswered(2);
     [
+        Call::StartAll { transfers: vec![transfer], answers: answers.clone() },
+        Call::StartLists { lists: lists_of(&[transfer]), answers },
         Call::Start { circuit: 0, read: 0, write: 0, count: 1, kind: DATA },
         Call::Store { node: 3, address: 0, word: 5 },
         Call::Fetch { node: 3, address: 0 },
@@ -255,12 +285,14 @@ impl<C: Calls> Runner<'_, C> {
     fn run_hand_made(&mut self, states: &[HandMade]) {
         let loaded = self.loaded(&hand_made_plan());
         let calls = calls_of_hand_made();
-        for made in states {
+        let lists = ListsOfState::new(&hand_made_plan());
+        for (turn, made) in states.iter().enumerate() {
             let words = written_over(&loaded, &made.pokes);
             let result = self
                 .judge("hand-made", made, &words)
                 .and_then(|()| self.call_all("hand-made", made, &words, &calls))
                 .and_then(|()| self.call_on_short_slices(made, &words))
+                .and_then(|()| self.call_lists("hand-made", made, &words, &lists, turn))
                 .and_then(|()| self.call_without_sheet(made, &words));
             self.count(result, || format!("{} {:?}", made.name, &made.pokes[..made.pokes.len().min(20)]));
         }
@@ -273,6 +305,7 @@ impl<C: Calls> Runner<'_, C> {
             .judge("unserved", made, &words)
             .and_then(|()| self.call_all("unserved", made, &words, &calls_of_unserved(plan)))
             .and_then(|()| self.call_on_short_slices(made, &words))
+            .and_then(|()| self.call_lists("unserved", made, &words, &ListsOfState::new(plan), made.pokes.len()))
             .and_then(|()| self.load_unserved(plan, made, &words));
         if result.is_ok() && !matches!(made.expected, Expected::Unsound(_)) {
             self.coverage.met(UNSERVED_SOUND);
@@ -372,7 +405,7 @@ impl<C: Calls> Runner<'_, C> {
                 if number != 13 {
                     return Err(format!("{call:?}, {lent:?}: number {number}, expected 13"));
                 }
-                actual.compare(words).map_err(|what| format!("after {call:?}, as it was before: {what}"))?;
+                actual.compare_unchanged(words, call)?;
                 self.coverage.met(&no_sheet_name(call));
             }
         }
@@ -400,7 +433,7 @@ impl<C: Calls> Runner<'_, C> {
     /// hand. One to four words are no idle network.
     fn load_no_words(&mut self, filler: u32) -> Result<(), String> {
         let idle = idle_network().words();
-        let words = Words { state: vec![filler; STATE_WORDS + SPARE_WORDS], memory: vec![filler; 32] };
+        let words = Words::new(vec![filler; STATE_WORDS + SPARE_WORDS], vec![filler; 32]);
         for (sheet_words, state, memory, expected) in [
             (0, STATE_WORDS, 4, 0),
             (0, STATE_WORDS + 1, 4, 0),
@@ -436,7 +469,7 @@ impl<C: Calls> Runner<'_, C> {
 
     /// What the idle network answers, and that its period is of nine cycles in which only the clock moves.
     fn call_on_idle_network(&mut self, filler: u32) -> Result<(), String> {
-        let words = Words { state: vec![filler; STATE_WORDS], memory: vec![filler; IDLE_MEMORY_WORDS + 1] };
+        let words = Words::new(vec![filler; STATE_WORDS], vec![filler; IDLE_MEMORY_WORDS + 1]);
         let loaded = loaded_by_no_words(&words);
         let store = |node, address| Call::Store { node, address, word: 9 };
         let order = |schedule| Call::Order { schedule, period_number: 3 };
@@ -514,7 +547,7 @@ impl<C: Calls> Runner<'_, C> {
         state[Row::Clock.at(PERIOD_NUMBER)] = u32::MAX;
         for (period_number, expected) in [(2, 0), (1, 19)] {
             let call = Call::Order { schedule: 0, period_number };
-            let lent = Words { state: state.clone(), memory: memory.clone() };
+            let lent = Words::new(state.clone(), memory.clone());
             let (mut actual, mut predicted) = (lent.clone(), lent);
             let all = actual.all();
             let result = self.compare(&call, all, &mut actual, &mut predicted).and_then(|number| {
@@ -597,13 +630,70 @@ impl<C: Calls> Runner<'_, C> {
         Ok(())
     }
 
+    /// Lists in both forms, one behind the other: refused ones leave the words to the next. Number 12
+    /// comes before 13, and 13 before 21.
+    fn call_lists(
+        &mut self,
+        group: &str,
+        made: &HandMade,
+        words: &Words,
+        lists: &ListsOfState,
+        turn: usize,
+    ) -> Result<(), String> {
+        let unsound = matches!(made.expected, Expected::Unsound(_));
+        let or_13 = |number: u32| if unsound { 13 } else { number };
+        let all = words.all();
+        let mut calls = Vec::new();
+        for refused in &lists.refused {
+            let call = &refused[turn % refused.len()];
+            calls.extend([(call, Lent { state: STATE_WORDS - 1, ..all }, 12), (call, all, or_13(21))]);
+        }
+        calls.extend(lists.right.iter().map(|call| (call, all, or_13(0))));
+        let (mut actual, mut predicted) = (words.clone(), words.clone());
+        for (call, lent, expected) in calls {
+            let number = self.compare(call, lent, &mut actual, &mut predicted)?;
+            if number != expected {
+                return Err(format!("{}, {lent:?}: number {number}, expected {expected}", call.start_of_text()));
+            }
+            if number != 0 {
+                actual.compare_unchanged(words, call)?;
+            }
+            self.coverage.met(&answer_name(group, call, number));
+        }
+        Ok(())
+    }
+
+    fn run_hand_made_lists(&mut self) {
+        let plan = hand_made_plan();
+        let loaded = self.loaded(&plan);
+        for made in hand_made_lists(&plan) {
+            let result = self.run_hand_made_list(&made, &loaded);
+            self.count(result, || format!("{}, {}", made.name, made.call.start_of_text()));
+        }
+    }
+
+    /// The number and every word afterwards that are expected by hand.
+    fn run_hand_made_list(&mut self, made: &HandMadeList, loaded: &Words) -> Result<(), String> {
+        let before = written_over(loaded, &made.before);
+        let (mut actual, mut predicted) = (before.clone(), before.clone());
+        let number = self.compare(&made.call, before.all(), &mut actual, &mut predicted)?;
+        if number != made.number {
+            return Err(format!("number {number}, expected {}", made.number));
+        }
+        let mut by_hand = written_over(&before, &made.after);
+        let behind = &made.call.unanswered().unwrap_or(&[])[made.answers.len()..];
+        by_hand.put_answers(&[&made.answers, behind].concat());
+        actual.compare(&by_hand).map_err(|what| format!("by hand: {what}"))
+    }
+
     /// States from the midst of sessions with words written over; the number of those with few.
     fn run_poked(&mut self) -> usize {
         let mut poked = 0;
         for session in (0..SNAPSHOTS).chain(NO_WORDS_FROM..NO_WORDS_FROM + SNAPSHOTS_OF_NO_WORDS) {
             let (words, machine, plan) = snapshot(session);
             let mut random = Random::new(0x0909_0000 + session);
-            for _ in 0..POKED_STATES_OF_EACH {
+            let mut random_of_lists = Random::new(0x1157_0000 + session);
+            for turn in 0..POKED_STATES_OF_EACH {
                 let mut pokes = Vec::new();
                 for _ in 0..random.choose(&[1, 1, 2, 3, 4]) {
                     pokes.extend(some_pokes(&mut random, &machine));
@@ -611,6 +701,10 @@ impl<C: Calls> Runner<'_, C> {
                 let result = self.run_poked_state("poked", &mut random, &words, &machine, &pokes);
                 self.count(result, || format!("session {session} with {pokes:?}"));
                 poked += 1;
+                if turn % LISTS_EVERY == 0 {
+                    let result = self.list_on_poked_state(&mut random_of_lists, &words, &machine, &pokes);
+                    self.count(result, || format!("session {session}, list with {pokes:?}"));
+                }
             }
             for turn in 0..FILLED_STATES_OF_EACH {
                 let pokes = filled_registers(&mut random, &machine);
@@ -637,6 +731,23 @@ impl<C: Calls> Runner<'_, C> {
         for turn in 0..UNSERVED_STATES_OF_EACH {
             let pokes = if turn % 2 == 0 { Vec::new() } else { some_rest(random, &machine) };
             self.run_poked_state("midst, unserved", random, &words, &machine, &pokes)?;
+        }
+        Ok(())
+    }
+
+    /// A list in both forms, one behind the other.
+    fn list_on_poked_state(
+        &mut self,
+        random: &mut Random,
+        words: &Words,
+        machine: &Machine,
+        pokes: &[(usize, u32)],
+    ) -> Result<(), String> {
+        let mut actual = written_over(words, pokes);
+        let mut expected = actual.clone();
+        for call in both_forms(some_transfers(random, machine), 8) {
+            let number = self.compare(&call, words.all(), &mut actual, &mut expected)?;
+            self.coverage.met(&answer_name("poked", &call, number));
         }
         Ok(())
     }
@@ -692,7 +803,7 @@ fn loaded_by(sheet: &[u32], words: &Words) -> Words {
 fn unloaded_for(plan: &Plan) -> Words {
     let mut random = Random::new(13);
     let memory = (0..plan.nodes() * plan.memory_words).map(|_| random.word()).collect();
-    Words { state: vec![0xA5A5_A5A5; STATE_WORDS + SPARE_WORDS], memory }
+    Words::new(vec![0xA5A5_A5A5; STATE_WORDS + SPARE_WORDS], memory)
 }
 
 /// What a state meets in a cycle.
@@ -863,6 +974,20 @@ fn some_rest(random: &mut Random, machine: &Machine) -> Vec<(usize, u32)> {
         (Row::Kind.at(circuit), random.choose(&[0, 0, 0, 2, 1, 3])),
         (Row::ToGo.at(circuit), random.choose(&[0, 0, 1, left, left + 1])),
     ]
+}
+
+/// Up to eight starts, most of them right on a circuit that is free; none where there is no circuit.
+fn some_transfers(random: &mut Random, machine: &Machine) -> Vec<Transfer> {
+    let circuits = machine.senders.len();
+    let count = if circuits == 0 { 0 } else { random.between(1, 8) };
+    let mut transfer = || {
+        let circuit = random.position(circuits);
+        let record = &machine.sheet.sheet.circuits[circuit];
+        let (read, write) = (record.read_offset as u32, record.receive_offset as u32);
+        let (count, kind) = (random.choose(&[0, 1, 1, 1, 2]), random.choose(&[DATA, DATA, INTERRUPT, 1]));
+        Transfer { circuit: circuit as u32, read, write, count, kind }
+    };
+    (0..count).map(|_| transfer()).collect()
 }
 
 /// Any call but a cycle, with arguments at and about their bounds.

@@ -11,14 +11,14 @@
 //! 1 to 12, 14 and 26; states and memories lent too short or too long; the idle network, loaded
 //! by no words at first or in the midst; period numbers that wrap, for which the first period's
 //! number is written into the state directly after the load, the only word that no call has
-//! written.
+//! written; in the sessions behind `LISTS_FROM` lists of transfers too (lists.rs).
 //! Not covered: other states that no calls lead to (tests/states.rs has those, with unserved
 //! circuits too), and switches between schedules of more than some hundred cycles, which three
 //! periods would make long.
 
 use super::calls::Call;
 use super::lent::{MOVING_WORDS, STATE_WORDS};
-use super::machine::{Machine, DATA, INTERRUPT};
+use super::machine::{Machine, Transfer, DATA, INTERRUPT};
 use super::near_misses::{add_fault, GRIDS};
 use super::sheets::{idle_network, largest, serve_unserved, some_schedule, wished_plan, Plan, Random, Wish};
 use super::words::{Lent, Words};
@@ -32,8 +32,12 @@ const LARGEST_FROM: u64 = 2_196;
 pub const NO_WORDS_FROM: u64 = LARGEST_FROM + 2;
 /// From here on another sheet is loaded first, and no words in the midst.
 const NO_WORDS_LATER_FROM: u64 = NO_WORDS_FROM + 72;
-/// All sessions.
-pub const SESSIONS: u64 = NO_WORDS_LATER_FROM + 24;
+/// From here on lists of transfers are among the calls.
+pub const LISTS_FROM: u64 = NO_WORDS_LATER_FROM + 24;
+/// All sessions; lists meet each grid, and there each style of sheet that is not a usual one.
+pub const SESSIONS: u64 = LISTS_FROM + 90;
+/// Every so many of the sessions with lists begin on the idle network.
+const LISTS_ON_IDLE_EVERY: u64 = 13;
 
 /// The loads of a sheet with an unserved circuit, by the slices lent.
 pub const UNSERVED_LOADS: [&str; 4] = [
@@ -49,22 +53,22 @@ pub struct Made {
     pub call: Call,
     pub lent: Lent,
     pub expected: u32,
+    /// What the records of a list that is carried out are answered.
+    pub answers: Vec<u32>,
 }
 
-/// The arguments of a start.
-struct Start {
-    circuit: u32,
-    read: u32,
-    write: u32,
-    count: u32,
-    kind: u32,
-}
-
-impl Start {
-    fn call(self) -> Call {
-        let Start { circuit, read, write, count, kind } = self;
-        Call::Start { circuit, read, write, count, kind }
+impl Made {
+    pub fn new(name: &'static str, call: Call, lent: Lent, expected: u32) -> Made {
+        Made { name, call, lent, expected, answers: Vec::new() }
     }
+}
+
+/// A start with the way it was made and the number that this calls for; words left are not counted in.
+#[derive(Clone, Copy)]
+pub struct Start {
+    pub name: &'static str,
+    pub transfer: Transfer,
+    pub expected: u32,
 }
 
 pub struct Generator {
@@ -76,6 +80,7 @@ pub struct Generator {
     current: usize,
     /// Circuits that are still to be started at first.
     to_start: usize,
+    has_lists: bool,
     state_words: usize,
     /// Cycles that the session has to carry out.
     pub cycles: u32,
@@ -97,7 +102,9 @@ impl Generator {
         let (other_columns, other_rows) = random.choose(&GRIDS);
         let other = plan_of_style(&mut random, other_columns, other_rows, 0);
         let mut plans = vec![plan, other];
+        let has_lists = session >= LISTS_FROM;
         let idle = match session {
+            LISTS_FROM.. => (session % LISTS_ON_IDLE_EVERY == 0).then_some(0),
             NO_WORDS_LATER_FROM.. => Some(1),
             NO_WORDS_FROM.. => Some(0),
             _ => None,
@@ -106,18 +113,22 @@ impl Generator {
             plans[idle] = idle_network();
         }
         let state_words = STATE_WORDS + random.choose(&[0, 0, 0, 1, SPARE_WORDS]);
-        let cycles = if is_largest { 300 } else { random.between(40, 170) };
+        let cycles = match (is_largest, has_lists) {
+            (true, _) => 300,
+            (_, true) => random.between(20, 50),
+            _ => random.between(40, 170),
+        };
         let wraps = random.once_in(if idle == Some(0) { 2 } else { 6 });
         let first_period = wraps.then(|| u32::MAX - random.between(0, 4));
         let to_start = plans[0].circuits.len();
-        Generator { random, plans, idle, current: 0, to_start, state_words, cycles, first_period }
+        Generator { random, plans, idle, current: 0, to_start, has_lists, state_words, cycles, first_period }
     }
 
     /// Lent words of any content: the state's, and memory enough for every sheet of the session.
     pub fn lent_words(&mut self) -> Words {
         let memory_words = self.plans.iter().map(memory_words_of).max().unwrap_or(0);
         let mut any = |count: usize| (0..count).map(|_| self.random.word()).collect();
-        Words { state: any(STATE_WORDS + SPARE_WORDS), memory: any(memory_words + SPARE_WORDS) }
+        Words::new(any(STATE_WORDS + SPARE_WORDS), any(memory_words + SPARE_WORDS))
     }
 
     pub fn first_load(&self) -> Made {
@@ -138,12 +149,20 @@ impl Generator {
         self.idle == Some(self.current)
     }
 
-    fn made(&self, name: &'static str, call: Call, expected: u32) -> Made {
-        Made { name, call, lent: Lent { state: self.state_words, memory: memory_words_of(self.plan()) }, expected }
+    pub fn made(&self, name: &'static str, call: Call, expected: u32) -> Made {
+        let lent = Lent { state: self.state_words, memory: memory_words_of(self.plan()) };
+        Made::new(name, call, lent, expected)
     }
 
     /// First most circuits are started, then calls come in any order.
     pub fn next(&mut self, machine: &Machine) -> Made {
+        if self.has_lists && self.to_start > 0 && self.random.once_in(4) {
+            self.to_start = 0;
+            return self.list_of_every_circuit(machine);
+        }
+        if self.has_lists && self.random.once_in(5) {
+            return self.list(machine);
+        }
         if self.to_start > 0 && !self.random.once_in(5) {
             self.to_start -= 1;
             return self.start_of(self.to_start, machine);
@@ -151,7 +170,7 @@ impl Generator {
         match self.random.between(0, 99) {
             0..=54 => self.made("cycle", Call::Cycle, 0),
             55..=66 => self.start(machine),
-            67..=70 => self.refused_start(machine),
+            67..=70 => self.refused_start(),
             71..=77 => self.store(machine),
             78..=79 => self.refused_place(),
             80..=83 => self.fetch(),
@@ -184,15 +203,19 @@ impl Generator {
     /// A right start of a circuit, which words left still turn away.
     fn start_of(&mut self, circuit: usize, machine: &Machine) -> Made {
         let expected = if machine.senders[circuit].left == 0 { 0 } else { 17 };
-        let call = self.right_start(circuit).call();
-        self.made("start", call, expected)
+        let start = self.right_start(circuit);
+        self.made(start.name, Call::start(start.transfer), expected)
     }
 
-    fn right_start(&mut self, circuit: usize) -> Start {
+    pub fn right_start(&mut self, circuit: usize) -> Start {
+        let kind = self.random.choose(&[DATA, DATA, DATA, INTERRUPT]);
+        self.right_start_of_kind(circuit, kind)
+    }
+
+    pub fn right_start_of_kind(&mut self, circuit: usize, kind: u32) -> Start {
         let record = self.plan().circuits[circuit];
         let most = record.read_length.min(record.receive_length);
         let random = &mut self.random;
-        let kind = random.choose(&[DATA, DATA, DATA, INTERRUPT]);
         let count = match kind {
             INTERRUPT => 1,
             _ if random.once_in(2) => most,
@@ -200,94 +223,101 @@ impl Generator {
         };
         let read = record.read_offset + random.between(0, record.read_length - count);
         let write = record.receive_offset + random.between(0, record.receive_length - count);
-        Start { circuit: circuit as u32, read, write, count, kind }
+        let transfer = Transfer { circuit: circuit as u32, read, write, count, kind };
+        Start { name: "start", transfer, expected: 0 }
+    }
+
+    fn refused_start(&mut self) -> Made {
+        let start = self.wrong_start();
+        self.made(start.name, Call::start(start.transfer), start.expected)
     }
 
     /// A start with one thing wrong. Numbers 15 and 16 come before 17, so the circuit may be busy.
-    fn refused_start(&mut self, machine: &Machine) -> Made {
-        if machine.senders.is_empty() {
+    pub fn wrong_start(&mut self) -> Start {
+        let circuits = self.plan().circuits.len();
+        if circuits == 0 {
             // The count may be wrong too: 16 comes later.
             let random = &mut self.random;
             let (circuit, count) = (random.choose(&[0, 1, 63, u32::MAX]), random.choose(&[1, 1, 0, 2]));
-            let start = Start { circuit, read: 0, write: 0, count, kind: random.choose(&[DATA, INTERRUPT]) };
-            return self.made("start: no such circuit", start.call(), 15);
+            let transfer = Transfer { circuit, read: 0, write: 0, count, kind: random.choose(&[DATA, INTERRUPT]) };
+            return Start { name: "start: no such circuit", transfer, expected: 15 };
         }
-        let circuit = self.random.position(machine.senders.len());
-        let start = self.right_start(circuit);
+        let circuit = self.random.position(circuits);
+        let transfer = self.right_start(circuit).transfer;
         if self.random.between(1, 12) <= 5 {
-            self.start_with_15(start)
+            self.start_with_15(transfer)
         } else {
-            self.start_with_16(start)
+            self.start_with_16(transfer)
         }
     }
 
-    fn start_with_15(&mut self, mut start: Start) -> Made {
+    pub fn start_with_15(&mut self, mut transfer: Transfer) -> Start {
         let memory_words = self.plan().memory_words;
         let circuits = self.plan().circuits.len() as u32;
         let random = &mut self.random;
         let name = match random.between(0, 4) {
             0 => {
-                start.circuit = random.choose(&[circuits, 64, u32::MAX]);
+                transfer.circuit = random.choose(&[circuits, 64, u32::MAX]);
                 "start: no such circuit"
             }
             1 => {
-                start.read = random.choose(&[memory_words, u32::MAX]);
+                transfer.read = random.choose(&[memory_words, u32::MAX]);
                 "start: no such read address"
             }
             2 => {
-                start.write = random.choose(&[memory_words, u32::MAX]);
+                transfer.write = random.choose(&[memory_words, u32::MAX]);
                 "start: no such write address"
             }
             3 => {
-                start.kind = 1;
+                transfer.kind = 1;
                 "start: kind 1"
             }
             _ => {
-                start.kind = random.choose(&[3, 4, 6, 1 << 30, u32::MAX]);
+                transfer.kind = random.choose(&[3, 4, 6, 1 << 30, u32::MAX]);
                 "start: no such kind"
             }
         };
-        self.made(name, start.call(), 15)
+        Start { name, transfer, expected: 15 }
     }
 
     /// A region's end may be the memory's; the address behind it is then number 15.
-    fn start_with_16(&mut self, mut start: Start) -> Made {
+    pub fn start_with_16(&mut self, mut transfer: Transfer) -> Start {
         let memory_words = self.plan().memory_words;
-        let record = self.plan().circuits[start.circuit as usize];
+        let record = self.plan().circuits[transfer.circuit as usize];
         let random = &mut self.random;
         let name = match random.between(0, 6) {
             0 => {
-                start.count = 0;
+                transfer.count = 0;
                 "start: count 0"
             }
             1 => {
-                (start.kind, start.count) = (INTERRUPT, random.choose(&[0, 2, 3]));
+                (transfer.kind, transfer.count) = (INTERRUPT, random.choose(&[0, 2, 3]));
                 "start: interrupt of another count"
             }
             2 => {
                 // The sum of address and count is small in 32 bits.
-                start.count = u32::MAX - random.between(0, 20);
+                transfer.count = u32::MAX - random.between(0, 20);
                 "start: count that wraps"
             }
             3 if record.read_offset > 0 => {
-                start.read = record.read_offset - 1;
+                transfer.read = record.read_offset - 1;
                 "start: reads before its region"
             }
             4 if record.receive_offset > 0 => {
-                start.write = record.receive_offset - 1;
+                transfer.write = record.receive_offset - 1;
                 "start: writes before its region"
             }
             5 => {
-                start.read = record.read_offset + record.read_length - start.count + 1;
+                transfer.read = record.read_offset + record.read_length - transfer.count + 1;
                 "start: reads beyond its region"
             }
             _ => {
-                start.write = record.receive_offset + record.receive_length - start.count + 1;
+                transfer.write = record.receive_offset + record.receive_length - transfer.count + 1;
                 "start: writes beyond its region"
             }
         };
-        let expected = if start.read < memory_words && start.write < memory_words { 16 } else { 15 };
-        self.made(name, start.call(), expected)
+        let expected = if transfer.read < memory_words && transfer.write < memory_words { 16 } else { 15 };
+        Start { name, transfer, expected }
     }
 
     /// A place in memory, mostly in a circuit's regions, and there often one in use.
@@ -471,7 +501,7 @@ impl Generator {
         self.made("further load", self.load(), 0)
     }
 
-    fn short_state(&mut self) -> usize {
+    pub fn short_state(&mut self) -> usize {
         let any = self.random.position(STATE_WORDS);
         self.random.choose(&[0, 1, MOVING_WORDS, MOVING_WORDS + 1, STATE_WORDS - 1, any])
     }
@@ -484,7 +514,7 @@ impl Generator {
     /// A call that would be carried out, or refused with a later number, on slices too short or too long.
     fn wrong_buffers(&mut self, machine: &Machine) -> Made {
         let mut made = match self.random.between(0, 9) {
-            0 if machine.senders.is_empty() => self.refused_start(machine),
+            0 if machine.senders.is_empty() => self.refused_start(),
             0 => self.start(machine),
             1 => self.store(machine),
             2 => self.fetch(),

@@ -5,13 +5,16 @@ ghost use Prim.Native.Nat.{_*_};
 ghost use Rattle.sheet.specs.Rules.{checkNumber};
 ghost use Rattle.checker.specs.Answers.{entriesNumber};
 ghost use Rattle.network.specs.Registers.{stateWords};
-ghost use Rattle.session.specs.Calls.{lend, lendState, load, start, store, order, cycle, number, after};
+ghost use Rattle.session.specs.Calls.{lend, lendState, load, start, startAll, store, order, cycle, number, after, answersAfter};
 ghost use Rattle.session.specs.Answers.{fetchAnswer, leftAnswer, periodAnswer, landedAnswer};
+ghost use lib.ListN.{length};
+ghost use Rattle.batch.specs.Lists.{startListsNumber, listsState, listsAnswers};
 ghost use Rattle.timetable.specs.Timetable.{hoursAnswer};
 ghost use Rattle.exports.specs.Packed.{packed, entriesPlace, entriesField, chosen, packedFound, packedLanded, hoursField, packedHours};
 use checker::Outcome;
 use session::Found;
 use session::Landed;
+use session::Transfer;
 use session::number_of;
 use timetable::Hours;
 
@@ -127,6 +130,41 @@ pub extern "C" fn argo_start(
     ensures state { λ _. ⌜ now (state .exit) ≡ after (start circuit read write count kind) (lendState (now (state .entry))) .state ⌝ }
 {
     number_of(session::start(state, circuit, read, write, count, kind))
+}
+
+// Starts the transfers of a list, one after another: a number for each, or one for the list.
+#[no_mangle]
+pub extern "C" fn argo_start_all(
+    state: &mut [u32],
+    transfers: &[Transfer],
+    answers: &mut [u32],
+) -> u32
+    ensures answer { λ r. ⌜ r ≡ number (startAll (now (transfers .entry)) (length (now (answers .entry)))) (lendState (now (state .entry))) ⌝ }
+    ensures state { λ _. ⌜ now (state .exit) ≡ after (startAll (now (transfers .entry)) (length (now (answers .entry)))) (lendState (now (state .entry))) .state ⌝ }
+    ensures answers { λ _. ⌜ now (answers .exit) ≡ answersAfter (now (state .entry)) (now (transfers .entry)) (now (answers .entry)) ⌝ }
+{
+    number_of(batch::start_all(state, transfers, answers))
+}
+
+// The same of five lists of words, for hosts without structs.
+#[no_mangle]
+pub extern "C" fn argo_start_lists(
+    state: &mut [u32],
+    circuits: &[u32],
+    reads: &[u32],
+    writes: &[u32],
+    counts: &[u32],
+    kinds: &[u32],
+    answers: &mut [u32],
+) -> u32
+    ensures answer { λ r. ⌜ r ≡ startListsNumber
+        (now (circuits .entry)) (now (reads .entry)) (now (writes .entry)) (now (counts .entry)) (now (kinds .entry)) (now (state .entry)) (length (now (answers .entry))) ⌝ }
+    ensures state { λ _. ⌜ now (state .exit) ≡ listsState
+        (now (circuits .entry)) (now (reads .entry)) (now (writes .entry)) (now (counts .entry)) (now (kinds .entry)) (now (state .entry)) (length (now (answers .entry))) ⌝ }
+    ensures answers { λ _. ⌜ now (answers .exit) ≡ listsAnswers
+        (now (circuits .entry)) (now (reads .entry)) (now (writes .entry)) (now (counts .entry)) (now (kinds .entry)) (now (state .entry)) (now (answers .entry)) ⌝ }
+{
+    number_of(batch::start_lists(state, circuits, reads, writes, counts, kinds, answers))
 }
 
 // Stores a word at a node's address.

@@ -1,3 +1,4 @@
+pub mod Starts
 pub mod Stream
 pub mod Dates
 pub mod Landed

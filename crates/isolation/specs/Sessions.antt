@@ -2,18 +2,13 @@
 -- them refused. What a call does is what its contract says (`after`, session/specs/Calls.antt).
 use Prim.Native.Nat.{ℕ}
 use mathlib.Core.Bool.{true}
-use mathlib.Core.List.{List, [], _∷_, _++_}
+use mathlib.Core.List.{List, [], _∷_, _++_, map}
 use mathlib.Core.Path.{_≡_}
 use lib.ListN.{take}
 use Rattle.words.specs.Tests.{_=?_}
 use Rattle.words.specs.Words.{pick}
 use Rattle.sheet.specs.Sheet.{meant}
-use Rattle.session.specs.Calls.{Lent, Call, load, start, store, order, cycle, isLoad, number, does, after, ask}
-
--- the lent words after some calls
-abbrev pub afterAll : List Call → Lent → Lent
-afterAll [] w = w
-afterAll (x ∷ calls) w = afterAll calls (after x w)
+use Rattle.session.specs.Calls.{Lent, Call, load, start, startAll, store, order, cycle, isLoad, number, does, after, afterAll, ask, carriedOut}
 
 -- every load among the calls is refused where it stands
 abbrev pub LoadsRefused : List Call → Lent → Type 0
@@ -51,19 +46,23 @@ pub data Event : Type 0 where
   orderDone : ℕ → ℕ → Event
   cycleDone : Event
 
-abbrev pub eventOf : Call → List Event
-eventOf (load z) = []
-eventOf (start circuit readAddress writeAddress count kind) =
+-- what a call on lent words tells: of a list, each transfer that is carried out is a start, in the list's order
+abbrev pub eventOf : Call → Lent → List Event
+eventOf (load z) w = []
+eventOf (start circuit readAddress writeAddress count kind) w =
     startDone circuit (record { readAddress = readAddress; writeAddress = writeAddress; count = count; kind = kind }) ∷ []
-eventOf (store node address new) = storeDone node address new ∷ []
-eventOf (order schedule period) = orderDone schedule period ∷ []
-eventOf cycle = cycleDone ∷ []
-eventOf (ask question) = []
+eventOf (startAll ts answerWords) w =
+    map (λ t. startDone (t .circuit) (record { readAddress = t .read; writeAddress = t .write; count = t .count; kind = t .kind }))
+    (carriedOut (w .state) ts)
+eventOf (store node address new) w = storeDone node address new ∷ []
+eventOf (order schedule period) w = orderDone schedule period ∷ []
+eventOf cycle w = cycleDone ∷ []
+eventOf (ask question) w = []
 
 -- the events of some calls: those that answer 0
 abbrev pub events : List Call → Lent → List Event
 events [] w = []
-events (x ∷ calls) w = pick (number x w =? 0) (eventOf x) [] ++ events calls (after x w)
+events (x ∷ calls) w = pick (number x w =? 0) (eventOf x w) [] ++ events calls (after x w)
 
 -- the events of a session's first k calls
 abbrev pub eventsBefore : Session → ℕ → List Event

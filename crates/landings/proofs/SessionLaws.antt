@@ -12,10 +12,10 @@ use Rattle.words.specs.Words.{pick}
 use Rattle.words.proofs.TestLaws.{yes=, is=}
 use Rattle.network.specs.Registers.{stateWords}
 use Rattle.sheet.specs.Sheet.{meant}
-use Rattle.session.specs.Calls.{loaded, Lent, lend, lendState, Call, load, cycle, isLoad, number, after}
+use Rattle.session.specs.Calls.{loaded, Lent, lend, lendState, Call, load, cycle, isLoad, number, after, afterAll}
 use Rattle.session.proofs.AloneLaws.{after-alone}
 use Rattle.session.proofs.WritingLaws.{state-written}
-use Rattle.isolation.specs.Sessions.{afterAll, LoadsRefused, Session, standing}
+use Rattle.isolation.specs.Sessions.{LoadsRefused, Session, standing}
 use Rattle.isolation.proofs.DemandProved.{demand3}
 use Rattle.landings.specs.declared.input.Message.the-variants.{Runs}
 use Rattle.landings.specs.Input.{sheetOf, memoryOf, transfers, transferPlace, cyclesAsked}

@@ -7,12 +7,14 @@ use mathlib.Core.List.{List}
 use mathlib.Core.Path.{_≡_, refl, _∙_, ap}
 use Rattle.words.specs.Tests.{_=?_}
 use Rattle.words.specs.Words.{pick}
-use Rattle.session.specs.Calls.{fetch, left, periodNumber, whatLanded, Call, load, start, store, order, cycle, ask, lend, lendState, number, does, after}
+use Rattle.session.specs.Calls.{fetch, left, periodNumber, whatLanded, Call, load, start, startAll, store, order, cycle, ask, lend, lendState}
+use Rattle.session.specs.Calls.{number, does, after}
 
--- start, order, words left, the period number and what landed
+-- start, a list of starts, order, words left, the period number and what landed
 abbrev pub isAlone : Call → Bool
 isAlone (load z) = false
 isAlone (start circuit readAddress writeAddress count kind) = true
+isAlone (startAll ts answerWords) = true
 isAlone (store node address new) = false
 isAlone (order schedule period) = true
 isAlone cycle = false
@@ -25,6 +27,7 @@ module _ (s m : List ℕ) where
   pub number-alone : (x : Call) → isAlone x ≡ true → number x (lend s m) ≡ number x (lendState s)
   number-alone (load z) e = absurd (false≢true e)
   number-alone (start circuit readAddress writeAddress count kind) e = refl
+  number-alone (startAll ts answerWords) e = refl
   number-alone (store node address new) e = absurd (false≢true e)
   number-alone (order schedule period) e = refl
   number-alone cycle e = absurd (false≢true e)
@@ -36,6 +39,7 @@ module _ (s m : List ℕ) where
   does-alone : (x : Call) → isAlone x ≡ true → does x (lend s m) ≡ lend (does x (lendState s) .state) m
   does-alone (load z) e = absurd (false≢true e)
   does-alone (start circuit readAddress writeAddress count kind) e = refl
+  does-alone (startAll ts answerWords) e = refl
   does-alone (store node address new) e = absurd (false≢true e)
   does-alone (order schedule period) e = refl
   does-alone cycle e = absurd (false≢true e)

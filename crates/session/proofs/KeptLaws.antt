@@ -3,7 +3,7 @@
 use Prim.Native.Nat.{ℕ, _*_, _≤_, _<_}
 use mathlib.Core.Bool.{Bool, true, false, false≢true}
 use mathlib.Core.List.{List}
-use mathlib.Core.Path.{_≡_, refl, sym, subst}
+use mathlib.Core.Path.{_≡_, refl, sym, _∙_, subst}
 use native.Mathlib.Omega.{arith}
 use native.Mathlib.Decide.{ℕ-discrete}
 use lib.ListN.{length, length-set}
@@ -23,9 +23,9 @@ use Rattle.network.proofs.RowLaws.{sender-same, sheet-kept}
 use Rattle.network.proofs.StepLaws.{state-length, memory-length}
 use Rattle.soundness.specs.Sound.{sound}
 use Rattle.session.specs.Calls.{stateNumber, loadWordsNumber, startNumber, orderNumber, cycleNumber, loaded, started, ordered, stored, Lent, Call}
-use Rattle.session.specs.Calls.{load, start, store, fetch, left, periodNumber, whatLanded, order, cycle, number, does, after, isLoad, Question, ask}
+use Rattle.session.specs.Calls.{load, start, startAll, store, fetch, left, periodNumber, whatLanded, order, cycle, number, does, after, isLoad, Question, ask}
 use Rattle.session.specs.Calls.{questionNumber}
-use Rattle.session.proofs.NumberLaws.{state-passed, load-passed, StartPassed, start-passed, place-passed, left-passed, landed-passed, OrderPassed, order-passed, cycle-passed}
+use Rattle.session.proofs.NumberLaws.{state-passed, load-passed, StartPassed, start-passed, list-passed, place-passed, left-passed, landed-passed, OrderPassed, order-passed, cycle-passed}
 use Rattle.soundness.proofs.SoundLaws.{beside, cell-none, TransferParts, RouterParts, NodeParts, SoundParts, sound-parts, sound-on}
 use Rattle.soundness.proofs.SheetLaws.{SheetBounds, sheet-bounds, period-some}
 pub use Rattle.session.proofs.RegisterLaws.{loaded-sheet}
@@ -33,6 +33,7 @@ use Rattle.session.proofs.RegisterLaws.{loaded-sheet-length, loaded-reg
 use Rattle.session.proofs.RegisterLaws.{started-sheet-length, started-length, ordered-other, ordered-mark, ordered-schedule, ordered-sheet}
 use Rattle.session.proofs.RegisterLaws.{ordered-sheet-length, ordered-length}
 use Rattle.session.proofs.CycleLaws.{cycle-parts}
+use Rattle.session.proofs.ListLaws.{all-has}
 
 -- load: every register is 0
 module _ (z s : List ℕ) (b : SheetBounds z) where
@@ -180,16 +181,23 @@ module _ (s : List ℕ) (circuit readAddress writeAddress count kind : ℕ)
         units = λ n l. unit-same s begun n (λ row low high. other row n (omega arith) (λ a b e. omega arith)) (x .units n l);
       }
 
+-- the sheet stays
+pub start-sheet : (s : List ℕ) (circuit readAddress writeAddress count kind : ℕ) → startNumber s circuit readAddress writeAddress count kind ≡ 0
+    → sheetIn (started s circuit readAddress writeAddress count kind) ≡ sheetIn s
+start-sheet s circuit readAddress writeAddress count kind e =
+    let p = start-passed s circuit readAddress writeAddress count kind e in
+    let x = sound-parts s (p .state .is-sound) in
+    let b = sheet-bounds (sheetIn s) (x .sheet-passes) in
+    started-sheet s circuit readAddress writeAddress count kind (omega (arith, p .circuit-inside, b .few-circuits))
+
 pub start-kept : (s : List ℕ) (circuit readAddress writeAddress count kind : ℕ)
     → startNumber s circuit readAddress writeAddress count kind ≡ 0
     → sound (started s circuit readAddress writeAddress count kind) ≡ true
 start-kept s circuit readAddress writeAddress count kind e =
     let p = start-passed s circuit readAddress writeAddress count kind e in
     let x = sound-parts s (p .state .is-sound) in
-    let b = sheet-bounds (sheetIn s) (x .sheet-passes) in
-    sound-on (sheetIn s) _
-    (started-sheet s circuit readAddress writeAddress count kind (omega (arith, p .circuit-inside, b .few-circuits)))
-    (start-parts s circuit readAddress writeAddress count kind p b x)
+    sound-on (sheetIn s) _ (start-sheet s circuit readAddress writeAddress count kind e)
+    (start-parts s circuit readAddress writeAddress count kind p (sheet-bounds (sheetIn s) (x .sheet-passes)) x)
 
 -- order: the order is new, all else stays
 order-parts : (s : List ℕ) (schedule period : ℕ) → OrderPassed s schedule period → SheetBounds (sheetIn s)
@@ -241,6 +249,9 @@ asked-sound (whatLanded node) w e = landed-passed (w .state) node e .state .is-s
 pub sound-kept : (x : Call) (w : Lent) → number x w ≡ 0 → sound (does x w .state) ≡ true
 sound-kept (load z) w e = load-sound (meant z) (w .state) (w .memory) e
 sound-kept (start circuit readAddress writeAddress count kind) w e = start-kept (w .state) circuit readAddress writeAddress count kind e
+sound-kept (startAll ts answerWords) w e =
+    all-has (λ s. sound s ≡ true) (λ t s z p. start-kept s (t .circuit) (t .read) (t .write) (t .count) (t .kind) z) ts (w .state)
+    (list-passed (w .state) (length ts) answerWords e .state .is-sound)
 sound-kept (store node address new) w e = place-passed (w .state) (w .memory) node address e .memory .state .is-sound
 sound-kept (order schedule period) w e = order-kept (w .state) schedule period e
 sound-kept cycle w e = cycle-kept (w .state) (w .memory) e
@@ -260,6 +271,9 @@ pub state-length-kept : (x : Call) (w : Lent) → number x w ≡ 0 → length (d
 state-length-kept (load z) w e = load-length (meant z) (w .state) (w .memory) e
 state-length-kept (start circuit readAddress writeAddress count kind) w e =
     started-length (w .state) circuit readAddress writeAddress count kind
+state-length-kept (startAll ts answerWords) w e =
+    all-has (λ s. length s ≡ length (w .state)) (λ t s z p. started-length s (t .circuit) (t .read) (t .write) (t .count) (t .kind) ∙ p)
+    ts (w .state) refl
 state-length-kept (store node address new) w e = refl
 state-length-kept (ask question) w e = refl
 state-length-kept (order schedule period) w e = ordered-length (w .state) schedule period
@@ -269,6 +283,7 @@ pub memory-length-kept : (x : Call) (w : Lent) → length (does x w .memory) ≡
 unfolding stored
 memory-length-kept (load z) w = refl
 memory-length-kept (start circuit readAddress writeAddress count kind) w = refl
+memory-length-kept (startAll ts answerWords) w = refl
 memory-length-kept (store node address new) w = length-set (w .memory) _ new
 memory-length-kept (ask question) w = refl
 memory-length-kept (order schedule period) w = refl
@@ -285,10 +300,10 @@ state-passes x w e p =
 pub sheet-same : (x : Call) (w : Lent) → isLoad x ≡ false → number x w ≡ 0 → sheetIn (does x w .state) ≡ sheetIn (w .state)
 sheet-same (load z) w n e = absurd (false≢true (sym n))
 sheet-same (start circuit readAddress writeAddress count kind) w n e =
-    let p = start-passed (w .state) circuit readAddress writeAddress count kind e in
-    let x = sound-parts (w .state) (p .state .is-sound) in
-    let b = sheet-bounds (sheetIn (w .state)) (x .sheet-passes) in
-    started-sheet (w .state) circuit readAddress writeAddress count kind (omega (arith, p .circuit-inside, b .few-circuits))
+    start-sheet (w .state) circuit readAddress writeAddress count kind e
+sheet-same (startAll ts answerWords) w n e =
+    all-has (λ s. sheetIn s ≡ sheetIn (w .state)) (λ t s z p. start-sheet s (t .circuit) (t .read) (t .write) (t .count) (t .kind) z ∙ p)
+    ts (w .state) refl
 sheet-same (store node address new) w n e = refl
 sheet-same (ask question) w n e = refl
 sheet-same (order schedule period) w n e = ordered-sheet (w .state) schedule period

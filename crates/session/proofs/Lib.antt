@@ -2,7 +2,9 @@ pub mod NumberLaws
 pub mod RegisterLaws
 pub mod MoveLaws
 pub mod CycleLaws
+pub mod ListLaws
 pub mod KeptLaws
+pub mod SinglesLaws
 pub mod ReadyLaws
 pub mod ReadingLaws
 pub mod WritingLaws

@@ -21,7 +21,7 @@ use Rattle.soundness.proofs.SoundLaws.{Lies, lies}
 use Rattle.words.specs.Numbers.{_then_}
 use Rattle.words.proofs.NumberLaws.{then-zero, unless-zero, zero-then, zero-unless}
 use Rattle.session.specs.Calls.{stateNumber, memoryNumber, loadWordsNumber, startNamed, startFits, isBusy, startNumber, placeNumber, leftNumber}
-use Rattle.session.specs.Calls.{landedNumber, isPending, ahead, orderNumber, cycleNumber}
+use Rattle.session.specs.Calls.{landedNumber, isPending, ahead, orderNumber, cycleNumber, startAllNumber}
 
 -- a test that must not hold
 pub not-holds : (b : Bool) → not b ≡ true → b ≡ false
@@ -114,6 +114,19 @@ start-passed s circuit readAddress writeAddress count kind e =
       writes = lies _ _ _ (and-right _ _ fits₂);
       free = zero-left _ (unless-zero 17 _ (omega arith) (r .1));
     }
+
+-- a list of transfers that is taken
+pub record ListPassed (s : List ℕ) (transfers answerWords : ℕ) : Type 0 where
+  pub state : StatePassed s
+  pub few : transfers ≤ 64
+  pub answered : transfers ≤ answerWords
+
+pub list-passed : (s : List ℕ) (transfers answerWords : ℕ) → startAllNumber s transfers answerWords ≡ 0 → ListPassed s transfers answerWords
+unfolding startAllNumber
+list-passed s transfers answerWords e =
+    let p = then-zero _ _ e in
+    let both = unless-zero 21 _ (omega arith) (p .1) in
+    record { state = state-passed s (p .0); few = is≤ _ _ (and-left _ _ both); answered = is≤ _ _ (and-right _ _ both) }
 
 -- a store or a fetch that is carried out
 pub record PlacePassed (s m : List ℕ) (node address : ℕ) : Type 0 where

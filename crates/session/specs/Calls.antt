@@ -1,9 +1,10 @@
 -- The calls of a session on any lent words: the number that each answers (document 01, "Refusals, in checking order"), its value, and the
 -- words afterwards.
-use Prim.Native.Nat.{ℕ, _+_, _-_, _*_, _%_}
+use Prim.Native.Nat.{ℕ, _+_, _-_, _*_, _%_, _<_}
 use mathlib.Core.Bool.{Bool, true, false, not}
-use mathlib.Core.List.{List, [], _∷_, _++_}
-use lib.ListN.{length, drop, set}
+use mathlib.Core.List.{List, [], _∷_, _++_, map}
+use mathlib.Core.Path.{_≡_}
+use lib.ListN.{length, take, drop, getD, set}
 use Rattle.words.specs.Tests.{_and_, _or_, _≤?_, _<?_, _=?_}
 use Rattle.words.specs.Words.{word, pick, tab}
 use Rattle.words.specs.Numbers.{unless, _then_}
@@ -17,6 +18,7 @@ use Rattle.network.specs.Inner.Machine.{nextState, nextMemory}
 use Rattle.network.specs.OneMachine.{cycleFault}
 use Rattle.network.specs.Seen.{seenLanding}
 use Rattle.soundness.specs.Sound.{sound, kindTravels, liesIn}
+use Rattle.session.specs.declared.Transfer.{Transfer}
 
 -- 12 and 13, which every call but load tests first; with 14 where memory is lent
 unfoldable pub stateNumber : List ℕ → ℕ
@@ -57,6 +59,14 @@ startNumber s circuit readAddress writeAddress count kind =
     then unless 16 (startFits s circuit readAddress writeAddress count kind)
     then unless 17 (not (isBusy s circuit))
 
+-- a transfer of a list: the number that a single start of it answers
+abbrev pub transferNumber : List ℕ → Transfer → ℕ
+transferNumber s t = startNumber s (t .circuit) (t .read) (t .write) (t .count) (t .kind)
+
+-- a list of transfers: at most 64, and an answer word for each (21)
+unfoldable pub startAllNumber : List ℕ → ℕ → ℕ → ℕ
+startAllNumber s transfers answerWords = stateNumber s then unless 21 (transfers ≤? 64 and transfers ≤? answerWords)
+
 -- store and fetch: the node and the address exist (15)
 unfoldable pub placeNumber : List ℕ → List ℕ → ℕ → ℕ → ℕ
 placeNumber s m node address = memoryNumber s m then unless 15 (node <? nodes (sheetIn s) and address <? room s)
@@ -93,6 +103,28 @@ loaded z s = tab movingWords (λ k. 0) ++ ((length z ∷ z) ++ drop (movingWords
 unfoldable pub started : List ℕ → ℕ → ℕ → ℕ → ℕ → ℕ → List ℕ
 started s circuit readAddress writeAddress count kind =
     put (put (put (put s leftRow circuit count) readRow circuit readAddress) writeRow circuit writeAddress) kindRow circuit kind
+
+-- the state after a single start of a transfer, refused or not
+unfoldable pub startedNext : List ℕ → Transfer → List ℕ
+startedNext s t = pick (transferNumber s t =? 0) (started s (t .circuit) (t .read) (t .write) (t .count) (t .kind)) s
+
+-- a list of transfers, each on the state that those before it left: the state after all, an answer to each, and those that are carried out
+unfoldable pub startedAll : List ℕ → List Transfer → List ℕ
+startedAll s [] = s
+startedAll s (t ∷ ts) = startedAll (startedNext s t) ts
+
+unfoldable pub answersAll : List ℕ → List Transfer → List ℕ
+answersAll s [] = []
+answersAll s (t ∷ ts) = transferNumber s t ∷ answersAll (startedNext s t) ts
+
+unfoldable pub carriedOut : List ℕ → List Transfer → List Transfer
+carriedOut s [] = []
+carriedOut s (t ∷ ts) = pick (transferNumber s t =? 0) (t ∷ []) [] ++ carriedOut (startedNext s t) ts
+
+-- the answer words after a list of transfers: those behind the list stay, and all where it is refused
+unfoldable pub answersAfter : List ℕ → List Transfer → List ℕ → List ℕ
+answersAfter s ts answers =
+    pick (startAllNumber s (length ts) (length answers) =? 0) (answersAll s ts ++ drop (length ts) answers) answers
 
 unfoldable pub ordered : List ℕ → ℕ → ℕ → List ℕ
 ordered s schedule period =
@@ -143,6 +175,8 @@ questionNumber (whatLanded node) w = landedNumber (w .state) node
 pub data Call : Type 0 where
   load : List ℕ → Call
   start : ℕ → ℕ → ℕ → ℕ → ℕ → Call
+  -- a list of transfers, and how many answer words are lent
+  startAll : List Transfer → ℕ → Call
   store : ℕ → ℕ → ℕ → Call
   order : ℕ → ℕ → Call
   cycle : Call
@@ -152,6 +186,7 @@ pub data Call : Type 0 where
 abbrev pub isLoad : Call → Bool
 isLoad (load z) = true
 isLoad (start circuit readAddress writeAddress count kind) = false
+isLoad (startAll ts answerWords) = false
 isLoad (store node address new) = false
 isLoad (order schedule period) = false
 isLoad cycle = false
@@ -161,6 +196,7 @@ isLoad (ask question) = false
 abbrev pub number : Call → Lent → ℕ
 number (load z) w = loadNumber z (w .state) (w .memory)
 number (start circuit readAddress writeAddress count kind) w = startNumber (w .state) circuit readAddress writeAddress count kind
+number (startAll ts answerWords) w = startAllNumber (w .state) (length ts) answerWords
 number (store node address new) w = placeNumber (w .state) (w .memory) node address
 number (order schedule period) w = orderNumber (w .state) schedule period
 number cycle w = cycleNumber (w .state) (w .memory)
@@ -171,6 +207,7 @@ abbrev pub does : Call → Lent → Lent
 does (load z) w = record { state = loaded (meant z) (w .state); memory = w .memory }
 does (start circuit readAddress writeAddress count kind) w =
     record { state = started (w .state) circuit readAddress writeAddress count kind; memory = w .memory }
+does (startAll ts answerWords) w = record { state = startedAll (w .state) ts; memory = w .memory }
 does (store node address new) w = record { state = w .state; memory = stored (w .state) (w .memory) node address new }
 does (order schedule period) w = record { state = ordered (w .state) schedule period; memory = w .memory }
 does cycle w = record { state = nextState (w .state) (w .memory); memory = nextMemory (w .state) (w .memory) }
@@ -179,3 +216,27 @@ does (ask question) w = w
 -- the lent words after a call: a refusal changes nothing
 unfoldable pub after : Call → Lent → Lent
 after x w = pick (number x w =? 0) (does x w) w
+
+-- the lent words after some calls
+abbrev pub afterAll : List Call → Lent → Lent
+afterAll [] w = w
+afterAll (x ∷ calls) w = afterAll calls (after x w)
+
+-- a transfer of a list as the single start that it stands for
+abbrev pub asStart : Transfer → Call
+asStart t = start (t .circuit) (t .read) (t .write) (t .count) (t .kind)
+
+-- document 02, L1: a list that is taken is its single starts, one after another
+pub record AsSingles : Type 0 where
+  -- it leaves what they leave
+  pub words : (ts : List Transfer) (answerWords : ℕ) (w : Lent) → number (startAll ts answerWords) w ≡ 0
+      → after (startAll ts answerWords) w ≡ afterAll (map asStart ts) w
+  -- and answers each as that start answers
+  pub answers : (ts : List Transfer) (w : Lent) (i : ℕ) → i < length ts
+      → getD (answersAll (w .state) ts) i 0 ≡ number (getD (map asStart ts) i cycle) (afterAll (take i (map asStart ts)) w)
+  pub each : (ts : List Transfer) (s : List ℕ) → length (answersAll s ts) ≡ length ts
+  -- so that one which passes 15 and 16 gets 17 when an earlier one started its circuit, whatever stands between the two
+  pub busy : (ts us : List Transfer) (t u : Transfer) (s : List ℕ) → transferNumber (startedAll s ts) t ≡ 0 → u .circuit ≡ t .circuit
+      → startNamed s (u .circuit) (u .read) (u .write) (u .kind) ≡ true
+      → startFits s (u .circuit) (u .read) (u .write) (u .count) (u .kind) ≡ true
+      → transferNumber (startedAll s (ts ++ (t ∷ us))) u ≡ 17

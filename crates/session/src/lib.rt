@@ -21,6 +21,17 @@ pub use writing::start;
 pub use writing::start_sound;
 pub use writing::store;
 
+// A transfer of a list: on which circuit, where its words are read and written, how many they are, and their kind. Hosts lend these five
+// words in this order.
+#[repr(C)]
+pub struct Transfer {
+    pub circuit: u32,
+    pub read: u32,
+    pub write: u32,
+    pub count: u32,
+    pub kind: u32,
+}
+
 // A call that has no value: carried out, or refused with a number of document 01.
 pub enum Answer {
     Done,

@@ -6,6 +6,7 @@ use mathlib.Core.Path.{_≡_, refl, _∙_, ap}
 use native.Mathlib.Omega.{arith}
 use lib.ListN.{length, take, replicate}
 use Rattle.words.specs.Words.{leastFrom, lastOf}
+use Rattle.words.specs.Numbers.{unless, _then_}
 use Rattle.words.specs.Tests.{all, any, between, _and_, _or_, _≤?_, _<?_, _=?_, _≠?_}
 use Rattle.torus.specs.Torus.{neighbourOf, walks, distanceOf}
 use Rattle.torus.specs.Route.{outputOf, follow, routeFrom}
@@ -81,5 +82,5 @@ pub wanted : map landsAfter (0 ∷ 1 ∷ 2 ∷ 3 ∷ 4 ∷ 5 ∷ 6 ∷ 7 ∷ 8 �
     ≡ none ∷ none ∷ none ∷ none ∷ none ∷ none ∷ none ∷ none ∷ none ∷ item 0 0 11 ∷ item 0 1 22
     ∷ none ∷ none ∷ none ∷ none ∷ none ∷ none ∷ none ∷ item 0 2 33 ∷ none ∷ none ∷ none ∷ []
 unfolding rows reckonedLanding leavesIn slotLength entryBeginning beginsAt schedulePlace circuitAt entriesOf entryAt lastOf any _and_ _or_ _≤?_ _<?_ _=?_
-    distanceOf leastFrom walks neighbourOf kindTravels liesIn
+    distanceOf leastFrom walks neighbourOf kindTravels liesIn unless _then_
 wanted = refl

@@ -13,8 +13,8 @@ use Rattle.sheet.proofs.MeantLaws.{itself, meant-none}
 use Rattle.sheet.proofs.CheckLaws.{idle-passes}
 use Rattle.session.specs.declared.Found.the-variants.{Word as FoundWord}
 use Rattle.session.specs.Answers.{periodAnswer}
-use Rattle.session.specs.Calls.{Call, cycle, number, loaded, lend}
-use Rattle.isolation.specs.Sessions.{Session, standing, afterAll, Event, cycleDone}
+use Rattle.session.specs.Calls.{Call, cycle, number, loaded, lend, afterAll}
+use Rattle.isolation.specs.Sessions.{Session, standing, Event, cycleDone}
 use Rattle.isolation.specs.Calendar.{calendarAfter}
 use Rattle.isolation.proofs.Reckoning.EventsDecided.{events-decided}
 use Rattle.isolation.proofs.DemandProved.{demand3}

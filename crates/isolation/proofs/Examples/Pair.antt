@@ -6,8 +6,9 @@ use mathlib.Core.Bool.{Bool, true, false}
 use mathlib.Core.List.{List, [], _∷_, _++_, flatMap}
 use mathlib.Core.Path.{_≡_, refl, sym, _∙_, ap}
 use native.Mathlib.Omega.{arith}
-use lib.ListN.{length, replicate, getD}
+use lib.ListN.{length, take, replicate, getD}
 use Rattle.words.specs.Words.{leastFrom, lastOf, pick, word}
+use Rattle.words.specs.Numbers.{unless, _then_}
 use Rattle.words.specs.Tests.{all, any, between, _and_, _or_, _≤?_, _<?_, _=?_, _≠?_}
 use Rattle.torus.specs.Torus.{neighbourOf, walks, distanceOf}
 use Rattle.torus.specs.Route.{outputOf, follow, routeFrom}
@@ -23,15 +24,16 @@ use Rattle.network.specs.Registers.{stateWords}
 use Rattle.session.specs.declared.Found.the-variants.{Word as FoundWord}
 use Rattle.soundness.specs.Sound.{kindTravels, liesIn}
 use Rattle.session.specs.Answers.{fetchAnswer}
-use Rattle.session.specs.Calls.{Call, load, start, store, fetch, left, periodNumber, whatLanded, order, cycle, ask}
+use Rattle.session.specs.declared.Transfer.{Transfer}
+use Rattle.session.specs.Calls.{Call, load, start, startAll, answersAll, store, fetch, left, periodNumber, whatLanded, order, cycle, ask}
 use Rattle.sheet.proofs.MeantLaws.{itself}
-use Rattle.isolation.specs.Sessions.{Session, afterLoad, Event, storeDone, orderDone, cycleDone}
+use Rattle.isolation.specs.Sessions.{Session, afterLoad, standing, Event, storeDone, orderDone, cycleDone}
 use Rattle.isolation.specs.Calendar.{calendarAfter, cyclesDone, pointAfter, scheduleIn}
 use Rattle.isolation.specs.Reckoning.{Item, item, reckonedLanding, leavesIn}
 use Rattle.isolation.specs.Demand.{inRegion, itsRecord, circuitLanding, Alike, Undisturbed}
 use Rattle.isolation.proofs.Reckoning.Regions.{in-high}
 use Rattle.isolation.proofs.Reckoning.Points.{upTo, eventsOf}
-use Rattle.isolation.proofs.Reckoning.EventsDecided.{decided}
+use Rattle.isolation.proofs.Reckoning.EventsDecided.{decided, events-decided, listAnswers, list-here}
 use Rattle.isolation.proofs.Reckoning.Reckons.{as-reckoned}
 use Rattle.isolation.proofs.Reckoning.Alike.{actsIn, acts-are}
 use Rattle.isolation.proofs.Reckoning.Undisturbed.{schedule-before}
@@ -89,11 +91,19 @@ oneCalls =
     ++ (start 0 0 0 1 0 ∷ store 1 3 55 ∷ replicate 17 cycle)
     ++ (start 0 1 2 1 2 ∷ replicate 15 cycle)
 
--- the other's: the same starts and stores on circuit 1, each after as many cycles; between them transfers of circuit 0, stores elsewhere,
--- questions, another load and another start that are refused, and schedule 2 ordered for period 3 after nine cycles
+-- a list of transfers: one on each circuit of the other sheet, and a second one on circuit 1, which an earlier one of the list has started
+abbrev pub bothStarted : List Transfer
+bothStarted =
+    record { circuit = 0; read = 0; write = 4; count = 2; kind = 0 }
+    ∷ record { circuit = 1; read = 0; write = 0; count = 4; kind = 0 }
+    ∷ record { circuit = 1; read = 1; write = 1; count = 1; kind = 0 }
+    ∷ []
+
+-- the other's: the same starts and stores on circuit 1, each after as many cycles, the first by the list; between them transfers of circuit
+-- 0, stores elsewhere, questions, another load and another start that are refused, and schedule 2 ordered for period 3 after nine cycles
 abbrev pub otherCalls : List Call
 otherCalls =
-    (start 0 0 4 2 0 ∷ store 3 5 99 ∷ start 1 0 0 4 0 ∷ ask (fetch 0 5) ∷ replicate 3 cycle)
+    (store 3 5 99 ∷ startAll bothStarted 3 ∷ ask (fetch 0 5) ∷ replicate 3 cycle)
     ++ (store 0 3 76 ∷ ask (whatLanded 0) ∷ store 0 3 77 ∷ replicate 5 cycle)
     ++ (store 1 3 55 ∷ store 0 6 12 ∷ load (2 ∷ []) ∷ start 7 0 0 1 0 ∷ ask (left 1) ∷ cycle ∷ [])
     ++ (order 2 3 ∷ ask periodNumber ∷ replicate 16 cycle)
@@ -150,7 +160,7 @@ oneEvents =
 
 abbrev pub otherEvents : List Event
 otherEvents =
-    (startEvent 0 0 4 2 0 ∷ storeDone 3 5 99 ∷ startEvent 1 0 0 4 0 ∷ replicate 3 cycleDone)
+    (storeDone 3 5 99 ∷ startEvent 0 0 4 2 0 ∷ startEvent 1 0 0 4 0 ∷ replicate 3 cycleDone)
     ++ (storeDone 0 3 76 ∷ storeDone 0 3 77 ∷ replicate 5 cycleDone)
     ++ (storeDone 1 3 55 ∷ storeDone 0 6 12 ∷ cycleDone ∷ [])
     ++ (orderDone 2 3 ∷ replicate 16 cycleDone)
@@ -158,19 +168,34 @@ otherEvents =
 
 one-decided : decided oneSheet oneMemory oneCalls [] ≡ oneEvents
 unfolding rows reckonedLanding leavesIn slotLength entryBeginning beginsAt schedulePlace circuitAt entriesOf entryAt lastOf any _and_ _or_ _≤?_ _<?_ _=?_
-    kindTravels liesIn
+    kindTravels liesIn unless _then_
 one-decided = refl
 
 other-decided : decided otherSheet otherMemory otherCalls [] ≡ otherEvents
 unfolding rows reckonedLanding leavesIn slotLength entryBeginning beginsAt schedulePlace circuitAt entriesOf entryAt lastOf any _and_ _or_ _≤?_ _<?_ _=?_
-    kindTravels liesIn
+    kindTravels liesIn unless _then_
 other-decided = refl
+
+first-decided : decided otherSheet otherMemory (take 1 otherCalls) [] ≡ storeDone 3 5 99 ∷ []
+unfolding rows _and_ _<?_
+first-decided = refl
+
+-- in the list the third transfer is refused with 17
+list-decided : listAnswers otherSheet otherMemory bothStarted (storeDone 3 5 99 ∷ []) ≡ 0 ∷ 0 ∷ 17 ∷ []
+unfolding rows schedulePlace circuitAt _and_ _or_ _≤?_ _<?_ _=?_ kindTravels liesIn unless _then_
+list-decided = refl
 
 pub one-events : (s : List ℕ) (long : stateWords ≤ length s) → eventsOf (oneOn s long) ≡ oneEvents
 one-events s long = events-are (oneOn s long) ∙ one-decided
 
 pub other-events : (s : List ℕ) (long : stateWords ≤ length s) → eventsOf (otherOn s long) ≡ otherEvents
 other-events s long = events-are (otherOn s long) ∙ other-decided
+
+pub list-answers : (s : List ℕ) (long : stateWords ≤ length s) → answersAll (standing (otherOn s long) 1 .state) bothStarted ≡ 0 ∷ 0 ∷ 17 ∷ []
+list-answers s long =
+    list-here (otherOn s long) 1 bothStarted .answers
+    ∙ ap (listAnswers otherSheet otherMemory bothStarted) (events-decided (otherOn s long) 1 (omega arith) ∙ first-decided)
+    ∙ list-decided
 
 -- both carry out 40 cycles
 one-cycles : (s : List ℕ) (long : stateWords ≤ length s) → cyclesDone (oneOn s long) (length oneCalls) ≡ 40

@@ -7,6 +7,7 @@ use mathlib.Core.Path.{_≡_, refl, sym, _∙_, ap}
 use native.Mathlib.Omega.{arith}
 use lib.ListN.{replicate}
 use Rattle.words.specs.Words.{leastFrom, lastOf}
+use Rattle.words.specs.Numbers.{unless, _then_}
 use Rattle.words.specs.Tests.{any, _and_, _or_, _≤?_, _<?_, _=?_}
 use Rattle.torus.specs.Torus.{neighbourOf, walks, distanceOf}
 use Rattle.sheet.specs.Sheet.{rows, schedulePlace, circuitAt, entriesOf, entryAt}
@@ -43,7 +44,7 @@ eventsThen a b = startEvent 0 0 0 3 0 ∷ storeDone 0 1 a ∷ storeDone 0 1 b �
 
 events-decided-so : (a b : ℕ) → decided sheet memories (storesThen a b) [] ≡ eventsThen a b
 unfolding rows reckonedLanding leavesIn slotLength entryBeginning beginsAt schedulePlace circuitAt entriesOf entryAt lastOf any _and_ _or_ _≤?_ _<?_ _=?_
-    kindTravels liesIn
+    kindTravels liesIn unless _then_
 events-decided-so a b = refl
 
 -- the word stored last lands in cycle 8

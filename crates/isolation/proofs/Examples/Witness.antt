@@ -15,7 +15,7 @@ use Rattle.words.proofs.TestLaws.{yes≤, yes=}
 use Rattle.sheet.specs.Sheet.{meant, memoryWords, circuits, nodes}
 use Rattle.sheet.specs.Rules.{firstBroken, checkRules, checkNumber}
 use Rattle.network.specs.Registers.{stateWords}
-use Rattle.session.specs.Calls.{Lent, Call, load, start, store, order, cycle, number, after, loadWordsNumber, loadNumber, ask}
+use Rattle.session.specs.Calls.{Lent, Call, load, start, startAll, store, order, cycle, number, after, loadWordsNumber, loadNumber, ask}
 use Rattle.words.proofs.NumberLaws.{then-zero, zero-then, zero-unless}
 use Rattle.isolation.specs.Sessions.{LoadsRefused, Session, Event, startDone, cycleDone, eventsBefore}
 use Rattle.isolation.specs.Calendar.{calendarAfter, cyclesDone, pointAfter}
@@ -30,6 +30,7 @@ abbrev pub badLoads : List Call → Bool
 badLoads [] = true
 badLoads (load z ∷ calls) = pick (checkNumber z =? 0) false (badLoads calls)
 badLoads (start circuit readAddress writeAddress count kind ∷ calls) = badLoads calls
+badLoads (startAll ts answerWords ∷ calls) = badLoads calls
 badLoads (store node address new ∷ calls) = badLoads calls
 badLoads (ask question ∷ calls) = badLoads calls
 badLoads (order schedule period ∷ calls) = badLoads calls
@@ -50,6 +51,7 @@ bad-loads (load z ∷ calls) w e = go (checkNumber z =? 0) refl e (λ r. bad-loa
     go false q r h = (λ l n. false≢true (sym q ∙ yes= (load-passes z w n)), h r)
 bad-loads (start circuit readAddress writeAddress count kind ∷ calls) w e =
     (λ q n. false≢true q, bad-loads calls (after (start circuit readAddress writeAddress count kind) w) e)
+bad-loads (startAll ts answerWords ∷ calls) w e = (λ q n. false≢true q, bad-loads calls (after (startAll ts answerWords) w) e)
 bad-loads (store node address new ∷ calls) w e = (λ q n. false≢true q, bad-loads calls (after (store node address new) w) e)
 bad-loads (ask question ∷ calls) w e = (λ q n. false≢true q, bad-loads calls (after (ask question) w) e)
 bad-loads (order schedule period ∷ calls) w e = (λ q n. false≢true q, bad-loads calls (after (order schedule period) w) e)

@@ -16,15 +16,19 @@ use Rattle.sheet.specs.Rules.{verdict}
 use Rattle.network.specs.View.{Order, noOrder, pending, View}
 use Rattle.network.specs.Cycle.{nextNumber, scheduleAfter, orderAfter, periodEnds, tick, faulty}
 use Rattle.network.specs.Registers.{reg, clockRow, cyclePlace, numberPlace, inForcePlace, orderMarkPlace, orderSchedulePlace, orderPeriodPlace, rowWords}
-use Rattle.session.specs.Calls.{Lent, Call, load, start, store, order, cycle, isLoad, number, does, after, ordered, stored, ask}
+use Rattle.session.specs.declared.Transfer.{Transfer as Listed}
+use Rattle.session.specs.Calls.{Lent, lend, Call, load, start, startAll, store, order, cycle, ask, asStart, isLoad, number, does, after, afterAll}
+use Rattle.session.specs.Calls.{startedAll, ordered, stored}
 use Rattle.session.proofs.NumberLaws.{start-passed}
 use Rattle.session.proofs.RegisterLaws.{started-other, ordered-other, ordered-mark, ordered-schedule, ordered-period}
-use Rattle.isolation.specs.Sessions.{LoadsRefused, afterAll, Session, afterLoad, standing, Event, orderDone, cycleDone, eventOf, events}
+use Rattle.isolation.specs.Sessions.{LoadsRefused, Session, afterLoad, standing, Event, orderDone, cycleDone, eventOf, events}
 use Rattle.isolation.specs.Calendar.{Calendar, calendarAtLoad, spendOrder, nextCalendar, calendarEvent, calendarAll, calendarAt}
 use Rattle.isolation.proofs.Flights.Trajectory.{Trajectory}
 use Rattle.isolation.proofs.Flights.NeverFaulty.{never-faulty}
 use Rattle.session.proofs.WritingLaws.{after-done, after-refused}
-use Rattle.isolation.proofs.Reckoning.Stream.{isCycle, seen, Fine, fine-bounds, fine-opened, fine-after, fine-cycle}
+use Rattle.session.proofs.ListLaws.{all-has}
+use Rattle.isolation.proofs.Reckoning.Starts.{calendar-starts}
+use Rattle.isolation.proofs.Reckoning.Stream.{isCycle, seen, Fine, fine-does, fine-bounds, fine-opened, fine-after, fine-cycle}
 use Rattle.isolation.proofs.Reckoning.Stream.{is-cycle, idle, cycleThen, stream, cycle-seen, cycle-goes, machineAt, session-passes, zero-at}
 use Rattle.isolation.proofs.Reckoning.Stream.{session-trajectory}
 
@@ -169,13 +173,14 @@ next-cycle z k = go (k .cycle + 1 =? period z (k .schedule))
     go false = refl
 
 -- a call that is no cycle counts none
-pub cycles-kept : (z : List ℕ) (x : Call) (k : Calendar) → isCycle x ≡ false → calendarAll z (eventOf x) k .cycles ≡ k .cycles
-cycles-kept z (load y) k c = refl
-cycles-kept z (start circuit readAddress writeAddress count kind) k c = refl
-cycles-kept z (store node address new) k c = refl
-cycles-kept z (ask question) k c = refl
-cycles-kept z (order schedule period) k c = refl
-cycles-kept z cycle k c = absurd (false≢true (sym c))
+pub cycles-kept : (z : List ℕ) (x : Call) (w : Lent) (k : Calendar) → isCycle x ≡ false → calendarAll z (eventOf x w) k .cycles ≡ k .cycles
+cycles-kept z (load y) w k c = refl
+cycles-kept z (start circuit readAddress writeAddress count kind) w k c = refl
+cycles-kept z (startAll ts answerWords) w k c = ap (λ (d : Calendar). d .cycles) (calendar-starts z ts (w .state) k)
+cycles-kept z (store node address new) w k c = refl
+cycles-kept z (ask question) w k c = refl
+cycles-kept z (order schedule period) w k c = refl
+cycles-kept z cycle w k c = absurd (false≢true (sym c))
 
 -- events one after another
 pub calendar-append : (z : List ℕ) (es fs : List Event) (k : Calendar)
@@ -193,7 +198,7 @@ same-clock s s′ m m′ same = record {
   order = rw (same orderMarkPlace (omega arith), same orderSchedulePlace (omega arith), same orderPeriodPlace (omega arith)) refl;
 }
 
--- any call but a cycle, carried out
+-- a start, and an order
 module _ (z : List ℕ) (w : Lent) (f : Fine z w) (k : Calendar) (d : Dated k (seen w)) where
   abbrev s : List ℕ
   s = w .state
@@ -222,14 +227,30 @@ module _ (z : List ℕ) (w : Lent) (f : Fine z w) (k : Calendar) (d : Dated k (s
         ordered-period s schedule period (omega arith),
       ) refl)
 
+-- a list of starts leaves the clock alone
+list-dated : (z : List ℕ) (w : Lent) → Fine z w → (k : Calendar) → Dated k (seen w) → (ts : List Listed)
+    → Dated k (seen (lend (startedAll (w .state) ts) (w .memory)))
+list-dated z w f k d ts =
+    all-has (λ (s : List ℕ). Fine z (lend s (w .memory)) × Dated k (seen (lend s (w .memory))))
+    (λ t s e p.
+    let u : Lent = lend s (w .memory) in (
+      fine-does z (asStart t) u refl e (p .0),
+      start-dated z u (p .0) k (p .1) (t .circuit) (t .read) (t .write) (t .count) (t .kind) e,
+    ))
+    ts (w .state) (f, d) .1
+
+-- any call but a cycle, carried out
+module _ (z : List ℕ) (w : Lent) (f : Fine z w) (k : Calendar) (d : Dated k (seen w)) where
   does-dated : (x : Call) → isLoad x ≡ false → isCycle x ≡ false → number x w ≡ 0
-      → Dated (calendarAll z (eventOf x) k) (seen (does x w))
+      → Dated (calendarAll z (eventOf x w) k) (seen (does x w))
   does-dated (load y) l c e = absurd (false≢true (sym l))
-  does-dated (start circuit readAddress writeAddress count kind) l c e = start-dated circuit readAddress writeAddress count kind e
+  does-dated (start circuit readAddress writeAddress count kind) l c e = start-dated z w f k d circuit readAddress writeAddress count kind e
+  does-dated (startAll ts answerWords) l c e =
+      subst (λ (h : Calendar). Dated h (seen (does (startAll ts answerWords) w))) (sym (calendar-starts z ts (w .state) k)) (list-dated z w f k d ts)
   does-dated (store node address new) l c e =
-      dated-same k (seen w) _ d (same-clock s s (w .memory) (stored s (w .memory) node address new) (λ place i. refl))
+      dated-same k (seen w) _ d (same-clock (w .state) (w .state) (w .memory) (stored (w .state) (w .memory) node address new) (λ place i. refl))
   does-dated (ask question) l c e = d
-  does-dated (order schedule period) l c e = order-dated schedule period e
+  does-dated (order schedule period) l c e = order-dated z w f k d schedule period e
   does-dated cycle l c e = absurd (false≢true (sym c))
 
 -- a point of a session: the calls that are left, the lent words and the calendar so far; S is the machine before each cycle
@@ -282,7 +303,7 @@ module _ (z : List ℕ) (passes : verdict z ≡ 0) (S : ℕ → View) (J : Traje
 
   -- a call that is no cycle
   call-point : (x : Call) (calls : List Call) (w : Lent) (k : Calendar) → isCycle x ≡ false → Point z S (x ∷ calls) w k
-      → Point z S calls (after x w) (calendarAll z (pick (number x w =? 0) (eventOf x) []) k)
+      → Point z S calls (after x w) (calendarAll z (pick (number x w =? 0) (eventOf x w) []) k)
   call-point x calls w k c p = go (ℕ-discrete (number x w) 0)
     where
       rest : (T : ℕ) → S (k .cycles + T) ≡ seen (stream calls (after x w) T)
@@ -295,19 +316,19 @@ module _ (z : List ℕ) (passes : verdict z ≡ 0) (S : ℕ → View) (J : Traje
       load-no e true q = absurd (p .refused .0 q e)
       load-no e false q = refl
 
-      go : Dec (number x w ≡ 0) → Point z S calls (after x w) (calendarAll z (pick (number x w =? 0) (eventOf x) []) k)
+      go : Dec (number x w ≡ 0) → Point z S calls (after x w) (calendarAll z (pick (number x w =? 0) (eventOf x w) []) k)
       go (yes e) =
-          subst (λ (b : Bool). Point z S calls (after x w) (calendarAll z (pick b (eventOf x) []) k)) (sym (yes= e))
+          subst (λ (b : Bool). Point z S calls (after x w) (calendarAll z (pick b (eventOf x w) []) k)) (sym (yes= e))
           (record {
             fine = fine-after z w (p .fine) x (p .refused .0);
             refused = p .refused .1;
-            machine = λ T. ap (λ (n : ℕ). S (n + T)) (cycles-kept z x k c) ∙ rest T;
+            machine = λ T. ap (λ (n : ℕ). S (n + T)) (cycles-kept z x w k c) ∙ rest T;
             dated =
-                subst (λ (y : Lent). Dated (calendarAll z (eventOf x) k) (seen y)) (sym (after-done x w e))
+                subst (λ (y : Lent). Dated (calendarAll z (eventOf x w) k) (seen y)) (sym (after-done x w e))
                 (does-dated z w (p .fine) k (p .dated) x (load-no e (isLoad x) refl) c e);
           })
       go (no ne) =
-          subst (λ (b : Bool). Point z S calls (after x w) (calendarAll z (pick b (eventOf x) []) k)) (sym (no= ne))
+          subst (λ (b : Bool). Point z S calls (after x w) (calendarAll z (pick b (eventOf x w) []) k)) (sym (no= ne))
           (record {
             fine = fine-after z w (p .fine) x (p .refused .0);
             refused = p .refused .1;
@@ -317,15 +338,15 @@ module _ (z : List ℕ) (passes : verdict z ≡ 0) (S : ℕ → View) (J : Traje
 
   -- any call
   pub point-next : (x : Call) (calls : List Call) (w : Lent) (k : Calendar) → Point z S (x ∷ calls) w k
-      → Point z S calls (after x w) (calendarAll z (pick (number x w =? 0) (eventOf x) []) k)
+      → Point z S calls (after x w) (calendarAll z (pick (number x w =? 0) (eventOf x w) []) k)
   point-next x calls w k p = go (isCycle x) refl
     where
-      go : (b : Bool) → isCycle x ≡ b → Point z S calls (after x w) (calendarAll z (pick (number x w =? 0) (eventOf x) []) k)
+      go : (b : Bool) → isCycle x ≡ b → Point z S calls (after x w) (calendarAll z (pick (number x w =? 0) (eventOf x w) []) k)
       go false c = call-point x calls w k c p
       go true c =
           let p′ : Point z S (cycle ∷ calls) w k = subst (λ (y : Call). Point z S (y ∷ calls) w k) (is-cycle x c) p in
           let done = cycle-done calls w k p′ in
-          subst (λ (y : Call). Point z S calls (after y w) (calendarAll z (pick (number y w =? 0) (eventOf y) []) k))
+          subst (λ (y : Call). Point z S calls (after y w) (calendarAll z (pick (number y w =? 0) (eventOf y w) []) k))
           (sym (is-cycle x c))
           (subst (λ (b : Bool). Point z S calls (after cycle w) (calendarAll z (pick b (cycleDone ∷ []) []) k)) (sym (yes= done))
           (subst (λ (y : Lent). Point z S calls y (nextCalendar z k)) (sym (after-done cycle w done)) (cycle-point calls w k p′)))
@@ -337,7 +358,7 @@ module _ (z : List ℕ) (passes : verdict z ≡ 0) (S : ℕ → View) (J : Traje
   points (suc n) [] w k p = p
   points (suc n) (x ∷ calls) w k p =
       subst (Point z S (drop n calls) (afterAll (take n calls) (after x w)))
-      (sym (calendar-append z (pick (number x w =? 0) (eventOf x) []) (events (take n calls) (after x w)) k))
+      (sym (calendar-append z (pick (number x w =? 0) (eventOf x w) []) (events (take n calls) (after x w)) k))
       (points n calls (after x w) _ (point-next x calls w k p))
 
 -- the calls from the k-th on, and the words after it

@@ -3,40 +3,46 @@
 -- Assumes nothing.
 use Prim.Native.Nat.{ℕ, zero, suc, _+_, _-_, _*_, _%_, _≤_, _<_}
 use mathlib.Core.Bool.{Bool, true, false, not}
-use mathlib.Core.List.{List, [], _∷_, _++_}
-use mathlib.Core.Path.{_≡_, refl, sym, _∙_, ap, ap₂}
+use mathlib.Core.List.{List, [], _∷_, _++_, map, append-nil}
+use mathlib.Core.Path.{_≡_, refl, sym, _∙_, ap, ap₂, subst}
 use native.Mathlib.Omega.{arith}
 use native.Mathlib.Decide.{decLt}
 use native.Mathlib.Nat.{not-suc-le-zero}
 use lib.ListN.{length, take, getD}
 use Rattle.words.specs.Tests.{_and_, _or_, _≤?_, _<?_, _=?_}
 use Rattle.words.specs.Words.{pick}
-use Rattle.words.proofs.TestLaws.{yes≤, no≤, yes=, no=, no<}
+use Rattle.words.specs.Numbers.{unless, _then_}
+use Rattle.words.proofs.TestLaws.{yes≤, no≤, yes=, no=, no<, is=, and-no}
 use Rattle.sheet.specs.Sheet.{memoryWords, circuits, schedules, nodes, circuitAt}
 use Rattle.network.specs.View.{Order, noOrder, pending}
 use Rattle.network.specs.Registers.{reg, clockRow, orderMarkPlace, orderSchedulePlace, orderPeriodPlace, leftRow}
 use Rattle.network.specs.Seen.{seenOrder}
 use Rattle.soundness.specs.Sound.{kindTravels, liesIn}
+use Rattle.session.specs.declared.Transfer.{Transfer as Listed}
+use Rattle.session.specs.Calls.{lend, lendState, startAll, asStart, transferNumber, startAllNumber, startedNext, carriedOut, answersAll}
 use Rattle.session.specs.Calls.{Lent, Call, load, start, store, fetch, left, periodNumber, whatLanded, order, cycle, isLoad, number, memoryNumber}
 use Rattle.session.specs.Calls.{placeNumber, leftNumber, landedNumber, startNamed, startFits, isBusy, startNumber, isPending, ahead, orderNumber}
 use Rattle.session.specs.Calls.{Question, ask, questionNumber}
-use Rattle.words.proofs.NumberLaws.{zero-then, zero-unless, unless-test, after-zero, test-then}
+use Rattle.words.proofs.NumberLaws.{zero-then, zero-unless, unless-test, after-zero, test-then, then-next, then-stop}
 use Rattle.isolation.specs.Sessions.{Session, afterLoad, standing, Event, eventOf, eventsBefore}
-use Rattle.isolation.specs.Calendar.{Calendar, calendarAfter, calendarAt}
-use Rattle.isolation.specs.Reckoning.{owed, reckon}
-use Rattle.isolation.proofs.Reckoning.Stream.{isCycle, Fine, is-cycle}
+use Rattle.isolation.specs.Calendar.{Calendar, calendarAtLoad, calendarAll, calendarAfter, calendarAt, cyclesDone}
+use Rattle.isolation.specs.Reckoning.{owed, reckon, atLoad}
+use Rattle.isolation.proofs.Reckoning.Stream.{isCycle, Fine, fine-does, is-cycle}
+use Rattle.isolation.proofs.Reckoning.Starts.{startOf, startedBy}
+use Rattle.isolation.proofs.Reckoning.ReckonedWords.{Now, start-now}
 use Rattle.isolation.proofs.Reckoning.Dates.{point-at, never-refused}
-use Rattle.isolation.proofs.Reckoning.Points.{events-more}
+use Rattle.isolation.proofs.Reckoning.Points.{events-more, reckon-last}
 use Rattle.isolation.proofs.Reckoning.Reckons.{state-zero, refused-at, at-point}
 
--- whether a call is carried out, from the events before it
-abbrev startGoes : List ℕ → List ℕ → List Event → ℕ → ℕ → ℕ → ℕ → ℕ → Bool
-startGoes z m es circuit readAddress writeAddress count kind =
-    (circuit <? circuits z and readAddress <? memoryWords z and writeAddress <? memoryWords z and kindTravels kind)
-    and ((1 ≤? count and (kind =? 0 or count =? 1) and liesIn (circuitAt z circuit .read) readAddress count
+-- the number that a start answers, from the events before it
+abbrev startAnswer : List ℕ → List ℕ → List Event → ℕ → ℕ → ℕ → ℕ → ℕ → ℕ
+startAnswer z m es circuit readAddress writeAddress count kind =
+    unless 15 (circuit <? circuits z and readAddress <? memoryWords z and writeAddress <? memoryWords z and kindTravels kind)
+    then unless 16 (1 ≤? count and (kind =? 0 or count =? 1) and liesIn (circuitAt z circuit .read) readAddress count
     and liesIn (circuitAt z circuit .receive) writeAddress count)
-    and owed (reckon z circuit m es) =? 0)
+    then unless 17 (owed (reckon z circuit m es) =? 0)
 
+-- whether a call is carried out, from the events before it
 -- an order is pending
 abbrev isHeld : Order → Bool
 isHeld noOrder = false
@@ -56,7 +62,8 @@ askGoes z (whatLanded node) = node <? nodes z
 
 abbrev pub goes : List ℕ → List ℕ → List Event → Call → Bool
 goes z m es (load y) = false
-goes z m es (start circuit readAddress writeAddress count kind) = startGoes z m es circuit readAddress writeAddress count kind
+goes z m es (start circuit readAddress writeAddress count kind) = startAnswer z m es circuit readAddress writeAddress count kind =? 0
+goes z m es (startAll ts answerWords) = length ts ≤? 64 and length ts ≤? answerWords
 goes z m es (store node address new) = node <? nodes z and address <? memoryWords z
 goes z m es (order schedule period) = orderGoes z (calendarAfter z es) schedule period
 goes z m es cycle = true
@@ -66,15 +73,114 @@ none-left : (n : ℕ) → not (1 ≤? n) ≡ (n =? 0)
 none-left zero = ap not (no≤ (omega arith)) ∙ sym (yes= refl)
 none-left (suc n) = ap not (yes≤ (omega arith)) ∙ sym (no= (λ e. absurd (let z : ⊥ = omega arith in z)))
 
--- where the first of two tests fails, what follows them does not matter
-and-neither : (t a b c : Bool) → t ≡ false → ((t and a) and b) ≡ ((t and a) and c)
-unfolding _and_
-and-neither t a b c e = ap (λ (u : Bool). (u and a) and b) e ∙ sym (ap (λ (u : Bool). (u and a) and c) e)
-
 -- a register shows whether an order is pending
 held-register : (mark schedule period : ℕ) → isHeld (seenOrder mark schedule period) ≡ (1 ≤? mark)
 held-register zero schedule period = sym (no≤ (omega arith))
 held-register (suc mark) schedule period = sym (yes≤ (omega arith))
+
+-- what a start answers on lent words, where each circuit's owed words are reckoned from the events before it
+module _ (z m : List ℕ) (w : Lent) (f : Fine z w) (es : List Event)
+    (owed-is : (circuit : ℕ) → circuit < circuits z → owed (reckon z circuit m es) ≡ reg (w .state) leftRow circuit) where
+  start-answers : (circuit readAddress writeAddress count kind : ℕ)
+      → number (start circuit readAddress writeAddress count kind) w ≡ startAnswer z m es circuit readAddress writeAddress count kind
+  unfolding startNumber startNamed startFits isBusy
+  start-answers circuit readAddress writeAddress count kind =
+      sym (then-next (state-zero z w f) refl)
+      ∙ ap (λ (y : List ℕ).
+      unless 15 (circuit <? circuits y and readAddress <? memoryWords y and writeAddress <? memoryWords y and kindTravels kind)
+      then unless 16 (1 ≤? count and (kind =? 0 or count =? 1) and liesIn (circuitAt y circuit .read) readAddress count
+      and liesIn (circuitAt y circuit .receive) writeAddress count)
+      then unless 17 (not (isBusy (w .state) circuit))) (f .sheet-is)
+      ∙ go (decLt circuit (circuits z))
+    where
+      named : Bool
+      named = readAddress <? memoryWords z and writeAddress <? memoryWords z and kindTravels kind
+
+      fits : Bool
+      fits =
+          1 ≤? count and (kind =? 0 or count =? 1) and liesIn (circuitAt z circuit .read) readAddress count
+          and liesIn (circuitAt z circuit .receive) writeAddress count
+
+      go : Dec (circuit < circuits z)
+          → (unless 15 (circuit <? circuits z and named) then unless 16 fits then unless 17 (not (1 ≤? reg (w .state) leftRow circuit)))
+          ≡ (unless 15 (circuit <? circuits z and named) then unless 16 fits then unless 17 (owed (reckon z circuit m es) =? 0))
+      go (yes inside) =
+          ap (λ (t : Bool). unless 15 (circuit <? circuits z and named) then unless 16 fits then unless 17 t)
+          (none-left (reg (w .state) leftRow circuit) ∙ ap (λ (n : ℕ). n =? 0) (sym (owed-is circuit inside)))
+      go (no n) =
+          let outside : (circuit <? circuits z and named) ≡ false = sym (and-no named (no< (omega (arith, n)))) in
+          sym (then-stop 15 _ (omega arith) outside) ∙ then-stop 15 _ (omega arith) outside
+
+-- a transfer of a list: what it answers and what it tells, from the events before it
+abbrev listAnswer : List ℕ → List ℕ → List Event → Listed → ℕ
+listAnswer z m es t = startAnswer z m es (t .circuit) (t .read) (t .write) (t .count) (t .kind)
+
+abbrev toldOne : Listed → ℕ → List Event
+toldOne t answer = pick (answer =? 0) (startOf t ∷ []) []
+
+-- and a list, each with what those before it told
+abbrev pub listTold : List ℕ → List ℕ → List Listed → List Event → List Event
+listTold z m [] es = []
+listTold z m (t ∷ ts) es = let own : List Event = toldOne t (listAnswer z m es t) in own ++ listTold z m ts (es ++ own)
+
+abbrev pub listAnswers : List ℕ → List ℕ → List Listed → List Event → List ℕ
+listAnswers z m [] es = []
+listAnswers z m (t ∷ ts) es = listAnswer z m es t ∷ listAnswers z m ts (es ++ toldOne t (listAnswer z m es t))
+
+-- that is what a list on a state tells and answers
+pub record ListShown (z m : List ℕ) (ts : List Listed) (s : List ℕ) (es : List Event) : Type 0 where
+  pub tells : map startOf (carriedOut s ts) ≡ listTold z m ts es
+  pub answers : answersAll s ts ≡ listAnswers z m ts es
+
+-- where the lent words show the reckoning of every circuit
+module _ (z m memory : List ℕ) (n : ℕ) where
+  record Shown (s : List ℕ) (es : List Event) : Type 0 where
+    fine : Fine z (lend s memory)
+    now : (circuit : ℕ) → circuit < circuits z → Now z circuit (lend s memory) n (reckon z circuit m es)
+
+  shown-start : (t : Listed) (s : List ℕ) (es : List Event) → transferNumber s t ≡ 0 → Shown s es
+      → Shown (startedBy s t) (es ++ (startOf t ∷ []))
+  shown-start t s es e p = record {
+    fine = fine-does z (asStart t) (lend s memory) refl e (p .fine);
+    now = λ circuit inside.
+        subst (Now z circuit (lend (startedBy s t) memory) n) (sym (reckon-last z circuit es (startOf t) calendarAtLoad (atLoad z circuit m)))
+        (start-now z circuit inside (lend s memory) (p .fine) n (calendarAll z es calendarAtLoad) (reckon z circuit m es)
+        (p .now circuit inside) (t .circuit) (t .read) (t .write) (t .count) (t .kind) e);
+  }
+
+  list-shown : (ts : List Listed) (s : List ℕ) (es : List Event) → Shown s es → ListShown z m ts s es
+  unfolding carriedOut answersAll startedNext
+  list-shown [] s es p = record { tells = refl; answers = refl }
+  list-shown (t ∷ ts) s es p =
+      let same = start-answers z m (lend s memory) (p .fine) es (λ circuit inside. p .now circuit inside .sending .left-is)
+      (t .circuit) (t .read) (t .write) (t .count) (t .kind) in
+      let rest = go (list-shown ts) (transferNumber s t =? 0) refl in
+      record {
+        tells = rest .0 ∙ ap (λ (a : ℕ). toldOne t a ++ listTold z m ts (es ++ toldOne t a)) same;
+        answers = ap (λ (r : List ℕ). transferNumber s t ∷ r) (rest .1) ∙ ap (λ (a : ℕ). a ∷ listAnswers z m ts (es ++ toldOne t a)) same;
+      }
+    where
+      go : ((u : List ℕ) (fs : List Event) → Shown u fs → ListShown z m ts u fs) → (b : Bool) → (transferNumber s t =? 0) ≡ b
+          → (map startOf (pick b (t ∷ []) [] ++ carriedOut (pick b (startedBy s t) s) ts)
+          ≡ pick b (startOf t ∷ []) [] ++ listTold z m ts (es ++ pick b (startOf t ∷ []) []))
+          × (answersAll (pick b (startedBy s t) s) ts ≡ listAnswers z m ts (es ++ pick b (startOf t ∷ []) []))
+      go rest true q =
+          let next = rest (startedBy s t) (es ++ (startOf t ∷ [])) (shown-start t s es (is= _ _ q) p) in
+          (ap (λ (r : List Event). startOf t ∷ r) (next .tells), next .answers)
+      go rest false q =
+          let next = rest s es p in
+          let none : es ≡ es ++ [] = sym (append-nil es) in
+          (next .tells ∙ ap (listTold z m ts) none, next .answers ∙ ap (listAnswers z m ts) none)
+
+-- what a call tells, from the events before it
+abbrev pub told : List ℕ → List ℕ → List Event → Call → List Event
+told z m es (startAll ts answerWords) = listTold z m ts es
+told z m es (load y) = []
+told z m es (start circuit readAddress writeAddress count kind) = eventOf (start circuit readAddress writeAddress count kind) (lendState [])
+told z m es (store node address new) = eventOf (store node address new) (lendState [])
+told z m es (order schedule period) = eventOf (order schedule period) (lendState [])
+told z m es cycle = eventOf cycle (lendState [])
+told z m es (ask question) = []
 
 module _ (l : Session) (k : ℕ) where
   abbrev z : List ℕ
@@ -89,37 +195,16 @@ module _ (l : Session) (k : ℕ) where
   f : Fine z w
   f = point-at l k .fine
 
-  start-test : (circuit readAddress writeAddress count kind : ℕ)
-      → (number (start circuit readAddress writeAddress count kind) w =? 0)
-      ≡ startGoes z (l .lent .memory) es circuit readAddress writeAddress count kind
-  unfolding startNumber startNamed startFits isBusy
-  start-test circuit readAddress writeAddress count kind =
-      after-zero _ (state-zero z w f)
-      ∙ test-then 14 _ _
-      ∙ ap (λ (t : Bool). startNamed (w .state) circuit readAddress writeAddress kind and t)
-      (test-then 15 _ _ ∙ ap (λ (t : Bool). startFits (w .state) circuit readAddress writeAddress count kind and t) (unless-test 16 _))
-      ∙ ap (λ (y : List ℕ).
-      (circuit <? circuits y and readAddress <? memoryWords y and writeAddress <? memoryWords y and kindTravels kind)
-      and ((1 ≤? count and (kind =? 0 or count =? 1) and liesIn (circuitAt y circuit .read) readAddress count
-      and liesIn (circuitAt y circuit .receive) writeAddress count)
-      and not (isBusy (w .state) circuit))) (f .sheet-is)
-      ∙ go (decLt circuit (circuits z))
-    where
-      named : Bool
-      named = readAddress <? memoryWords z and writeAddress <? memoryWords z and kindTravels kind
+  -- what a list of transfers tells and answers here
+  pub list-here : (ts : List Listed) → ListShown z (l .lent .memory) ts (w .state) es
+  list-here ts =
+      list-shown z (l .lent .memory) (w .memory) (cyclesDone l k) ts (w .state) es
+      (record { fine = f; now = λ circuit inside. at-point l circuit inside k .now })
 
-      fits : Bool
-      fits =
-          1 ≤? count and (kind =? 0 or count =? 1) and liesIn (circuitAt z circuit .read) readAddress count
-          and liesIn (circuitAt z circuit .receive) writeAddress count
-
-      go : Dec (circuit < circuits z)
-          → ((circuit <? circuits z and named) and (fits and not (1 ≤? reg (w .state) leftRow circuit)))
-          ≡ ((circuit <? circuits z and named) and (fits and owed (reckon z circuit (l .lent .memory) es) =? 0))
-      go (yes inside) =
-          ap (λ (t : Bool). (circuit <? circuits z and named) and (fits and t))
-          (none-left (reg (w .state) leftRow circuit) ∙ ap (λ (n : ℕ). n =? 0) (sym (at-point l circuit inside k .now .sending .left-is)))
-      go (no n) = and-neither _ named _ _ (no< (omega (arith, n)))
+  list-test : (ts : List Listed) (answerWords : ℕ)
+      → (number (startAll ts answerWords) w =? 0) ≡ (length ts ≤? 64 and length ts ≤? answerWords)
+  unfolding startAllNumber
+  list-test ts answerWords = after-zero _ (state-zero z w f) ∙ unless-test 20 _
 
   order-test : (schedule period : ℕ) → (number (order schedule period) w =? 0) ≡ orderGoes z (calendarAt l k) schedule period
   unfolding orderNumber isPending ahead
@@ -166,24 +251,38 @@ module _ (l : Session) (k : ℕ) where
   call-test : (x : Call) → (isCycle x ≡ true → number x w ≡ 0) → (isLoad x ≡ true → number x w ≡ 0 → ⊥)
       → (number x w =? 0) ≡ goes z (l .lent .memory) es x
   call-test (load y) c r = no= (r refl)
-  call-test (start circuit readAddress writeAddress count kind) c r = start-test circuit readAddress writeAddress count kind
+  call-test (start circuit readAddress writeAddress count kind) c r =
+      ap (λ (n : ℕ). n =? 0) (start-answers z (l .lent .memory) w f es (λ c inside. at-point l c inside k .now .sending .left-is)
+      circuit readAddress writeAddress count kind)
+  call-test (startAll ts answerWords) c r = list-test ts answerWords
   call-test (store node address new) c r = place-test node address
   call-test (order schedule period) c r = order-test schedule period
   call-test cycle c r = yes= (c refl)
   call-test (ask question) c r = question-test question
 
+  -- what it tells
+  call-told : (x : Call) → eventOf x w ≡ told z (l .lent .memory) es x
+  call-told (load y) = refl
+  call-told (start circuit readAddress writeAddress count kind) = refl
+  call-told (startAll ts answerWords) = list-here ts .tells
+  call-told (store node address new) = refl
+  call-told (order schedule period) = refl
+  call-told cycle = refl
+  call-told (ask question) = refl
+
 -- the events of some calls behind others, by these tests
 abbrev pub decided : List ℕ → List ℕ → List Call → List Event → List Event
 decided z m [] es = es
-decided z m (x ∷ calls) es = decided z m calls (es ++ pick (goes z m es x) (eventOf x) [])
+decided z m (x ∷ calls) es = decided z m calls (es ++ pick (goes z m es x) (told z m es x) [])
 
 -- one call more
 decided-more : (z m : List ℕ) (calls : List Call) (es : List Event) (k : ℕ) → k < length calls
     → decided z m (take (suc k) calls) es
-    ≡ decided z m (take k calls) es ++ pick (goes z m (decided z m (take k calls) es) (getD calls k cycle)) (eventOf (getD calls k cycle)) []
+    ≡ decided z m (take k calls) es
+    ++ pick (goes z m (decided z m (take k calls) es) (getD calls k cycle)) (told z m (decided z m (take k calls) es) (getD calls k cycle)) []
 decided-more z m [] es k l = absurd (not-suc-le-zero l)
 decided-more z m (x ∷ calls) es zero l = refl
-decided-more z m (x ∷ calls) es (suc k) l = decided-more z m calls (es ++ pick (goes z m es x) (eventOf x) []) k (omega arith)
+decided-more z m (x ∷ calls) es (suc k) l = decided-more z m calls (es ++ pick (goes z m es x) (told z m es x) []) k (omega arith)
 
 -- the events of a session
 module _ (l : Session) where
@@ -203,6 +302,6 @@ module _ (l : Session) where
       let x : Call = getD (l .calls) k cycle in
       let rest = events-decided k (omega arith) in
       events-more (l .calls) (afterLoad l) k (omega arith)
-      ∙ ap (λ (b : Bool). eventsBefore l k ++ pick b (eventOf x) []) (go-test k (omega arith))
-      ∙ ap (λ (es : List Event). es ++ pick (goes (l .sheet) (l .lent .memory) es x) (eventOf x) []) rest
+      ∙ ap₂ (λ (b : Bool) (own : List Event). eventsBefore l k ++ pick b own []) (go-test k (omega arith)) (call-told l k x)
+      ∙ ap (λ (es : List Event). es ++ pick (goes (l .sheet) (l .lent .memory) es x) (told (l .sheet) (l .lent .memory) es x) []) rest
       ∙ sym (decided-more (l .sheet) (l .lent .memory) (l .calls) [] k (omega arith))

@@ -10,13 +10,14 @@ use Rattle.sheet.specs.Sheet.{circuits, nodes}
 use Rattle.network.specs.View.{nothing}
 use Rattle.network.specs.Registers.{reg, landingMark, landingKind, landingAddress, landingWord, rowWords}
 use Rattle.network.specs.Seen.{seenLanding}
-use Rattle.session.specs.Calls.{Lent, Call, load, start, store, order, cycle, isLoad, number, does, after, ask}
+use Rattle.session.specs.Calls.{Lent, lend, Call, load, start, startAll, asStart, store, order, cycle, isLoad, number, does, after, ask}
 use Rattle.session.proofs.NumberLaws.{start-passed}
 use Rattle.soundness.proofs.SheetLaws.{sheet-bounds}
 use Rattle.session.proofs.RegisterLaws.{started-other, ordered-other}
+use Rattle.session.proofs.ListLaws.{all-has}
 use Rattle.isolation.specs.Sessions.{Session, afterLoad}
 use Rattle.session.proofs.WritingLaws.{after-done, after-refused}
-use Rattle.isolation.proofs.Reckoning.Stream.{isCycle, seen, Fine, fine-bounds, session-passes, zero-at}
+use Rattle.isolation.proofs.Reckoning.Stream.{isCycle, seen, Fine, fine-does, fine-bounds, session-passes, zero-at}
 
 -- words with the same landing registers
 landing-same : (w w′ : Lent) (node : ℕ) → ((row : ℕ) → 12 ≤ row → row ≤ 15 → reg (w′ .state) row node ≡ reg (w .state) row node)
@@ -33,19 +34,32 @@ module _ (z : List ℕ) (w : Lent) (f : Fine z w) (node : ℕ) (inside : node < 
   few : node < rowWords
   few = omega (arith, fine-bounds z w f .few-nodes)
 
-  -- any call but a cycle, carried out
-  does-kept : (x : Call) → isLoad x ≡ false → isCycle x ≡ false → number x w ≡ 0 → seen (does x w) .landing node ≡ seen w .landing node
-  does-kept (load y) n c e = absurd (false≢true (sym n))
-  does-kept (start circuit readAddress writeAddress count kind) n c e =
+  start-kept : (circuit readAddress writeAddress count kind : ℕ) → number (start circuit readAddress writeAddress count kind) w ≡ 0
+      → seen (does (start circuit readAddress writeAddress count kind) w) .landing node ≡ seen w .landing node
+  start-kept circuit readAddress writeAddress count kind e =
       let p = start-passed (w .state) circuit readAddress writeAddress count kind e in
       let small : circuit < rowWords = omega (arith, p .circuit-inside, fine-bounds z w f .few-circuits, ap circuits (f .sheet-is)) in
       landing-same w (does (start circuit readAddress writeAddress count kind) w) node
       (λ row low high. started-other (w .state) circuit readAddress writeAddress count kind small row node few (λ a b q. omega arith))
+
+module _ (z : List ℕ) (w : Lent) (f : Fine z w) (node : ℕ) (inside : node < nodes z) where
+  -- any call but a cycle, carried out
+  does-kept : (x : Call) → isLoad x ≡ false → isCycle x ≡ false → number x w ≡ 0 → seen (does x w) .landing node ≡ seen w .landing node
+  does-kept (load y) n c e = absurd (false≢true (sym n))
+  does-kept (start circuit readAddress writeAddress count kind) n c e = start-kept z w f node inside circuit readAddress writeAddress count kind e
+  does-kept (startAll ts answerWords) n c e =
+      all-has (λ (s : List ℕ). Fine z (lend s (w .memory)) × (seen (lend s (w .memory)) .landing node ≡ seen w .landing node))
+      (λ t s e p.
+      let u : Lent = lend s (w .memory) in (
+        fine-does z (asStart t) u refl e (p .0),
+        start-kept z u (p .0) node inside (t .circuit) (t .read) (t .write) (t .count) (t .kind) e ∙ p .1,
+      ))
+      ts (w .state) (f, refl) .1
   does-kept (store at address new) n c e = refl
   does-kept (ask question) n c e = refl
   does-kept (order schedule period) n c e =
       landing-same w (does (order schedule period) w) node
-      (λ row low high. ordered-other (w .state) schedule period row node few (λ q a b. omega arith))
+      (λ row low high. ordered-other (w .state) schedule period row node (few z w f node inside) (λ q a b. omega arith))
   does-kept cycle n c e = absurd (false≢true (sym c))
 
   -- a call of a session that is no cycle

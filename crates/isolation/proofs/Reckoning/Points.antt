@@ -3,7 +3,7 @@
 -- Assumes nothing.
 use Prim.Native.Nat.{ℕ, zero, suc, _+_, _≤_, _<_}
 use mathlib.Core.Bool.{Bool, true, false, false≢true}
-use mathlib.Core.List.{List, [], _∷_, _++_, append-assoc, append-nil}
+use mathlib.Core.List.{List, [], _∷_, _++_, map, append-assoc, append-nil}
 use mathlib.Core.Path.{_≡_, refl, sym, _∙_, ap, ap₂}
 use native.Mathlib.Omega.{arith}
 use native.Mathlib.Decide.{decLt}
@@ -12,12 +12,14 @@ use Rattle.words.specs.Tests.{_=?_}
 use Rattle.words.specs.Words.{pick, leastFrom}
 use Rattle.words.proofs.TestLaws.{is=, yes=}
 use Rattle.words.proofs.WordLaws.{leastFrom-most, leastFrom-least}
-use Rattle.session.specs.Calls.{Lent, Call, load, start, store, order, cycle, number, after, ask}
-use Rattle.isolation.specs.Sessions.{Session, afterAll, afterLoad, standing, Event, startDone, storeDone, orderDone, cycleDone, eventOf, events, eventsBefore}
+use Rattle.session.specs.declared.Transfer.{Transfer as Listed}
+use Rattle.session.specs.Calls.{Lent, Call, load, start, startAll, store, order, cycle, number, after, afterAll, ask, carriedOut}
+use Rattle.isolation.specs.Sessions.{Session, afterLoad, standing, Event, startDone, storeDone, orderDone, cycleDone, eventOf, events, eventsBefore}
 use Rattle.isolation.specs.Calendar.{Calendar, calendarAtLoad, nextCalendar, calendarEvent, calendarAll, cyclesDone, pointAfter}
 use Rattle.isolation.specs.Reckoning.{Reckoned, cycleOn, reckonEvent, reckonAll}
 use Rattle.isolation.specs.Demand.{CycleAt}
 use Rattle.isolation.proofs.Reckoning.Dates.{next-cycles}
+use Rattle.isolation.proofs.Reckoning.Starts.{startOf, by-starts}
 
 -- the events of a session
 abbrev pub eventsOf : Session → List Event
@@ -75,33 +77,40 @@ up-to-cycle (startDone circuit transfer ∷ es) fs = ap (λ (r : List Event). st
 up-to-cycle (storeDone node address new ∷ es) fs = ap (λ (r : List Event). storeDone node address new ∷ r) (up-to-cycle es fs)
 up-to-cycle (orderDone schedule at ∷ es) fs = ap (λ (r : List Event). orderDone schedule at ∷ r) (up-to-cycle es fs)
 
--- the events of one call: at most one cycle, and one where it is a cycle that is carried out
-own-most : (x : Call) (b : Bool) → cyclesIn (pick b (eventOf x) []) ≤ 1
-own-most x false = omega arith
-own-most (load z) true = omega arith
-own-most (start circuit readAddress writeAddress count kind) true = omega arith
-own-most (store node address new) true = omega arith
-own-most (ask question) true = omega arith
-own-most (order schedule period) true = omega arith
-own-most cycle true = omega arith
+-- a list of starts tells of no cycle
+starts-cycles : (ts : List Listed) (s : List ℕ) → cyclesIn (map startOf (carriedOut s ts)) ≡ 0
+starts-cycles ts s = by-starts (λ u es u′. cyclesIn es ≡ 0) (λ u. refl) (λ t u u′ es e rest. rest) ts s
 
-own-cycle : (x : Call) (b : Bool) → cyclesIn (pick b (eventOf x) []) ≡ 1 → (x ≡ cycle) × (b ≡ true)
-own-cycle x false e = absurd (let z : ⊥ = omega arith in z)
-own-cycle (load z) true e = absurd (let z : ⊥ = omega arith in z)
-own-cycle (start circuit readAddress writeAddress count kind) true e = absurd (let z : ⊥ = omega arith in z)
-own-cycle (store node address new) true e = absurd (let z : ⊥ = omega arith in z)
-own-cycle (ask question) true e = absurd (let z : ⊥ = omega arith in z)
-own-cycle (order schedule period) true e = absurd (let z : ⊥ = omega arith in z)
-own-cycle cycle true e = (refl, refl)
+-- the events of one call: at most one cycle, and one where it is a cycle that is carried out
+own-most : (x : Call) (w : Lent) (b : Bool) → cyclesIn (pick b (eventOf x w) []) ≤ 1
+own-most x w false = omega arith
+own-most (load z) w true = omega arith
+own-most (start circuit readAddress writeAddress count kind) w true = omega arith
+own-most (startAll ts answerWords) w true = omega (arith, starts-cycles ts (w .state))
+own-most (store node address new) w true = omega arith
+own-most (ask question) w true = omega arith
+own-most (order schedule period) w true = omega arith
+own-most cycle w true = omega arith
+
+own-cycle : (x : Call) (w : Lent) (b : Bool) → cyclesIn (pick b (eventOf x w) []) ≡ 1 → (x ≡ cycle) × (b ≡ true)
+own-cycle x w false e = absurd (let z : ⊥ = omega arith in z)
+own-cycle (load z) w true e = absurd (let z : ⊥ = omega arith in z)
+own-cycle (start circuit readAddress writeAddress count kind) w true e = absurd (let z : ⊥ = omega arith in z)
+own-cycle (startAll ts answerWords) w true e = absurd (let z : ⊥ = omega (arith, starts-cycles ts (w .state)) in z)
+own-cycle (store node address new) w true e = absurd (let z : ⊥ = omega arith in z)
+own-cycle (ask question) w true e = absurd (let z : ⊥ = omega arith in z)
+own-cycle (order schedule period) w true e = absurd (let z : ⊥ = omega arith in z)
+own-cycle cycle w true e = (refl, refl)
 
 -- the events through one call more, and through a cycle that is carried out
 pub events-more : (calls : List Call) (w : Lent) (k : ℕ) → k < length calls
     → events (take (suc k) calls) w
-    ≡ events (take k calls) w ++ pick (number (getD calls k cycle) (afterAll (take k calls) w) =? 0) (eventOf (getD calls k cycle)) []
+    ≡ events (take k calls) w
+    ++ pick (number (getD calls k cycle) (afterAll (take k calls) w) =? 0) (eventOf (getD calls k cycle) (afterAll (take k calls) w)) []
 events-more [] w k l = absurd (let z : ⊥ = omega arith in z)
-events-more (x ∷ calls) w zero l = append-nil (pick (number x w =? 0) (eventOf x) [])
+events-more (x ∷ calls) w zero l = append-nil (pick (number x w =? 0) (eventOf x w) [])
 events-more (x ∷ calls) w (suc k) l =
-    let own : List Event = pick (number x w =? 0) (eventOf x) [] in
+    let own : List Event = pick (number x w =? 0) (eventOf x w) [] in
     ap (λ (r : List Event). own ++ r) (events-more calls (after x w) k (omega arith))
     ∙ sym (append-assoc own (events (take k calls) (after x w)) _)
 
@@ -109,7 +118,7 @@ pub events-cycle : (calls : List Call) (w : Lent) (k : ℕ) → k < length calls
     → number cycle (afterAll (take k calls) w) ≡ 0 → events (take (suc k) calls) w ≡ events (take k calls) w ++ (cycleDone ∷ [])
 events-cycle calls w k l c e =
     events-more calls w k l
-    ∙ ap (λ (x : Call). events (take k calls) w ++ pick (number x (afterAll (take k calls) w) =? 0) (eventOf x) []) c
+    ∙ ap (λ (x : Call). events (take k calls) w ++ pick (number x (afterAll (take k calls) w) =? 0) (eventOf x (afterAll (take k calls) w)) []) c
     ∙ ap (λ (b : Bool). events (take k calls) w ++ pick b (cycleDone ∷ []) []) (yes= e)
 
 -- the events of the first calls, and of the others
@@ -118,7 +127,7 @@ events-split : (calls : List Call) (w : Lent) (k : ℕ)
 events-split calls w zero = refl
 events-split [] w (suc k) = refl
 events-split (x ∷ calls) w (suc k) =
-    let own : List Event = pick (number x w =? 0) (eventOf x) [] in
+    let own : List Event = pick (number x w =? 0) (eventOf x w) [] in
     ap (λ (r : List Event). own ++ r) (events-split calls (after x w) k)
     ∙ sym (append-assoc own (events (take k calls) (after x w)) _)
 
@@ -209,7 +218,7 @@ module _ (l : Session) where
 
   -- what call k tells
   abbrev own : ℕ → List Event
-  own k = pick (number (getD (l .calls) k cycle) (standing l k) =? 0) (eventOf (getD (l .calls) k cycle)) []
+  own k = pick (number (getD (l .calls) k cycle) (standing l k) =? 0) (eventOf (getD (l .calls) k cycle) (standing l k)) []
 
   counted-more : (k : ℕ) → k < length (l .calls) → cyclesDone l (suc k) ≡ cyclesDone l k + cyclesIn (own k)
   counted-more k i =
@@ -217,7 +226,7 @@ module _ (l : Session) where
       ∙ ap (λ (n : ℕ). n + cyclesIn (own k)) (sym (cycles-counted k))
 
   own-at-most : (k : ℕ) → cyclesIn (own k) ≤ 1
-  own-at-most k = own-most (getD (l .calls) k cycle) (number (getD (l .calls) k cycle) (standing l k) =? 0)
+  own-at-most k = own-most (getD (l .calls) k cycle) (standing l k) (number (getD (l .calls) k cycle) (standing l k) =? 0)
 
   -- directly after n cycles, n are counted
   pub point-counted : (n : ℕ) → n ≤ cyclesDone l (length (l .calls)) → cyclesDone l (pointAfter l n) ≡ n
@@ -248,7 +257,7 @@ module _ (l : Session) where
       omega (arith, p, least) in
       let one : cyclesIn (own k) ≡ 1 = omega (arith, more, total, earlier, own-at-most k) in
       let counted : cyclesIn (eventsBefore l k) ≡ t = omega (arith, more, total, one, cycles-counted k) in
-      let told = own-cycle (getD (l .calls) k cycle) (number (getD (l .calls) k cycle) (standing l k) =? 0) one in
+      let told = own-cycle (getD (l .calls) k cycle) (standing l k) (number (getD (l .calls) k cycle) (standing l k) =? 0) one in
       let done : number cycle (standing l k) ≡ 0 = is= _ _ (ap (λ (x : Call). number x (standing l k) =? 0) (sym (told .0)) ∙ told .1) in
       let next = events-cycle (l .calls) (afterLoad l) k inside (told .0) done in
       let rest : List Event = events (drop (suc k) (l .calls)) (standing l (suc k)) in

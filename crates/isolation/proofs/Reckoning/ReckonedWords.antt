@@ -2,7 +2,7 @@
 -- Assumes nothing.
 use Prim.Native.Nat.{ℕ, zero, suc, _+_, _-_, _*_, _≤_, _<_}
 use mathlib.Core.Bool.{Bool, true, false, false≢true}
-use mathlib.Core.List.{List, [], _∷_, _++_}
+use mathlib.Core.List.{List, [], _∷_, _++_, map}
 use mathlib.Core.Path.{_≡_, refl, sym, _∙_, ap, ap₂, subst}
 use native.Mathlib.Omega.{arith}
 use native.Mathlib.Decide.{ℕ-discrete, decLt}
@@ -21,12 +21,14 @@ use Rattle.network.specs.Cycle.{tick, reopens, storedBy}
 use Rattle.network.specs.Registers.{reg, room, leftRow, readRow, writeRow, kindRow, toGoRow, rowWords}
 use Rattle.network.specs.Seen.{seenSender}
 use Rattle.network.proofs.RowLaws.{sender-same}
-use Rattle.session.specs.Calls.{Lent, Call, load, start, store, order, cycle, isLoad, number, does, after, started, ordered, stored, ask}
+use Rattle.session.specs.declared.Transfer.{Transfer as Listed}
+use Rattle.session.specs.Calls.{Lent, lend, Call, load, start, startAll, store, order, cycle, ask, asStart, isLoad, number, does, after, afterAll}
+use Rattle.session.specs.Calls.{started, startedAll, carriedOut, ordered, stored}
 use Rattle.session.proofs.NumberLaws.{StartPassed, start-passed, place-passed}
 use Rattle.sheet.specs.Inner.Passed.{CircuitSmall}
 use Rattle.soundness.proofs.SheetLaws.{SheetBounds, sheet-bounds, circuit-bounds}
 use Rattle.session.proofs.RegisterLaws.{started-other, started-sender, ordered-other}
-use Rattle.isolation.specs.Sessions.{Transfer, Event, startDone, cycleDone, eventOf, events, afterAll}
+use Rattle.isolation.specs.Sessions.{Transfer, Event, startDone, cycleDone, eventOf, events}
 use Rattle.isolation.specs.Calendar.{Calendar, nextCalendar, calendarEvent, calendarAll}
 use Rattle.isolation.specs.Reckoning.{Item, none, Reckoned, reckonedLanding, lastReckoned, cycleOn, startOn, storeOn, reckonEvent, reckonAll, wordAfter, flightCycles}
 use Rattle.isolation.specs.Demand.{inRegion}
@@ -39,7 +41,8 @@ use Rattle.isolation.proofs.Reckoning.Landed.{landing-kept}
 use Rattle.isolation.proofs.Reckoning.SenderFollowed.{Sends, Follows, sends-cycle, sends-start, sends-same, sends-store, itemOf, leaving-is, leaving-before}
 use Rattle.isolation.proofs.Reckoning.Regions.{in-high, in-region, itemIn, stored-inside, sentBefore, lands-inside, read-kept}
 use Rattle.session.proofs.WritingLaws.{after-done, after-refused}
-use Rattle.isolation.proofs.Reckoning.Stream.{isCycle, seen, Fine, fine-parts, fine-bounds, is-cycle, cycle-seen, fine-cycle}
+use Rattle.isolation.proofs.Reckoning.Stream.{isCycle, seen, Fine, fine-parts, fine-does, fine-bounds, is-cycle, cycle-seen, fine-cycle}
+use Rattle.isolation.proofs.Reckoning.Starts.{startOf, by-starts}
 
 -- the memory word at a node's address
 abbrev pub wordAt : List ℕ → List ℕ → ℕ → ℕ → ℕ
@@ -91,7 +94,7 @@ module _ (z : List ℕ) (circuit : ℕ) (inside : circuit < circuits z) where
     bounds = fine-bounds z w f
 
     -- a start, on this circuit or another
-    start-now : (c readAddress writeAddress count kind : ℕ) → number (start c readAddress writeAddress count kind) w ≡ 0
+    pub start-now : (c readAddress writeAddress count kind : ℕ) → number (start c readAddress writeAddress count kind) w ≡ 0
         → Now z circuit (does (start c readAddress writeAddress count kind) w) n
         (reckonEvent z circuit (startDone c (transferOf readAddress writeAddress count kind)) k r)
     start-now c readAddress writeAddress count kind e = go (ℕ-discrete c circuit)
@@ -179,29 +182,56 @@ module _ (z : List ℕ) (circuit : ℕ) (inside : circuit < circuits z) where
               ∙ ap (λ (p : ℕ). word (set (w .memory) p new) (destinationOf z circuit * memoryWords z + at)) (sym place);
         }
 
+  -- a list of starts, one after another
+  list-now : (w : Lent) → Fine z w → (n : ℕ) (k : Calendar) (r : Reckoned) → Now z circuit w n r → (ts : List Listed)
+      → Now z circuit (lend (startedAll (w .state) ts) (w .memory)) n (reckonAll z circuit (map startOf (carriedOut (w .state) ts)) k r)
+  list-now w f n k r now ts =
+      by-starts
+      (λ s es s′. Fine z (lend s (w .memory)) → (q : Reckoned) → Now z circuit (lend s (w .memory)) n q
+      → Now z circuit (lend s′ (w .memory)) n (reckonAll z circuit es k q))
+      (λ s g q here. here)
+      (λ t s s′ es e rest g q here.
+      let u : Lent = lend s (w .memory) in
+      rest (fine-does z (asStart t) u refl e g) (reckonEvent z circuit (startOf t) k q)
+      (start-now u g n k q here (t .circuit) (t .read) (t .write) (t .count) (t .kind) e))
+      ts (w .state) f r now
+
+  module _ (w : Lent) (f : Fine z w) (n : ℕ) (k : Calendar) (r : Reckoned) (now : Now z circuit w n r) where
     -- any call but a cycle, carried out
     does-now : (x : Call) → isLoad x ≡ false → isCycle x ≡ false → number x w ≡ 0
-        → Now z circuit (does x w) n (reckonAll z circuit (eventOf x) k r)
+        → Now z circuit (does x w) n (reckonAll z circuit (eventOf x w) k r)
     does-now (load y) l c e = absurd (false≢true (sym l))
-    does-now (start c readAddress writeAddress count kind) l q e = start-now c readAddress writeAddress count kind e
-    does-now (store node address new) l c e = store-now node address new e
+    does-now (start c readAddress writeAddress count kind) l q e = start-now w f n k r now c readAddress writeAddress count kind e
+    does-now (startAll ts answerWords) l c e = list-now w f n k r now ts
+    does-now (store node address new) l c e = store-now w f n k r now node address new e
     does-now (ask question) l c e = now
-    does-now (order schedule period) l c e = order-now schedule period e
+    does-now (order schedule period) l c e = order-now w f n k r now schedule period e
     does-now cycle l c e = absurd (false≢true (sym c))
 
 -- a call that is no cycle leaves what left
-leaving-same : (z : List ℕ) (circuit : ℕ) (x : Call) (k : Calendar) (r : Reckoned) → isCycle x ≡ false → (t : ℕ)
-    → reckonAll z circuit (eventOf x) k r .sent .leaving t ≡ r .sent .leaving t
-leaving-same z circuit (load y) k r c t = refl
-leaving-same z circuit (start d readAddress writeAddress count kind) k r c t = go (d =? circuit)
+start-leaving : (circuit d : ℕ) (transfer : Transfer) (r : Reckoned) (t : ℕ)
+    → (pick (d =? circuit) (startOn transfer r) r) .sent .leaving t ≡ r .sent .leaving t
+start-leaving circuit d transfer r t = go (d =? circuit)
   where
-    go : (b : Bool) → (pick b (startOn (transferOf readAddress writeAddress count kind) r) r) .sent .leaving t ≡ r .sent .leaving t
+    go : (b : Bool) → (pick b (startOn transfer r) r) .sent .leaving t ≡ r .sent .leaving t
     go true = refl
     go false = refl
-leaving-same z circuit (store node address new) k r c t = refl
-leaving-same z circuit (ask question) k r c t = refl
-leaving-same z circuit (order schedule period) k r c t = refl
-leaving-same z circuit cycle k r c t = absurd (false≢true (sym c))
+
+leaving-same : (z : List ℕ) (circuit : ℕ) (x : Call) (w : Lent) (k : Calendar) (r : Reckoned) → isCycle x ≡ false → (t : ℕ)
+    → reckonAll z circuit (eventOf x w) k r .sent .leaving t ≡ r .sent .leaving t
+leaving-same z circuit (load y) w k r c t = refl
+leaving-same z circuit (start d readAddress writeAddress count kind) w k r c t =
+    start-leaving circuit d (transferOf readAddress writeAddress count kind) r t
+leaving-same z circuit (startAll ts answerWords) w k r c t =
+    by-starts (λ s es s′. (q : Reckoned) → reckonAll z circuit es k q .sent .leaving t ≡ q .sent .leaving t) (λ s q. refl)
+    (λ u s s′ es e rest q.
+    rest (reckonEvent z circuit (startOf u) k q)
+    ∙ start-leaving circuit (u .circuit) (transferOf (u .read) (u .write) (u .count) (u .kind)) q t)
+    ts (w .state) r
+leaving-same z circuit (store node address new) w k r c t = refl
+leaving-same z circuit (ask question) w k r c t = refl
+leaving-same z circuit (order schedule period) w k r c t = refl
+leaving-same z circuit cycle w k r c t = absurd (false≢true (sym c))
 
 -- events one after another
 reckon-append : (z : List ℕ) (circuit : ℕ) (es fs : List Event) (k : Calendar) (r : Reckoned)
@@ -351,8 +381,8 @@ module _ (z : List ℕ) (passes : verdict z ≡ 0) (circuit : ℕ) (inside : cir
 
   -- a call that is no cycle
   call-at : (x : Call) (calls : List Call) (w : Lent) (k : Calendar) (r : Reckoned) → isCycle x ≡ false → At z circuit S (x ∷ calls) w k r
-      → At z circuit S calls (after x w) (calendarAll z (pick (number x w =? 0) (eventOf x) []) k)
-      (reckonAll z circuit (pick (number x w =? 0) (eventOf x) []) k r)
+      → At z circuit S calls (after x w) (calendarAll z (pick (number x w =? 0) (eventOf x w) []) k)
+      (reckonAll z circuit (pick (number x w =? 0) (eventOf x w) []) k r)
   call-at x calls w k r c a = go (ℕ-discrete (number x w) 0)
     where
       f : Fine z w
@@ -368,34 +398,34 @@ module _ (z : List ℕ) (passes : verdict z ≡ 0) (circuit : ℕ) (inside : cir
       load-no e true q = absurd (a .point .refused .0 q e)
       load-no e false q = refl
 
-      next : Point z S calls (after x w) (calendarAll z (pick (number x w =? 0) (eventOf x) []) k)
+      next : Point z S calls (after x w) (calendarAll z (pick (number x w =? 0) (eventOf x w) []) k)
       next = point-next z passes S J x calls w k (a .point)
 
-      done : number x w ≡ 0 → Point z S calls (after x w) (calendarAll z (eventOf x) k)
-          → At z circuit S calls (after x w) (calendarAll z (eventOf x) k) (reckonAll z circuit (eventOf x) k r)
+      done : number x w ≡ 0 → Point z S calls (after x w) (calendarAll z (eventOf x w) k)
+          → At z circuit S calls (after x w) (calendarAll z (eventOf x w) k) (reckonAll z circuit (eventOf x w) k r)
       done e p =
-          let same = cycles-kept z x k c in
+          let same = cycles-kept z x w k c in
           record {
             point = p;
-            left-then = λ t l. leaving-same z circuit x k r c t ∙ a .left-then t (omega (arith, same));
+            left-then = λ t l. leaving-same z circuit x w k r c t ∙ a .left-then t (omega (arith, same));
             now =
-                subst (λ (n : ℕ). Now z circuit (after x w) n (reckonAll z circuit (eventOf x) k r)) (sym same)
-                (subst (λ (y : Lent). Now z circuit y (k .cycles) (reckonAll z circuit (eventOf x) k r)) (sym (after-done x w e))
+                subst (λ (n : ℕ). Now z circuit (after x w) n (reckonAll z circuit (eventOf x w) k r)) (sym same)
+                (subst (λ (y : Lent). Now z circuit y (k .cycles) (reckonAll z circuit (eventOf x w) k r)) (sym (after-done x w e))
                 (does-now z circuit inside w f (k .cycles) k r (a .now) x (load-no e (isLoad x) refl) c e));
             last =
-                kept ∙ sym (last-landed-same z circuit r (reckonAll z circuit (eventOf x) k r) (k .cycles) (λ t l. leaving-same z circuit x k r c t))
-                ∙ ap (lastReckoned z circuit (reckonAll z circuit (eventOf x) k r)) (sym same);
+                kept ∙ sym (last-landed-same z circuit r (reckonAll z circuit (eventOf x w) k r) (k .cycles) (λ t l. leaving-same z circuit x w k r c t))
+                ∙ ap (lastReckoned z circuit (reckonAll z circuit (eventOf x w) k r)) (sym same);
           }
 
-      go : Dec (number x w ≡ 0) → At z circuit S calls (after x w) (calendarAll z (pick (number x w =? 0) (eventOf x) []) k)
-          (reckonAll z circuit (pick (number x w =? 0) (eventOf x) []) k r)
+      go : Dec (number x w ≡ 0) → At z circuit S calls (after x w) (calendarAll z (pick (number x w =? 0) (eventOf x w) []) k)
+          (reckonAll z circuit (pick (number x w =? 0) (eventOf x w) []) k r)
       go (yes e) =
-          subst (λ (b : Bool). Point z S calls (after x w) (calendarAll z (pick b (eventOf x) []) k)
-          → At z circuit S calls (after x w) (calendarAll z (pick b (eventOf x) []) k) (reckonAll z circuit (pick b (eventOf x) []) k r))
+          subst (λ (b : Bool). Point z S calls (after x w) (calendarAll z (pick b (eventOf x w) []) k)
+          → At z circuit S calls (after x w) (calendarAll z (pick b (eventOf x w) []) k) (reckonAll z circuit (pick b (eventOf x w) []) k r))
           (sym (yes= e)) (done e) next
       go (no ne) =
-          subst (λ (b : Bool). Point z S calls (after x w) (calendarAll z (pick b (eventOf x) []) k)
-          → At z circuit S calls (after x w) (calendarAll z (pick b (eventOf x) []) k) (reckonAll z circuit (pick b (eventOf x) []) k r))
+          subst (λ (b : Bool). Point z S calls (after x w) (calendarAll z (pick b (eventOf x w) []) k)
+          → At z circuit S calls (after x w) (calendarAll z (pick b (eventOf x w) []) k) (reckonAll z circuit (pick b (eventOf x w) []) k r))
           (sym (no= ne))
           (λ p. record {
             point = p;
@@ -407,19 +437,19 @@ module _ (z : List ℕ) (passes : verdict z ≡ 0) (circuit : ℕ) (inside : cir
 
   -- any call
   step-at : (x : Call) (calls : List Call) (w : Lent) (k : Calendar) (r : Reckoned) → At z circuit S (x ∷ calls) w k r
-      → At z circuit S calls (after x w) (calendarAll z (pick (number x w =? 0) (eventOf x) []) k)
-      (reckonAll z circuit (pick (number x w =? 0) (eventOf x) []) k r)
+      → At z circuit S calls (after x w) (calendarAll z (pick (number x w =? 0) (eventOf x w) []) k)
+      (reckonAll z circuit (pick (number x w =? 0) (eventOf x w) []) k r)
   step-at x calls w k r a = go (isCycle x) refl
     where
       go : (b : Bool) → isCycle x ≡ b
-          → At z circuit S calls (after x w) (calendarAll z (pick (number x w =? 0) (eventOf x) []) k)
-          (reckonAll z circuit (pick (number x w =? 0) (eventOf x) []) k r)
+          → At z circuit S calls (after x w) (calendarAll z (pick (number x w =? 0) (eventOf x w) []) k)
+          (reckonAll z circuit (pick (number x w =? 0) (eventOf x w) []) k r)
       go false c = call-at x calls w k r c a
       go true c =
           let a′ : At z circuit S (cycle ∷ calls) w k r = subst (λ (y : Call). At z circuit S (y ∷ calls) w k r) (is-cycle x c) a in
           let done = cycle-done z passes S J calls w k (a′ .point) in
-          subst (λ (y : Call). At z circuit S calls (after y w) (calendarAll z (pick (number y w =? 0) (eventOf y) []) k)
-          (reckonAll z circuit (pick (number y w =? 0) (eventOf y) []) k r))
+          subst (λ (y : Call). At z circuit S calls (after y w) (calendarAll z (pick (number y w =? 0) (eventOf y w) []) k)
+          (reckonAll z circuit (pick (number y w =? 0) (eventOf y w) []) k r))
           (sym (is-cycle x c))
           (subst (λ (b : Bool). At z circuit S calls (after cycle w) (calendarAll z (pick b (cycleDone ∷ []) []) k)
           (reckonAll z circuit (pick b (cycleDone ∷ []) []) k r)) (sym (yes= done))
@@ -438,7 +468,7 @@ module _ (z : List ℕ) (passes : verdict z ≡ 0) (circuit : ℕ) (inside : cir
   points zero calls w k r a = a
   points (suc n) [] w k r a = a
   points (suc n) (x ∷ calls) w k r a =
-      let own : List Event = pick (number x w =? 0) (eventOf x) [] in
+      let own : List Event = pick (number x w =? 0) (eventOf x w) [] in
       let later : List Event = events (take n calls) (after x w) in
       subst (λ (d : Calendar). At z circuit S (drop n calls) (afterAll (take n calls) (after x w)) d (reckonAll z circuit (own ++ later) k r))
       (sym (calendar-append z own later k))

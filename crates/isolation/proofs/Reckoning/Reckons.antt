@@ -24,10 +24,10 @@ use Rattle.session.specs.declared.Found.the-variants.{Word as FoundWord}
 use Rattle.session.specs.declared.Landed.{Landed}
 use Rattle.session.specs.declared.Landed.the-variants.{Nothing, Word as LandedWord, Refused}
 use Rattle.session.specs.Answers.{foundOf, landedOf, leftAnswer, fetchAnswer, periodAnswer, landedAnswer}
-use Rattle.session.specs.Calls.{Lent, Call, cycle, isLoad, number, after, stateNumber, memoryNumber, placeNumber, leftNumber, landedNumber, fetched, wordsLeft, periodNumberIn, lastLanding}
+use Rattle.session.specs.Calls.{Lent, Call, cycle, isLoad, number, after, afterAll, stateNumber, memoryNumber, placeNumber, leftNumber, landedNumber, fetched, wordsLeft, periodNumberIn, lastLanding}
 use Rattle.words.proofs.NumberLaws.{zero-then, zero-unless}
 use Rattle.soundness.proofs.SheetLaws.{SheetBounds, sheet-bounds, circuit-bounds}
-use Rattle.isolation.specs.Sessions.{LoadsRefused, afterAll, Session, afterLoad, standing, cycleDone, eventsBefore}
+use Rattle.isolation.specs.Sessions.{LoadsRefused, Session, afterLoad, standing, cycleDone, eventsBefore}
 use Rattle.isolation.specs.Calendar.{Calendar, calendarAtLoad, nextCalendar, calendarAfter, calendarAt, cyclesDone}
 use Rattle.isolation.specs.Reckoning.{Item, none, item, Reckoned, hopsOf, flightCycles, reckonedLanding, lastReckoned, leavesIn, cycleOn, atLoad, reckon}
 use Rattle.isolation.specs.Demand.{inRegion, itemWithin, reckonedAt, CycleAt, answerAtDestination, circuitLanding, AsReckoned}

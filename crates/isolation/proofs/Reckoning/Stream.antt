@@ -23,12 +23,15 @@ use Rattle.network.proofs.StepLaws.{state-length, memory-length}
 use Rattle.network.proofs.ViewLaws.{cycle-agrees}
 use Rattle.network.proofs.FaultLaws.{faulty-is}
 use Rattle.soundness.specs.Sound.{sound}
-use Rattle.session.specs.Calls.{Lent, Call, load, start, store, order, cycle, isLoad, number, does, after, started, ordered, stored, ask}
+use Rattle.session.specs.declared.Transfer.{Transfer as Listed}
+use Rattle.session.specs.Calls.{Lent, lend, Call, load, start, startAll, store, order, cycle, isLoad, number, does, after, ask, asStart}
+use Rattle.session.specs.Calls.{started, startedAll, ordered, stored}
 use Rattle.session.proofs.NumberLaws.{start-passed, order-passed, load-passed, cycle-zero}
 use Rattle.soundness.proofs.SheetLaws.{SheetBounds, sheet-bounds}
 use Rattle.soundness.proofs.SoundLaws.{TransferParts, SoundParts, sound-parts}
 use Rattle.session.proofs.WritingLaws.{after-done, after-refused}
 use Rattle.session.proofs.RegisterLaws.{loaded-sheet, loaded-register, started-other, ordered-other, ordered-mark, ordered-schedule, ordered-period}
+use Rattle.session.proofs.ListLaws.{all-has}
 use Rattle.session.proofs.KeptLaws.{sound-next, sound-kept, state-length-kept, memory-length-kept, sheet-same}
 use Rattle.isolation.proofs.Flights.Trajectory.{OrderInside, Between, between-agree, between-then, Trajectory}
 use Rattle.isolation.specs.Sessions.{LoadsRefused, Session, afterLoad}
@@ -83,6 +86,7 @@ fine-opened l =
 abbrev pub isCycle : Call → Bool
 isCycle (load z) = false
 isCycle (start circuit readAddress writeAddress count kind) = false
+isCycle (startAll ts answerWords) = false
 isCycle (store node address new) = false
 isCycle (order schedule period) = false
 isCycle cycle = true
@@ -214,13 +218,26 @@ module _ (z : List ℕ) (w : Lent) (f : Fine z w) where
       between-registers z s (w .memory) s m′ (fine-bounds z w f .few-nodes) (λ row k rl kl c. refl) (λ o. o) (λ c l some. refl)
       (λ c l. refl) (λ c l x. x)
 
+-- a list of starts, one after another
+list-between : (z : List ℕ) (w : Lent) → Fine z w → (ts : List Listed) → Between z (seen w) (seen (lend (startedAll (w .state) ts) (w .memory)))
+list-between z w f ts =
+    all-has (λ (s : List ℕ). Fine z (lend s (w .memory)) × Between z (seen w) (seen (lend s (w .memory))))
+    (λ t s e p.
+    let u : Lent = lend s (w .memory) in (
+      fine-does z (asStart t) u refl e (p .0),
+      between-then z _ _ _ (p .1) (start-between z u (p .0) (t .circuit) (t .read) (t .write) (t .count) (t .kind) e),
+    ))
+    ts (w .state) (f, same-between z w f (w .memory)) .1
+
+module _ (z : List ℕ) (w : Lent) (f : Fine z w) where
   -- any call but a cycle, carried out
   does-between : (x : Call) → isLoad x ≡ false → isCycle x ≡ false → number x w ≡ 0 → Between z (seen w) (seen (does x w))
   does-between (load y) n c e = absurd (false≢true (sym n))
-  does-between (start circuit readAddress writeAddress count kind) n c e = start-between circuit readAddress writeAddress count kind e
-  does-between (store node address new) n c e = same-between (stored s (w .memory) node address new)
-  does-between (ask question) n c e = same-between (w .memory)
-  does-between (order schedule period) n c e = order-between schedule period e
+  does-between (start circuit readAddress writeAddress count kind) n c e = start-between z w f circuit readAddress writeAddress count kind e
+  does-between (startAll ts answerWords) n c e = list-between z w f ts
+  does-between (store node address new) n c e = same-between z w f (stored (w .state) (w .memory) node address new)
+  does-between (ask question) n c e = same-between z w f (w .memory)
+  does-between (order schedule period) n c e = order-between z w f schedule period e
   does-between cycle n c e = absurd (false≢true (sym c))
 
   -- a call that is no load, or a refused one, in a session
@@ -238,14 +255,14 @@ module _ (z : List ℕ) (w : Lent) (f : Fine z w) where
       go : Dec (number x w ≡ 0) → (b : Bool) → isLoad x ≡ b → Between z (seen w) (seen (after x w))
       go (yes e) true q = absurd (r q e)
       go (yes e) false q = subst (λ (y : Lent). Between z (seen w) (seen y)) (sym (after-done x w e)) (does-between x q c e)
-      go (no ne) b q = subst (λ (y : Lent). Between z (seen w) (seen y)) (sym (after-refused x w ne)) (same-between (w .memory))
+      go (no ne) b q = subst (λ (y : Lent). Between z (seen w) (seen y)) (sym (after-refused x w ne)) (same-between z w f (w .memory))
 
   -- a cycle: the words after it are the machine after a cycle
   pub cycle-seen : Agree z (seen (does cycle w)) (tick z (seen w))
   cycle-seen =
       let b = fine-bounds z w f in
       subst (λ (y : List ℕ). Agree y (seen (does cycle w)) (tick y (seen w))) (f .sheet-is)
-      (cycle-agrees s (w .memory) (omega (arith, ap nodes (f .sheet-is), b .few-nodes))
+      (cycle-agrees (w .state) (w .memory) (omega (arith, ap nodes (f .sheet-is), b .few-nodes))
       (omega (arith, ap circuits (f .sheet-is), b .few-circuits))
       (f .whole ∙ ap (λ (y : List ℕ). nodes y * memoryWords y) (sym (f .sheet-is))))
 
@@ -255,14 +272,14 @@ module _ (z : List ℕ) (w : Lent) (f : Fine z w) where
   -- a cycle without a fault is carried out
   pub cycle-goes : faulty z (seen w) ≡ false → number cycle w ≡ 0
   cycle-goes e =
-      cycle-zero s (w .memory)
+      cycle-zero (w .state) (w .memory)
       (record {
         memory = record {
           state = record { long = f .long; is-sound = f .is-sound };
           whole = f .whole ∙ ap (λ (y : List ℕ). nodes y * memoryWords y) (sym (f .sheet-is));
         };
         calm =
-            faulty-is s (w .memory) ∙ ap (λ (y : List ℕ). faulty y (seen w)) (f .sheet-is) ∙ e;
+            faulty-is (w .state) (w .memory) ∙ ap (λ (y : List ℕ). faulty y (seen w)) (f .sheet-is) ∙ e;
       })
 
 -- a session that has no calls left goes on by cycles; one whose next cycle would be refused likewise
@@ -308,6 +325,7 @@ call-streams z x w next f r c S =
 pub is-cycle : (x : Call) → isCycle x ≡ true → x ≡ cycle
 is-cycle (load z) e = absurd (false≢true e)
 is-cycle (start circuit readAddress writeAddress count kind) e = absurd (false≢true e)
+is-cycle (startAll ts answerWords) e = absurd (false≢true e)
 is-cycle (store node address new) e = absurd (false≢true e)
 is-cycle (ask question) e = absurd (false≢true e)
 is-cycle (order schedule period) e = absurd (false≢true e)

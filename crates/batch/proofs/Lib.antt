@@ -1,0 +1,4 @@
+pub mod BatchLaws
+pub mod ListsLaws
+pub mod GatherLaws
+pub mod WalkLaws

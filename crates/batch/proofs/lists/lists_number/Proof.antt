@@ -1,0 +1,25 @@
+-- `batch::lists::lists_number` meets its contract: a number of the list of transfers comes first, then the test of the lengths.
+-- Assumes nothing.
+use Rattle.batch.proofs.ListsLaws.{lists-early, lists-even, lists-uneven}
+use borrow.Author.Needs.{needs}
+use Rattle.batch.proofs.lists.lists_number.Statement.{statement}
+use Rattle.batch.proofs.lists.lists_number.Tie as tie
+
+list-number-requires : tie.Need-list-number-requires
+list-number-requires c κs = search needs
+
+returns : tie.Need-returns
+returns c = lists-early _ _ _ _ _ _ _ (c .before .list-number .ensures) (c .if1 .taken)
+
+same-lengths-requires : tie.Need-same-lengths-requires
+same-lengths-requires c κs = search needs
+
+returns-2 : tie.Need-returns-2
+returns-2 c = lists-even _ _ _ _ _ _ _ (c .before .before .before .list-number .ensures) (c .before .before .if1 .left) (c .before .same-lengths .ensures) (c .if2 .taken)
+
+returns-3 : tie.Need-returns-3
+returns-3 c = lists-uneven _ _ _ _ _ _ _ (c .before .before .before .list-number .ensures) (c .before .before .if1 .left) (c .before .same-lengths .ensures) (c .if2 .left)
+
+pub lists-number-spec : {M : Type 1} → statement M
+lists-number-spec =
+    tie.close (tie.spec list-number-requires returns same-lengths-requires returns-2 returns-3)
