@@ -8,6 +8,7 @@ mod timing;
 use exports::Exports;
 use second::calls::Calls;
 use second::inputs::all_transfers;
+use second::lent::Row;
 use second::machine::Transfer;
 use second::sheets::largest;
 use std::cell::RefCell;
@@ -16,8 +17,6 @@ use timing::times;
 
 const MOST_OF_THE_SINGLES: f64 = 0.05;
 const CIRCUITS: usize = 64;
-/// Where the words left of the circuits lie in the state (docs/STATE.md).
-const LEFT: usize = 16 * 80;
 
 /// What the timed functions are lent; their argument is not used.
 #[derive(Default)]
@@ -35,7 +34,7 @@ thread_local! {
 /// Starts on circuits that are all idle; 0 where every start is carried out.
 fn on_idle(start: impl FnOnce(&mut Lent) -> u32) -> u32 {
     LENT.with_borrow_mut(|lent| {
-        lent.state[LEFT..LEFT + CIRCUITS].fill(0);
+        lent.state[Row::Left.at(0)..Row::Left.at(CIRCUITS)].fill(0);
         start(lent)
     })
 }

@@ -1,5 +1,5 @@
-/* The exported calls, for C and C++ (docs/INTERFACE.md). A slice is a pointer and then its length in words; the slices that a call is lent
-   must not overlap. A call of type uint32_t answers 0 where it is carried out, else the number of its refusal; a call of type uint64_t
+/* The exported calls, for C and C++ (docs/INTERFACE.md). A slice is a pointer and then its length in words, that of transfers in records;
+   the slices that a call is lent must not overlap. A call of type uint32_t answers 0 where it is carried out, else the number of its refusal; a call of type uint64_t
    answers number * 2^32 + value, the value being 0 beside a refusal. A refused call leaves every lent word as it was. A sheet of 0 words
    stands for an idle network of 2 by 2 nodes with a memory word each, without circuits, and one schedule of period 9. */
 #ifndef ARGO_H
@@ -35,7 +35,8 @@ struct argo_transfer {
 
 /* Starts a list of up to 64 transfers, each as argo_start would after those before it, and writes an answer word for each: 0 where it was
    started, else 15, 16 or 17. Answer words behind the list stay as they were. The state is tested once for all of them (12, 13); 21: the
-   list is longer than 64, or there are fewer answer words than transfers, and nothing is started and no answer word written. */
+   list is longer than 64, or there are fewer answer words than transfers, and nothing is started and no answer word written.
+   transfer_count counts records of five words, not words. */
 uint32_t argo_start_all(uint32_t *state, size_t state_words, const struct argo_transfer *transfers, size_t transfer_count,
                         uint32_t *answers, size_t answer_words);
 

@@ -8,8 +8,18 @@ use std::path::{Path, PathBuf};
 use std::process::ExitCode;
 
 /// Statements that stand for themselves: proofs fill them.
-const STATEMENTS: [&str; 9] =
-    ["Demand3", "OneMachine", "TableHolds", "FourKinds", "DistanceFormula", "OneCovers", "ChangeRight", "NeverChanges", "AsSingles"];
+const STATEMENTS: [&str; 10] = [
+    "Demand3",
+    "OneMachine",
+    "TableHolds",
+    "FourKinds",
+    "DistanceFormula",
+    "OneCovers",
+    "ChangeRight",
+    "NeverChanges",
+    "AsSingles",
+    "TellsSingles",
+];
 
 /// What the book may name of the inner definitions: the cycle in words, of which OneMachine says that it is the article's; and a node of
 /// a grid, of which DistanceFormula speaks.

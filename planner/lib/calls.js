@@ -1,5 +1,5 @@
 // The proved calls (docs/INTERFACE.md, 'The exported calls') as WebAssembly. A slice is a place in the module's memory and a length in
-// words. The numbers, the answers and the lent words are theirs; this file only lends words and unpacks answers.
+// words, that of transfers in records. The numbers, the answers and the lent words are theirs; this file only lends words and unpacks answers.
 
 // Rows of the lent state that are read for pictures (docs/STATE.md).
 export const ROWS = { clock: 0, linkMark: 1, linkWord: 2, outMark: 7, outWord: 8, landingMark: 12, left: 16 };

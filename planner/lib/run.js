@@ -103,7 +103,7 @@ function carryOutActs(calls, acts) {
   return null;
 }
 
-// Opens a run. `refused` is the first call that was refused, or null; behind one, nothing more is carried out. With `sending`, every
+// Opens a run. `refused` is the first call that was refused, or null; behind one, no cycle is carried out. With `sending`, every
 // circuit is kept sending instead of what the acts say.
 export function openRun(calls, words, { stores = [], acts = [], sending = false } = {}) {
   const run = { cycle: 0, refused: null, nodes: 0, step: () => null };

@@ -13,12 +13,14 @@ const passes = (words) => calls.verdict(words) === 0;
 const RUNS = 400;
 const CYCLES = 30;
 
-// The same calls, by which every start that is made is noted: alone, or with how many others.
+// The same calls, by which every start that is made is noted: alone, or with how many others and how it was answered.
 function watched() {
-  const made = { alone: 0, lists: [] };
+  const made = { alone: 0, lists: [], answers: [] };
   const startAll = (transfers) => {
+    const told = calls.startAll(transfers);
     made.lists.push(transfers.length);
-    return calls.startAll(transfers);
+    made.answers.push(...told.answers);
+    return told;
   };
   const start = (...words) => {
     made.alone++;
@@ -115,4 +117,5 @@ test('where every circuit sends, the idle ones of a cycle are one list', () => {
   assert.equal(made.alone, 0);
   assert.equal(made.lists[0], 64);
   assert.ok(made.lists.length <= 40, `${made.lists.length} lists`);
+  assert.deepEqual(new Set(made.answers), new Set([0]), 'a busy circuit is not started');
 });

@@ -16,13 +16,12 @@ use Rattle.session.proofs.RegisterLaws.{started-length}
 use Rattle.session.proofs.WritingLaws.{state-kept, state-written}
 use Rattle.session.proofs.KeptLaws.{state-passes}
 use Rattle.session.proofs.ListLaws.{next-has, all-has}
-use Rattle.session.proofs.SinglesLaws.{next-is, answers-length}
+use Rattle.session.proofs.SinglesLaws.{next-is, answers-length, all-split}
 
 -- a transfer more at the end
 started-more : (s : List ℕ) (ts : List Transfer) (t : Transfer) → startedAll s (ts ++ (t ∷ [])) ≡ startedNext (startedAll s ts) t
 unfolding startedAll
-started-more s [] t = refl
-started-more s (u ∷ ts) t = started-more (startedNext s u) ts t
+started-more s ts t = all-split ts [] t s
 
 answers-more : (s : List ℕ) (ts : List Transfer) (t : Transfer)
     → answersAll s (ts ++ (t ∷ [])) ≡ answersAll s ts ++ (transferNumber (startedAll s ts) t ∷ [])

@@ -1,4 +1,4 @@
 pub mod BatchLaws
 pub mod ListsLaws
-pub mod GatherLaws
 pub mod WalkLaws
+pub mod RecordsLaws

@@ -19,8 +19,8 @@ fn start_one(s: &mut [u32], t: Transfer) -> u32
 }
 
 // The number that a list of so many transfers answers, with so many answer words.
-fn list_number(s: &[u32], transfers: usize, words: usize) -> u32
-    ensures { λ r. ⌜ r ≡ startAllNumber (now (s .entry)) transfers words ⌝ }
+fn start_all_number(s: &[u32], transfers: usize, answers: usize) -> u32
+    ensures { λ r. ⌜ r ≡ startAllNumber (now (s .entry)) transfers answers ⌝ }
 {
     let number = session::state_number(s);
     if number != 0 {
@@ -29,7 +29,7 @@ fn list_number(s: &[u32], transfers: usize, words: usize) -> u32
     if transfers > 64 {
         return 21;
     }
-    if transfers > words {
+    if transfers > answers {
         return 21;
     }
     0

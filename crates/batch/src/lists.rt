@@ -6,7 +6,7 @@ ghost use lib.ListN.{length, drop};
 ghost use Rattle.session.specs.Calls.{stateNumber, startedAll, answersAll};
 ghost use Rattle.session.specs.Answers.{answerOf};
 ghost use Rattle.batch.specs.Lists.{transferAt, transfersOf, sameLengths, startListsNumber, listsState, listsAnswers};
-use crate::list_number;
+use crate::start_all_number;
 use crate::start_one;
 use session::Answer;
 use session::Transfer;
@@ -35,19 +35,20 @@ fn same_lengths(
 }
 
 // The number that five lists answer, with so many answer words.
-fn lists_number(
+fn start_lists_number(
     s: &[u32],
     circuits: &[u32],
     reads: &[u32],
     writes: &[u32],
     counts: &[u32],
     kinds: &[u32],
-    words: usize,
+    answers: usize,
 ) -> u32
     ensures { λ r. ⌜ r ≡ startListsNumber
-        (now (circuits .entry)) (now (reads .entry)) (now (writes .entry)) (now (counts .entry)) (now (kinds .entry)) (now (s .entry)) words ⌝ }
+        (now (circuits .entry)) (now (reads .entry)) (now (writes .entry)) (now (counts .entry)) (now (kinds .entry))
+        (now (s .entry)) answers ⌝ }
 {
-    let number = list_number(s, circuits.len(), words);
+    let number = start_all_number(s, circuits.len(), answers);
     if number != 0 {
         return number;
     }
@@ -91,7 +92,8 @@ fn start_words(
     ensures state { λ _. ⌜ now (s .exit) ≡ startedAll (now (s .entry)) (transfersOf
         (now (circuits .entry)) (now (reads .entry)) (now (writes .entry)) (now (counts .entry)) (now (kinds .entry))) ⌝ }
     ensures answers { λ _. ⌜ now (answers .exit) ≡ answersAll (now (s .entry)) (transfersOf
-        (now (circuits .entry)) (now (reads .entry)) (now (writes .entry)) (now (counts .entry)) (now (kinds .entry))) ++ drop (length (now (circuits .entry))) (now (answers .entry)) ⌝ }
+        (now (circuits .entry)) (now (reads .entry)) (now (writes .entry)) (now (counts .entry)) (now (kinds .entry)))
+        ++ drop (length (now (circuits .entry))) (now (answers .entry)) ⌝ }
 {
     let mut i = 0;
     while i < circuits.len() {
@@ -112,14 +114,17 @@ pub fn start_lists(
     answers: &mut [u32],
 ) -> Answer
     ensures answer { λ r. ⌜ r ≡ answerOf (startListsNumber
-        (now (circuits .entry)) (now (reads .entry)) (now (writes .entry)) (now (counts .entry)) (now (kinds .entry)) (now (s .entry)) (length (now (answers .entry)))) ⌝ }
+        (now (circuits .entry)) (now (reads .entry)) (now (writes .entry)) (now (counts .entry)) (now (kinds .entry))
+        (now (s .entry)) (length (now (answers .entry)))) ⌝ }
     ensures state { λ _. ⌜ now (s .exit) ≡ listsState
-        (now (circuits .entry)) (now (reads .entry)) (now (writes .entry)) (now (counts .entry)) (now (kinds .entry)) (now (s .entry)) (length (now (answers .entry))) ⌝ }
+        (now (circuits .entry)) (now (reads .entry)) (now (writes .entry)) (now (counts .entry)) (now (kinds .entry))
+        (now (s .entry)) (length (now (answers .entry))) ⌝ }
     ensures answers { λ _. ⌜ now (answers .exit) ≡ listsAnswers
-        (now (circuits .entry)) (now (reads .entry)) (now (writes .entry)) (now (counts .entry)) (now (kinds .entry)) (now (s .entry)) (now (answers .entry)) ⌝ }
+        (now (circuits .entry)) (now (reads .entry)) (now (writes .entry)) (now (counts .entry)) (now (kinds .entry))
+        (now (s .entry)) (now (answers .entry)) ⌝ }
 {
-    let words = answers.len();
-    let number = lists_number(s, circuits, reads, writes, counts, kinds, words);
+    let answer_words = answers.len();
+    let number = start_lists_number(s, circuits, reads, writes, counts, kinds, answer_words);
     if number != 0 {
         return Answer::Refused(number);
     }

@@ -158,11 +158,14 @@ pub extern "C" fn argo_start_lists(
     answers: &mut [u32],
 ) -> u32
     ensures answer { λ r. ⌜ r ≡ startListsNumber
-        (now (circuits .entry)) (now (reads .entry)) (now (writes .entry)) (now (counts .entry)) (now (kinds .entry)) (now (state .entry)) (length (now (answers .entry))) ⌝ }
+        (now (circuits .entry)) (now (reads .entry)) (now (writes .entry)) (now (counts .entry)) (now (kinds .entry))
+        (now (state .entry)) (length (now (answers .entry))) ⌝ }
     ensures state { λ _. ⌜ now (state .exit) ≡ listsState
-        (now (circuits .entry)) (now (reads .entry)) (now (writes .entry)) (now (counts .entry)) (now (kinds .entry)) (now (state .entry)) (length (now (answers .entry))) ⌝ }
+        (now (circuits .entry)) (now (reads .entry)) (now (writes .entry)) (now (counts .entry)) (now (kinds .entry))
+        (now (state .entry)) (length (now (answers .entry))) ⌝ }
     ensures answers { λ _. ⌜ now (answers .exit) ≡ listsAnswers
-        (now (circuits .entry)) (now (reads .entry)) (now (writes .entry)) (now (counts .entry)) (now (kinds .entry)) (now (state .entry)) (now (answers .entry)) ⌝ }
+        (now (circuits .entry)) (now (reads .entry)) (now (writes .entry)) (now (counts .entry)) (now (kinds .entry))
+        (now (state .entry)) (now (answers .entry)) ⌝ }
 {
     number_of(batch::start_lists(state, circuits, reads, writes, counts, kinds, answers))
 }

@@ -8,7 +8,8 @@ use lib.ListN.{take}
 use Rattle.words.specs.Tests.{_=?_}
 use Rattle.words.specs.Words.{pick}
 use Rattle.sheet.specs.Sheet.{meant}
-use Rattle.session.specs.Calls.{Lent, Call, load, start, startAll, store, order, cycle, isLoad, number, does, after, afterAll, ask, carriedOut}
+use Rattle.session.specs.declared.Transfer.{Transfer as Listed}
+use Rattle.session.specs.Calls.{Lent, Call, load, start, startAll, store, order, cycle, isLoad, number, does, after, afterAll, ask, carriedOut, asStart}
 
 -- every load among the calls is refused where it stands
 abbrev pub LoadsRefused : List Call → Lent → Type 0
@@ -46,14 +47,17 @@ pub data Event : Type 0 where
   orderDone : ℕ → ℕ → Event
   cycleDone : Event
 
+-- the start that a transfer of a list is
+abbrev pub startOf : Listed → Event
+startOf t = startDone (t .circuit) (record { readAddress = t .read; writeAddress = t .write; count = t .count; kind = t .kind })
+
 -- what a call on lent words tells: of a list, each transfer that is carried out is a start, in the list's order
 abbrev pub eventOf : Call → Lent → List Event
 eventOf (load z) w = []
 eventOf (start circuit readAddress writeAddress count kind) w =
     startDone circuit (record { readAddress = readAddress; writeAddress = writeAddress; count = count; kind = kind }) ∷ []
 eventOf (startAll ts answerWords) w =
-    map (λ t. startDone (t .circuit) (record { readAddress = t .read; writeAddress = t .write; count = t .count; kind = t .kind }))
-    (carriedOut (w .state) ts)
+    map startOf (carriedOut (w .state) ts)
 eventOf (store node address new) w = storeDone node address new ∷ []
 eventOf (order schedule period) w = orderDone schedule period ∷ []
 eventOf cycle w = cycleDone ∷ []
@@ -63,6 +67,10 @@ eventOf (ask question) w = []
 abbrev pub events : List Call → Lent → List Event
 events [] w = []
 events (x ∷ calls) w = pick (number x w =? 0) (eventOf x w) [] ++ events calls (after x w)
+
+-- document 02, L1: a list tells what its single starts tell, one after another
+abbrev pub TellsSingles : Type 0
+TellsSingles = (ts : List Listed) (answerWords : ℕ) (w : Lent) → eventOf (startAll ts answerWords) w ≡ events (map asStart ts) w
 
 -- the events of a session's first k calls
 abbrev pub eventsBefore : Session → ℕ → List Event

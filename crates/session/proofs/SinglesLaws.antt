@@ -19,7 +19,7 @@ use Rattle.soundness.specs.Sound.{kindTravels, liesIn}
 use Rattle.soundness.proofs.SoundLaws.{sound-parts}
 use Rattle.soundness.proofs.SheetLaws.{sheet-bounds}
 use Rattle.session.specs.declared.Transfer.{Transfer}
-use Rattle.session.specs.Calls.{stateNumber, startNamed, startFits, isBusy, startNumber, transferNumber, started, startedNext, startedAll, answersAll}
+use Rattle.session.specs.Calls.{stateNumber, startNamed, startFits, isBusy, startNumber, transferNumber, startedBy, startedNext, startedAll, answersAll}
 use Rattle.session.specs.Calls.{Lent, lend, lendState, cycle, number, does, after, afterAll, startAll, asStart, AsSingles}
 use Rattle.session.proofs.NumberLaws.{start-passed}
 use Rattle.session.proofs.RegisterLaws.{started-other, started-sender}
@@ -33,7 +33,7 @@ unfolding after startedNext
 next-is t w = go (transferNumber (w .state) t =? 0)
   where
     go : (b : Bool) → pick b (does (asStart t) w) w
-        ≡ lend (pick b (started (w .state) (t .circuit) (t .read) (t .write) (t .count) (t .kind)) (w .state)) (w .memory)
+        ≡ lend (pick b (startedBy (w .state) t) (w .state)) (w .memory)
     go true = refl
     go false = refl
 
@@ -59,7 +59,7 @@ answers-length [] s = refl
 answers-length (t ∷ ts) s = ap suc (answers-length ts (startedNext s t))
 
 -- the first transfers, one, and the others
-all-split : (ts us : List Transfer) (t : Transfer) (s : List ℕ)
+pub all-split : (ts us : List Transfer) (t : Transfer) (s : List ℕ)
     → startedAll s (ts ++ (t ∷ us)) ≡ startedAll (startedNext (startedAll s ts) t) us
 unfolding startedAll
 all-split [] us t s = refl
@@ -79,7 +79,7 @@ few-circuit t s e =
     omega (arith, p .circuit-inside, b .few-circuits)
 
 busy-first : (t : Transfer) (s : List ℕ) → transferNumber s t ≡ 0
-    → Busy s (t .circuit) (started s (t .circuit) (t .read) (t .write) (t .count) (t .kind))
+    → Busy s (t .circuit) (startedBy s t)
 unfolding startNumber
 busy-first t s e =
     let p = start-passed s (t .circuit) (t .read) (t .write) (t .count) (t .kind) e in
@@ -93,7 +93,7 @@ busy-first t s e =
     }
 
 busy-next : (s : List ℕ) (circuit : ℕ) (t : Transfer) (u : List ℕ) → transferNumber u t ≡ 0 → Busy s circuit u
-    → Busy s circuit (started u (t .circuit) (t .read) (t .write) (t .count) (t .kind))
+    → Busy s circuit (startedBy u t)
 busy-next s circuit t u e b =
     let p = start-passed u (t .circuit) (t .read) (t .write) (t .count) (t .kind) e in
     let kept = started-other u (t .circuit) (t .read) (t .write) (t .count) (t .kind) (few-circuit t u e) leftRow circuit (b .few)
@@ -133,9 +133,9 @@ refused-busy s u t b named fits =
     (then-on 16 (fits-same s u t (b .same-sheet) fits) (unless-no 17 (ap not (yes≤ (b .some-left)))))))
 
 next-done : (t : Transfer) (s : List ℕ) → transferNumber s t ≡ 0
-    → startedNext s t ≡ started s (t .circuit) (t .read) (t .write) (t .count) (t .kind)
+    → startedNext s t ≡ startedBy s t
 unfolding startedNext
-next-done t s e = ap (λ (b : Bool). pick b (started s (t .circuit) (t .read) (t .write) (t .count) (t .kind)) s) (yes= e)
+next-done t s e = ap (λ (b : Bool). pick b (startedBy s t) s) (yes= e)
 
 all-busy : (ts us : List Transfer) (t u : Transfer) (s : List ℕ) → transferNumber (startedAll s ts) t ≡ 0 → u .circuit ≡ t .circuit
     → startNamed s (u .circuit) (u .read) (u .write) (u .kind) ≡ true
@@ -145,7 +145,7 @@ all-busy ts us t u s e c named fits =
     let before : List ℕ = startedAll s ts in
     let same : sheetIn before ≡ sheetIn s = all-has (λ v. sheetIn v ≡ sheetIn s)
     (λ x v z p. start-sheet v (x .circuit) (x .read) (x .write) (x .count) (x .kind) z ∙ p) ts s refl in
-    let next : List ℕ = started before (t .circuit) (t .read) (t .write) (t .count) (t .kind) in
+    let next : List ℕ = startedBy before t in
     let busy : Busy before (t .circuit) (startedAll next us) =
     all-has (Busy before (t .circuit)) (busy-next before (t .circuit)) us next (busy-first t before e) in
     ap (λ (v : List ℕ). transferNumber v u) (all-split ts us t s ∙ ap (λ (v : List ℕ). startedAll v us) (next-done t before e))
@@ -156,6 +156,6 @@ pub as-singles : AsSingles
 as-singles = record {
   words = λ ts answerWords w e. after-done (startAll ts answerWords) w e ∙ all-is ts w;
   answers = answers-are;
-  each = answers-length;
+  as-many = answers-length;
   busy = all-busy;
 }

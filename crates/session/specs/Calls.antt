@@ -104,9 +104,12 @@ unfoldable pub started : List ℕ → ℕ → ℕ → ℕ → ℕ → ℕ → Li
 started s circuit readAddress writeAddress count kind =
     put (put (put (put s leftRow circuit count) readRow circuit readAddress) writeRow circuit writeAddress) kindRow circuit kind
 
--- the state after a single start of a transfer, refused or not
+-- a transfer of a list: the state after a single start of it that is carried out, and after one that may be refused
+abbrev pub startedBy : List ℕ → Transfer → List ℕ
+startedBy s t = started s (t .circuit) (t .read) (t .write) (t .count) (t .kind)
+
 unfoldable pub startedNext : List ℕ → Transfer → List ℕ
-startedNext s t = pick (transferNumber s t =? 0) (started s (t .circuit) (t .read) (t .write) (t .count) (t .kind)) s
+startedNext s t = pick (transferNumber s t =? 0) (startedBy s t) s
 
 -- a list of transfers, each on the state that those before it left: the state after all, an answer to each, and those that are carried out
 unfoldable pub startedAll : List ℕ → List Transfer → List ℕ
@@ -231,10 +234,10 @@ pub record AsSingles : Type 0 where
   -- it leaves what they leave
   pub words : (ts : List Transfer) (answerWords : ℕ) (w : Lent) → number (startAll ts answerWords) w ≡ 0
       → after (startAll ts answerWords) w ≡ afterAll (map asStart ts) w
-  -- and answers each as that start answers
+  -- and answers each as that start answers; there are as many answers as transfers
   pub answers : (ts : List Transfer) (w : Lent) (i : ℕ) → i < length ts
       → getD (answersAll (w .state) ts) i 0 ≡ number (getD (map asStart ts) i cycle) (afterAll (take i (map asStart ts)) w)
-  pub each : (ts : List Transfer) (s : List ℕ) → length (answersAll s ts) ≡ length ts
+  pub as-many : (ts : List Transfer) (s : List ℕ) → length (answersAll s ts) ≡ length ts
   -- so that one which passes 15 and 16 gets 17 when an earlier one started its circuit, whatever stands between the two
   pub busy : (ts us : List Transfer) (t u : Transfer) (s : List ℕ) → transferNumber (startedAll s ts) t ≡ 0 → u .circuit ≡ t .circuit
       → startNamed s (u .circuit) (u .read) (u .write) (u .kind) ≡ true

@@ -26,9 +26,8 @@ use Rattle.isolation.specs.Calendar.{Calendar, calendarAtLoad, spendOrde
 use Rattle.isolation.proofs.Flights.Trajectory.{Trajectory}
 use Rattle.isolation.proofs.Flights.NeverFaulty.{never-faulty}
 use Rattle.session.proofs.WritingLaws.{after-done, after-refused}
-use Rattle.session.proofs.ListLaws.{all-has}
 use Rattle.isolation.proofs.Reckoning.Starts.{calendar-starts}
-use Rattle.isolation.proofs.Reckoning.Stream.{isCycle, seen, Fine, fine-does, fine-bounds, fine-opened, fine-after, fine-cycle}
+use Rattle.isolation.proofs.Reckoning.Stream.{isCycle, seen, Fine, list-has, fine-bounds, fine-opened, fine-after, fine-cycle}
 use Rattle.isolation.proofs.Reckoning.Stream.{is-cycle, idle, cycleThen, stream, cycle-seen, cycle-goes, machineAt, session-passes, zero-at}
 use Rattle.isolation.proofs.Reckoning.Stream.{session-trajectory}
 
@@ -227,18 +226,6 @@ module _ (z : List ℕ) (w : Lent) (f : Fine z w) (k : Calendar) (d : Dated k (s
         ordered-period s schedule period (omega arith),
       ) refl)
 
--- a list of starts leaves the clock alone
-list-dated : (z : List ℕ) (w : Lent) → Fine z w → (k : Calendar) → Dated k (seen w) → (ts : List Listed)
-    → Dated k (seen (lend (startedAll (w .state) ts) (w .memory)))
-list-dated z w f k d ts =
-    all-has (λ (s : List ℕ). Fine z (lend s (w .memory)) × Dated k (seen (lend s (w .memory))))
-    (λ t s e p.
-    let u : Lent = lend s (w .memory) in (
-      fine-does z (asStart t) u refl e (p .0),
-      start-dated z u (p .0) k (p .1) (t .circuit) (t .read) (t .write) (t .count) (t .kind) e,
-    ))
-    ts (w .state) (f, d) .1
-
 -- any call but a cycle, carried out
 module _ (z : List ℕ) (w : Lent) (f : Fine z w) (k : Calendar) (d : Dated k (seen w)) where
   does-dated : (x : Call) → isLoad x ≡ false → isCycle x ≡ false → number x w ≡ 0
@@ -246,7 +233,9 @@ module _ (z : List ℕ) (w : Lent) (f : Fine z w) (k : Calendar) (d : Dated k (s
   does-dated (load y) l c e = absurd (false≢true (sym l))
   does-dated (start circuit readAddress writeAddress count kind) l c e = start-dated z w f k d circuit readAddress writeAddress count kind e
   does-dated (startAll ts answerWords) l c e =
-      subst (λ (h : Calendar). Dated h (seen (does (startAll ts answerWords) w))) (sym (calendar-starts z ts (w .state) k)) (list-dated z w f k d ts)
+      subst (λ (h : Calendar). Dated h (seen (does (startAll ts answerWords) w))) (sym (calendar-starts z ts (w .state) k))
+      (list-has z (λ (u : Lent). Dated k (seen u))
+      (λ t u g e p. start-dated z u g k p (t .circuit) (t .read) (t .write) (t .count) (t .kind) e) ts w f d)
   does-dated (store node address new) l c e =
       dated-same k (seen w) _ d (same-clock (w .state) (w .state) (w .memory) (stored (w .state) (w .memory) node address new) (λ place i. refl))
   does-dated (ask question) l c e = d

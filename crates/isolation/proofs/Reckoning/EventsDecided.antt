@@ -19,16 +19,15 @@ use Rattle.network.specs.Registers.{reg, clockRow, orderMarkPlace, orderSchedul
 use Rattle.network.specs.Seen.{seenOrder}
 use Rattle.soundness.specs.Sound.{kindTravels, liesIn}
 use Rattle.session.specs.declared.Transfer.{Transfer as Listed}
-use Rattle.session.specs.Calls.{lend, lendState, startAll, asStart, transferNumber, startAllNumber, startedNext, carriedOut, answersAll}
+use Rattle.session.specs.Calls.{lend, lendState, startAll, asStart, transferNumber, startAllNumber, startedBy, startedNext, carriedOut, answersAll}
 use Rattle.session.specs.Calls.{Lent, Call, load, start, store, fetch, left, periodNumber, whatLanded, order, cycle, isLoad, number, memoryNumber}
 use Rattle.session.specs.Calls.{placeNumber, leftNumber, landedNumber, startNamed, startFits, isBusy, startNumber, isPending, ahead, orderNumber}
 use Rattle.session.specs.Calls.{Question, ask, questionNumber}
 use Rattle.words.proofs.NumberLaws.{zero-then, zero-unless, unless-test, after-zero, test-then, then-next, then-stop}
-use Rattle.isolation.specs.Sessions.{Session, afterLoad, standing, Event, eventOf, eventsBefore}
+use Rattle.isolation.specs.Sessions.{Session, afterLoad, standing, Event, startOf, eventOf, eventsBefore}
 use Rattle.isolation.specs.Calendar.{Calendar, calendarAtLoad, calendarAll, calendarAfter, calendarAt, cyclesDone}
 use Rattle.isolation.specs.Reckoning.{owed, reckon, atLoad}
 use Rattle.isolation.proofs.Reckoning.Stream.{isCycle, Fine, fine-does, is-cycle}
-use Rattle.isolation.proofs.Reckoning.Starts.{startOf, startedBy}
 use Rattle.isolation.proofs.Reckoning.ReckonedWords.{Now, start-now}
 use Rattle.isolation.proofs.Reckoning.Dates.{point-at, never-refused}
 use Rattle.isolation.proofs.Reckoning.Points.{events-more, reckon-last}

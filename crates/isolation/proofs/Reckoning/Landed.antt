@@ -10,14 +10,13 @@ use Rattle.sheet.specs.Sheet.{circuits, nodes}
 use Rattle.network.specs.View.{nothing}
 use Rattle.network.specs.Registers.{reg, landingMark, landingKind, landingAddress, landingWord, rowWords}
 use Rattle.network.specs.Seen.{seenLanding}
-use Rattle.session.specs.Calls.{Lent, lend, Call, load, start, startAll, asStart, store, order, cycle, isLoad, number, does, after, ask}
+use Rattle.session.specs.Calls.{Lent, Call, load, start, startAll, store, order, cycle, isLoad, number, does, after, ask}
 use Rattle.session.proofs.NumberLaws.{start-passed}
 use Rattle.soundness.proofs.SheetLaws.{sheet-bounds}
 use Rattle.session.proofs.RegisterLaws.{started-other, ordered-other}
-use Rattle.session.proofs.ListLaws.{all-has}
 use Rattle.isolation.specs.Sessions.{Session, afterLoad}
 use Rattle.session.proofs.WritingLaws.{after-done, after-refused}
-use Rattle.isolation.proofs.Reckoning.Stream.{isCycle, seen, Fine, fine-does, fine-bounds, session-passes, zero-at}
+use Rattle.isolation.proofs.Reckoning.Stream.{isCycle, seen, Fine, fine-bounds, list-has, session-passes, zero-at}
 
 -- words with the same landing registers
 landing-same : (w w′ : Lent) (node : ℕ) → ((row : ℕ) → 12 ≤ row → row ≤ 15 → reg (w′ .state) row node ≡ reg (w .state) row node)
@@ -48,13 +47,8 @@ module _ (z : List ℕ) (w : Lent) (f : Fine z w) (node : ℕ) (inside : node < 
   does-kept (load y) n c e = absurd (false≢true (sym n))
   does-kept (start circuit readAddress writeAddress count kind) n c e = start-kept z w f node inside circuit readAddress writeAddress count kind e
   does-kept (startAll ts answerWords) n c e =
-      all-has (λ (s : List ℕ). Fine z (lend s (w .memory)) × (seen (lend s (w .memory)) .landing node ≡ seen w .landing node))
-      (λ t s e p.
-      let u : Lent = lend s (w .memory) in (
-        fine-does z (asStart t) u refl e (p .0),
-        start-kept z u (p .0) node inside (t .circuit) (t .read) (t .write) (t .count) (t .kind) e ∙ p .1,
-      ))
-      ts (w .state) (f, refl) .1
+      list-has z (λ (u : Lent). seen u .landing node ≡ seen w .landing node)
+      (λ t u g e p. start-kept z u g node inside (t .circuit) (t .read) (t .write) (t .count) (t .kind) e ∙ p) ts w f refl
   does-kept (store at address new) n c e = refl
   does-kept (ask question) n c e = refl
   does-kept (order schedule period) n c e =

@@ -14,12 +14,12 @@ use Rattle.words.proofs.TestLaws.{is=, yes=}
 use Rattle.words.proofs.WordLaws.{leastFrom-most, leastFrom-least}
 use Rattle.session.specs.declared.Transfer.{Transfer as Listed}
 use Rattle.session.specs.Calls.{Lent, Call, load, start, startAll, store, order, cycle, number, after, afterAll, ask, carriedOut}
-use Rattle.isolation.specs.Sessions.{Session, afterLoad, standing, Event, startDone, storeDone, orderDone, cycleDone, eventOf, events, eventsBefore}
+use Rattle.isolation.specs.Sessions.{Session, afterLoad, standing, Event, startDone, storeDone, orderDone, cycleDone, startOf, eventOf, events, eventsBefore}
 use Rattle.isolation.specs.Calendar.{Calendar, calendarAtLoad, nextCalendar, calendarEvent, calendarAll, cyclesDone, pointAfter}
 use Rattle.isolation.specs.Reckoning.{Reckoned, cycleOn, reckonEvent, reckonAll}
 use Rattle.isolation.specs.Demand.{CycleAt}
 use Rattle.isolation.proofs.Reckoning.Dates.{next-cycles}
-use Rattle.isolation.proofs.Reckoning.Starts.{startOf, by-starts}
+use Rattle.isolation.proofs.Reckoning.Starts.{by-starts}
 
 -- the events of a session
 abbrev pub eventsOf : Session → List Event

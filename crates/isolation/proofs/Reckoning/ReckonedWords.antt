@@ -28,7 +28,7 @@ use Rattle.session.proofs.NumberLaws.{StartPassed, start-passed, place-passed}
 use Rattle.sheet.specs.Inner.Passed.{CircuitSmall}
 use Rattle.soundness.proofs.SheetLaws.{SheetBounds, sheet-bounds, circuit-bounds}
 use Rattle.session.proofs.RegisterLaws.{started-other, started-sender, ordered-other}
-use Rattle.isolation.specs.Sessions.{Transfer, Event, startDone, cycleDone, eventOf, events}
+use Rattle.isolation.specs.Sessions.{Transfer, Event, startDone, startOf, cycleDone, eventOf, events}
 use Rattle.isolation.specs.Calendar.{Calendar, nextCalendar, calendarEvent, calendarAll}
 use Rattle.isolation.specs.Reckoning.{Item, none, Reckoned, reckonedLanding, lastReckoned, cycleOn, startOn, storeOn, reckonEvent, reckonAll, wordAfter, flightCycles}
 use Rattle.isolation.specs.Demand.{inRegion}
@@ -42,7 +42,7 @@ use Rattle.isolation.proofs.Reckoning.SenderFollowed.{Sends, Follows, s
 use Rattle.isolation.proofs.Reckoning.Regions.{in-high, in-region, itemIn, stored-inside, sentBefore, lands-inside, read-kept}
 use Rattle.session.proofs.WritingLaws.{after-done, after-refused}
 use Rattle.isolation.proofs.Reckoning.Stream.{isCycle, seen, Fine, fine-parts, fine-does, fine-bounds, is-cycle, cycle-seen, fine-cycle}
-use Rattle.isolation.proofs.Reckoning.Starts.{startOf, by-starts}
+use Rattle.isolation.proofs.Reckoning.Starts.{by-starts}
 
 -- the memory word at a node's address
 abbrev pub wordAt : List ℕ → List ℕ → ℕ → ℕ → ℕ

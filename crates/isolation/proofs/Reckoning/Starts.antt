@@ -8,18 +8,10 @@ use Rattle.words.specs.Tests.{_=?_}
 use Rattle.words.specs.Words.{pick}
 use Rattle.words.proofs.TestLaws.{is=}
 use Rattle.session.specs.declared.Transfer.{Transfer as Listed}
-use Rattle.session.specs.Calls.{transferNumber, started, startedNext, startedAll, carriedOut, Lent, lend, startAll, asStart}
+use Rattle.session.specs.Calls.{transferNumber, startedBy, startedNext, startedAll, carriedOut, Lent, lend, asStart}
 use Rattle.session.proofs.SinglesLaws.{next-is}
-use Rattle.isolation.specs.Sessions.{Event, startDone, eventOf, events}
+use Rattle.isolation.specs.Sessions.{Event, startOf, eventOf, events, TellsSingles}
 use Rattle.isolation.specs.Calendar.{Calendar, calendarAll}
-
--- the event of a transfer of a list
-abbrev pub startOf : Listed → Event
-startOf t = startDone (t .circuit) (record { readAddress = t .read; writeAddress = t .write; count = t .count; kind = t .kind })
-
--- the state after it
-abbrev pub startedBy : List ℕ → Listed → List ℕ
-startedBy s t = started s (t .circuit) (t .read) (t .write) (t .count) (t .kind)
 
 -- what relates each state to itself by no events, and goes back over each start that is carried out by its event, relates a state to the
 -- one after a list, by what the list tells
@@ -41,7 +33,7 @@ pub calendar-starts : (z : List ℕ) (ts : List Listed) (s : List ℕ) (k : Cale
 calendar-starts z ts s k = by-starts (λ u es u′. calendarAll z es k ≡ k) (λ u. refl) (λ t u u′ es e rest. rest) ts s
 
 -- they are what the list's single starts tell, one after another
-pub tells-singles : (ts : List Listed) (answerWords : ℕ) (w : Lent) → eventOf (startAll ts answerWords) w ≡ events (map asStart ts) w
+pub tells-singles : TellsSingles
 unfolding carriedOut
 tells-singles [] answerWords w = refl
 tells-singles (t ∷ ts) answerWords w =

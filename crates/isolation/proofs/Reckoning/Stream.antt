@@ -218,23 +218,24 @@ module _ (z : List ℕ) (w : Lent) (f : Fine z w) where
       between-registers z s (w .memory) s m′ (fine-bounds z w f .few-nodes) (λ row k rl kl c. refl) (λ o. o) (λ c l some. refl)
       (λ c l. refl) (λ c l x. x)
 
--- a list of starts, one after another
-list-between : (z : List ℕ) (w : Lent) → Fine z w → (ts : List Listed) → Between z (seen w) (seen (lend (startedAll (w .state) ts) (w .memory)))
-list-between z w f ts =
-    all-has (λ (s : List ℕ). Fine z (lend s (w .memory)) × Between z (seen w) (seen (lend s (w .memory))))
-    (λ t s e p.
-    let u : Lent = lend s (w .memory) in (
-      fine-does z (asStart t) u refl e (p .0),
-      between-then z _ _ _ (p .1) (start-between z u (p .0) (t .circuit) (t .read) (t .write) (t .count) (t .kind) e),
-    ))
-    ts (w .state) (f, same-between z w f (w .memory)) .1
+-- what a start on such words keeps, a list of starts keeps
+pub list-has : (z : List ℕ) (P : Lent → Type 0)
+    → ((t : Listed) (u : Lent) → Fine z u → number (asStart t) u ≡ 0 → P u → P (does (asStart t) u))
+    → (ts : List Listed) (w : Lent) → Fine z w → P w → P (lend (startedAll (w .state) ts) (w .memory))
+list-has z P h ts w f p =
+    all-has (λ (s : List ℕ). Fine z (lend s (w .memory)) × P (lend s (w .memory)))
+    (λ t s e q. (fine-does z (asStart t) (lend s (w .memory)) refl e (q .0), h t (lend s (w .memory)) (q .0) e (q .1)))
+    ts (w .state) (f, p) .1
 
 module _ (z : List ℕ) (w : Lent) (f : Fine z w) where
   -- any call but a cycle, carried out
   does-between : (x : Call) → isLoad x ≡ false → isCycle x ≡ false → number x w ≡ 0 → Between z (seen w) (seen (does x w))
   does-between (load y) n c e = absurd (false≢true (sym n))
   does-between (start circuit readAddress writeAddress count kind) n c e = start-between z w f circuit readAddress writeAddress count kind e
-  does-between (startAll ts answerWords) n c e = list-between z w f ts
+  does-between (startAll ts answerWords) n c e =
+      list-has z (λ (u : Lent). Between z (seen w) (seen u))
+      (λ t u g e p. between-then z _ _ _ p (start-between z u g (t .circuit) (t .read) (t .write) (t .count) (t .kind) e))
+      ts w f (same-between z w f (w .memory))
   does-between (store node address new) n c e = same-between z w f (stored (w .state) (w .memory) node address new)
   does-between (ask question) n c e = same-between z w f (w .memory)
   does-between (order schedule period) n c e = order-between z w f schedule period e

@@ -6,19 +6,19 @@ use borrow.Author.Needs.{needs}
 use Rattle.batch.proofs.lists.start_lists.Statement.{statement}
 use Rattle.batch.proofs.lists.start_lists.Tie as tie
 
-lists-number-requires : tie.Need-lists-number-requires
-lists-number-requires c κs = search needs
+start-lists-number-requires : tie.Need-start-lists-number-requires
+start-lists-number-requires c κs = search needs
 
 same-length : tie.Need-same-length
 same-length c = search needs
 
 returns : tie.Need-returns
-returns c = let number = c .before .lists-number .ensures in
+returns c = let number = c .before .start-lists-number .ensures in
     let kept = lists-kept _ _ _ _ _ _ _ number (c .if1 .taken) in
     (answer-refused _ number (c .if1 .taken), (kept .0, kept .1))
 
 start-words-requires : tie.Need-start-words-requires
-start-words-requires c κs = lists-passed _ _ _ _ _ _ _ (c .before .before .before .lists-number .ensures) (c .before .before .if1 .left)
+start-words-requires c κs = lists-passed _ _ _ _ _ _ _ (c .before .before .before .start-lists-number .ensures) (c .before .before .if1 .left)
 
 same-length-2 : tie.Need-same-length-2
 same-length-2 c = search needs
@@ -29,7 +29,7 @@ same-length-3 c = search needs
 returns-2 : tie.Need-returns-2
 returns-2 c = let at-start = c .before .before .before .before in
     let at-if1 = at-start .before .before .before in
-    let number = at-if1 .before .lists-number .ensures in
+    let number = at-if1 .before .start-lists-number .ensures in
     let left = at-start .start-words .ensures in
     let written = lists-written _ _ _ _ _ _ _ number (at-if1 .if1 .left) (left .0) (left .1) in
     (answer-done _ number (at-if1 .if1 .left), (written .0, written .1))
@@ -38,7 +38,7 @@ pub start-lists-spec : {M : Type 1} → statement M
 start-lists-spec =
     tie.close
     (tie.spec
-    lists-number-requires
+    start-lists-number-requires
     same-length
     returns
     start-words-requires

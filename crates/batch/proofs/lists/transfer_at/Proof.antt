@@ -23,7 +23,8 @@ get-requires-5 c κs = search needs
 returns : tie.Need-returns
 returns c = let a = c .before .before .before .before .before .before .before .before .before .before .args in
     transfer-is (a .circuits .now) (a .reads .now) (a .writes .now) (a .counts .now) (a .kinds .now) _
-    (c .before .before .before .before .get .ensures) (c .before .before .before .get2 .ensures) (c .before .before .get3 .ensures) (c .before .get4 .ensures) (c .get5 .ensures)
+    (c .before .before .before .before .get .ensures) (c .before .before .before .get2 .ensures)
+    (c .before .before .get3 .ensures) (c .before .get4 .ensures) (c .get5 .ensures)
 
 pub transfer-at-spec : {M : Type 1} → statement M
 transfer-at-spec =
