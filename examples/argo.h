@@ -1,7 +1,8 @@
 /* The exported calls, for C and C++ (docs/INTERFACE.md). A slice is a pointer and then its length in words, that of transfers in records;
-   the slices that a call is lent must not overlap. A call of type uint32_t answers 0 where it is carried out, else the number of its refusal; a call of type uint64_t
-   answers number * 2^32 + value, the value being 0 beside a refusal. A refused call leaves every lent word as it was. A sheet of 0 words
-   stands for an idle network of 2 by 2 nodes with a memory word each, without circuits, and one schedule of period 9. */
+   the slices that a call is lent must not overlap. A call of type uint32_t answers 0 where it is carried out, else the number of its
+   refusal; a call of type uint64_t answers number * 2^32 + value, the value being 0 beside a refusal. A refused call leaves every lent
+   word as it was. A sheet of 0 words stands for an idle network of 2 by 2 nodes with a memory word each, without circuits, and one
+   schedule of period 9. */
 #ifndef ARGO_H
 #define ARGO_H
 

@@ -43,11 +43,15 @@ function callsOf(exported) {
 
   // Makes a call on lists that it only reads and on words that it writes, lent one behind another: its number, and those words then.
   function answered(lists, answers, slices, call) {
+    const lent = [];
     let end = listPlace;
-    const lent = [...lists, answers].map((list) => [(end += list.length) - list.length, list]);
+    for (const list of [...lists, answers]) {
+      lent.push({ place: end, list });
+      end += list.length;
+    }
     reach(end);
-    for (const [place, list] of lent) words.set(list, place);
-    const places = lent.map(([place, list]) => [place * 4, BigInt(list.length)]);
+    for (const { place, list } of lent) words.set(list, place);
+    const places = lent.map(({ place, list }) => [place * 4, BigInt(list.length)]);
     const number = call(...state, ...slices(places.slice(0, -1)), ...places.at(-1));
     return { number, answers: [...words.subarray(end - answers.length, end)] };
   }

@@ -41,7 +41,6 @@ startAnswer z m es circuit readAddress writeAddress count kind =
     and liesIn (circuitAt z circuit .receive) writeAddress count)
     then unless 17 (owed (reckon z circuit m es) =? 0)
 
--- whether a call is carried out, from the events before it
 -- an order is pending
 abbrev isHeld : Order → Bool
 isHeld noOrder = false
@@ -59,6 +58,7 @@ askGoes z (left circuit) = circuit <? circuits z
 askGoes z periodNumber = true
 askGoes z (whatLanded node) = node <? nodes z
 
+-- whether a call is carried out, from the events before it
 abbrev pub goes : List ℕ → List ℕ → List Event → Call → Bool
 goes z m es (load y) = false
 goes z m es (start circuit readAddress writeAddress count kind) = startAnswer z m es circuit readAddress writeAddress count kind =? 0
@@ -171,11 +171,11 @@ module _ (z m memory : List ℕ) (n : ℕ) where
           let none : es ≡ es ++ [] = sym (append-nil es) in
           (next .tells ∙ ap (listTold z m ts) none, next .answers ∙ ap (listAnswers z m ts) none)
 
--- what a call tells, from the events before it
+-- what a call tells, from the events before it: of a list alone does it depend on the words
 abbrev pub told : List ℕ → List ℕ → List Event → Call → List Event
-told z m es (startAll ts answerWords) = listTold z m ts es
 told z m es (load y) = []
 told z m es (start circuit readAddress writeAddress count kind) = eventOf (start circuit readAddress writeAddress count kind) (lendState [])
+told z m es (startAll ts answerWords) = listTold z m ts es
 told z m es (store node address new) = eventOf (store node address new) (lendState [])
 told z m es (order schedule period) = eventOf (order schedule period) (lendState [])
 told z m es cycle = eventOf cycle (lendState [])
