@@ -9,7 +9,7 @@ pub use records::start_all;
 use session::Transfer;
 use session::number_of;
 
-// Starts one transfer on a state that has passed 12 and 13, which leaves it so.
+// Starts one transfer on a state that has passed 12 and 13, which leaves it so: both loops begin with such a state.
 fn start_one(s: &mut [u32], t: Transfer) -> u32
     requires { ⌜ stateNumber (now s) ≡ 0 ⌝ }
     ensures answer { λ r. ⌜ r ≡ transferNumber (now (s .entry)) t ⌝ }

@@ -78,7 +78,7 @@ fn transfer_at(
     }
 }
 
-// Starts the transfers in order, with an answer to each, on a state that has passed 12 and 13.
+// Starts the transfers in order, with an answer to each; start_lists calls it where the number is 0, which meets the requires.
 fn start_words(
     s: &mut [u32],
     circuits: &[u32],

@@ -38,7 +38,7 @@ fn answer_of(number: u32) -> Answer
     Answer::Refused(number)
 }
 
-// Starts one transfer on a state that has passed 12 and 13, and answers it at its place.
+// Starts one transfer and answers it at its place; start_all gets here only where the number is 0, which meets the requires.
 fn start_at(s: &mut [u32], answers: &mut [u32], i: usize, t: Transfer)
     requires { ⌜ (stateNumber (now s) ≡ 0) × (i < length (now answers)) ⌝ }
     ensures state { λ _. ⌜ now (s .exit) ≡ startedNext (now (s .entry)) t ⌝ }

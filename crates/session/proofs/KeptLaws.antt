@@ -181,14 +181,19 @@ module _ (s : List ℕ) (circuit readAddress writeAddress count kind : ℕ)
         units = λ n l. unit-same s begun n (λ row low high. other row n (omega arith) (λ a b e. omega arith)) (x .units n l);
       }
 
+-- the circuit of a start that is carried out has its place in every row
+pub few-circuit : (s : List ℕ) (circuit readAddress writeAddress count kind : ℕ)
+    → startNumber s circuit readAddress writeAddress count kind ≡ 0 → circuit < rowWords
+few-circuit s circuit readAddress writeAddress count kind e =
+    let p = start-passed s circuit readAddress writeAddress count kind e in
+    let b = sheet-bounds (sheetIn s) (sound-parts s (p .state .is-sound) .sheet-passes) in
+    omega (arith, p .circuit-inside, b .few-circuits)
+
 -- the sheet stays
 pub start-sheet : (s : List ℕ) (circuit readAddress writeAddress count kind : ℕ) → startNumber s circuit readAddress writeAddress count kind ≡ 0
     → sheetIn (started s circuit readAddress writeAddress count kind) ≡ sheetIn s
 start-sheet s circuit readAddress writeAddress count kind e =
-    let p = start-passed s circuit readAddress writeAddress count kind e in
-    let x = sound-parts s (p .state .is-sound) in
-    let b = sheet-bounds (sheetIn s) (x .sheet-passes) in
-    started-sheet s circuit readAddress writeAddress count kind (omega (arith, p .circuit-inside, b .few-circuits))
+    started-sheet s circuit readAddress writeAddress count kind (few-circuit s circuit readAddress writeAddress count kind e)
 
 pub start-kept : (s : List ℕ) (circuit readAddress writeAddress count kind : ℕ)
     → startNumber s circuit readAddress writeAddress count kind ≡ 0

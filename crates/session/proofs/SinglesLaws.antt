@@ -16,8 +16,6 @@ use Rattle.sheet.specs.Sheet.{memoryWords, circuits, circuitAt}
 use Rattle.network.specs.View.{Sender}
 use Rattle.network.specs.Registers.{reg, sheetIn, leftRow, rowWords}
 use Rattle.soundness.specs.Sound.{kindTravels, liesIn}
-use Rattle.soundness.proofs.SoundLaws.{sound-parts}
-use Rattle.soundness.proofs.SheetLaws.{sheet-bounds}
 use Rattle.session.specs.declared.Transfer.{Transfer}
 use Rattle.session.specs.Calls.{stateNumber, startNamed, startFits, isBusy, startNumber, transferNumber, startedBy, startedNext, startedAll, answersAll}
 use Rattle.session.specs.Calls.{Lent, lend, lendState, cycle, number, does, after, afterAll, startAll, asStart, AsSingles}
@@ -25,7 +23,7 @@ use Rattle.session.proofs.NumberLaws.{start-passed}
 use Rattle.session.proofs.RegisterLaws.{started-other, started-sender}
 use Rattle.session.proofs.WritingLaws.{after-done}
 use Rattle.session.proofs.ListLaws.{all-has}
-use Rattle.session.proofs.KeptLaws.{state-passes, start-sheet}
+use Rattle.session.proofs.KeptLaws.{state-passes, few-circuit, start-sheet}
 
 -- a transfer of a list leaves what its start leaves
 pub next-is : (t : Transfer) (w : Lent) → after (asStart t) w ≡ lend (startedNext (w .state) t) (w .memory)
@@ -72,18 +70,12 @@ record Busy (s : List ℕ) (circuit : ℕ) (u : List ℕ) : Type 0 where
   same-sheet : sheetIn u ≡ sheetIn s
   some-left : 1 ≤ reg u leftRow circuit
 
-few-circuit : (t : Transfer) (s : List ℕ) → transferNumber s t ≡ 0 → t .circuit < rowWords
-few-circuit t s e =
-    let p = start-passed s (t .circuit) (t .read) (t .write) (t .count) (t .kind) e in
-    let b = sheet-bounds (sheetIn s) (sound-parts s (p .state .is-sound) .sheet-passes) in
-    omega (arith, p .circuit-inside, b .few-circuits)
-
 busy-first : (t : Transfer) (s : List ℕ) → transferNumber s t ≡ 0
     → Busy s (t .circuit) (startedBy s t)
 unfolding startNumber
 busy-first t s e =
     let p = start-passed s (t .circuit) (t .read) (t .write) (t .count) (t .kind) e in
-    let few = few-circuit t s e in
+    let few = few-circuit s (t .circuit) (t .read) (t .write) (t .count) (t .kind) e in
     let sender = started-sender s (t .circuit) (t .read) (t .write) (t .count) (t .kind) few (omega (arith, p .state .long)) in
     record {
       few = few;
@@ -96,7 +88,8 @@ busy-next : (s : List ℕ) (circuit : ℕ) (t : Transfer) (u : List ℕ) → tra
     → Busy s circuit (startedBy u t)
 busy-next s circuit t u e b =
     let p = start-passed u (t .circuit) (t .read) (t .write) (t .count) (t .kind) e in
-    let kept = started-other u (t .circuit) (t .read) (t .write) (t .count) (t .kind) (few-circuit t u e) leftRow circuit (b .few)
+    let few = few-circuit u (t .circuit) (t .read) (t .write) (t .count) (t .kind) e in
+    let kept = started-other u (t .circuit) (t .read) (t .write) (t .count) (t .kind) few leftRow circuit (b .few)
     (λ low high q. omega (arith, p .free, b .some-left, ap (reg u leftRow) q)) in
     record {
       few = b .few;
