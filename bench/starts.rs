@@ -1,5 +1,6 @@
 //! Times a list of 64 transfers on the largest sheet, lent as records and as five lists of words, against 64 single starts: a list tests
-//! the state once. Exits 1 where the bar is missed.
+//! the state once. Then a single start against words left, which tests the state and reads one word, with wires of several kinds: a start
+//! looks at every wire for words of its circuit. Exits 1 where a bar is missed.
 
 #[path = "../tests/exports.rs"]
 mod exports;
@@ -16,7 +17,15 @@ use std::process::ExitCode;
 use timing::times;
 
 const MOST_OF_THE_SINGLES: f64 = 0.05;
+const MOST_OF_WORDS_LEFT: f64 = 1.05;
 const CIRCUITS: usize = 64;
+/// The circuit that is started while the others send.
+const RESTING: usize = 5;
+const CYCLES_OF_TRAFFIC: usize = 700;
+const NORTH: usize = 0;
+const EAST: usize = 1;
+/// Seven codes of the side east.
+const ALL_EAST: u32 = 0b01_01_01_01_01_01_01;
 
 /// What the timed functions are lent; their argument is not used.
 #[derive(Default)]
@@ -79,6 +88,73 @@ fn state_after(start: timing::Asked) -> Vec<u32> {
     LENT.with_borrow(|lent| lent.state.clone())
 }
 
+/// A start of one word on the resting circuit, whose words left are taken back each time.
+fn one_start(_: &[u32]) -> u32 {
+    LENT.with_borrow_mut(|Lent { state, transfers, .. }| {
+        state[Row::Left.at(RESTING)] = 0;
+        let Transfer { circuit, read, write, kind, .. } = transfers[RESTING];
+        Exports.start(state, circuit, read, write, 1, kind)
+    })
+}
+
+fn words_left(_: &[u32]) -> u32 {
+    LENT.with_borrow_mut(|Lent { state, .. }| {
+        state[Row::Left.at(RESTING)] = 0;
+        Exports.words_left(state, RESTING as u32) as u32
+    })
+}
+
+/// The state in which all circuits but one have sent for a while.
+fn with_traffic() {
+    LENT.with_borrow_mut(|Lent { state, transfers, .. }| {
+        state[..Row::Left.at(0)].fill(0);
+        let plan = largest(1);
+        let mut memory = vec![0; plan.nodes() as usize * plan.memory_words as usize];
+        assert_eq!(Exports.load(&plan.words(), state, &memory), 0, "the largest sheet is loaded");
+        for t in transfers.iter().filter(|t| t.circuit as usize != RESTING) {
+            assert_eq!(Exports.start(state, t.circuit, t.read, t.write, t.count, t.kind), 0, "a circuit is started");
+        }
+        for _ in 0..CYCLES_OF_TRAFFIC {
+            assert_eq!(Exports.cycle(state, &mut memory), 0, "a cycle is carried out");
+        }
+    });
+}
+
+/// A header in every link and head register and on every side's output, each with an address of the resting circuit's region and none of
+/// them for its node: each is followed as far as its codes and the zeros behind them lead.
+fn with_headers() {
+    LENT.with_borrow_mut(|Lent { state, transfers, .. }| {
+        let address = transfers[RESTING].write << 16;
+        for place in 0..80 {
+            let port = place % 5;
+            // What came in by the side east would go to the memory by the code of that side.
+            let first_code = if port == EAST { NORTH } else { EAST };
+            let mut put = |mark: Row, word: Row, header: u32| {
+                state[mark.at(place)] = 1;
+                state[word.at(place)] = header;
+            };
+            put(Row::LinkMark, Row::LinkWord, address | ALL_EAST << 2 | first_code as u32);
+            put(Row::HeadMark, Row::HeadWord, address | ALL_EAST);
+            if port < 4 {
+                put(Row::OutMark, Row::OutWord, address | if port == 3 { ALL_EAST << 2 | NORTH as u32 } else { ALL_EAST });
+            }
+            state[Row::Choice.at(place)] = EAST as u32 + 1;
+        }
+    });
+}
+
+/// Times a start beside words left with the wires as they are; false where the bar is missed or the start is answered otherwise.
+fn start_beside_words_left(name: &str, wanted: u32) -> bool {
+    let number = one_start(&[]);
+    if number != wanted {
+        println!("{name}: the start is answered {number} and not {wanted}");
+        return false;
+    }
+    let (start_time, left_time, ratio) = times(&[], one_start, words_left);
+    println!("{name:<22} {start_time:>10.1} {left_time:>12.1} {ratio:>7.4}");
+    ratio <= MOST_OF_WORDS_LEFT
+}
+
 fn main() -> ExitCode {
     prepare();
     let wanted = state_after(singles);
@@ -94,5 +170,11 @@ fn main() -> ExitCode {
         println!("{name:<22} {list_time:>10.1} {singles_time:>12.1} {ratio:>7.4}");
         good &= ratio <= MOST_OF_THE_SINGLES;
     }
+    println!("{:<22} {:>10} {:>12} {:>7}", "wires", "start, ns", "left, ns", "ratio");
+    good &= start_beside_words_left("empty", 0);
+    with_traffic();
+    good &= start_beside_words_left("all but one send", 0);
+    with_headers();
+    good &= start_beside_words_left("headers everywhere", 0);
     if good { ExitCode::SUCCESS } else { ExitCode::FAILURE }
 }

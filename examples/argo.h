@@ -26,7 +26,8 @@ uint64_t argo_entries(const uint32_t *sheet, size_t sheet_words, uint32_t schedu
 uint32_t argo_load(const uint32_t *sheet, size_t sheet_words, uint32_t *state, size_t state_words, const uint32_t *memory,
                    size_t memory_words);
 
-/* Starts a transfer of a circuit: count words from the source's address read to the destination's address write; kind 0 or 2. */
+/* Starts a transfer of a circuit: count words from the source's address read to the destination's address write; kind 0 or 2. 17: words of
+   the circuit's last transfer were not sent or have not landed; it is free directly after the cycle in which the last word lands. */
 uint32_t argo_start(uint32_t *state, size_t state_words, uint32_t circuit, uint32_t read, uint32_t write, uint32_t count, uint32_t kind);
 
 /* A transfer of a list: its circuit, where its words are read and written, how many they are, and their kind. */
@@ -54,7 +55,7 @@ uint32_t argo_store(const uint32_t *state, size_t state_words, uint32_t *memory,
 uint64_t argo_fetch(const uint32_t *state, size_t state_words, const uint32_t *memory, size_t memory_words, uint32_t node,
                     uint32_t address);
 
-/* The words of a circuit's transfer that have not left yet. */
+/* The words of a circuit's transfer that have not left yet. At 0 they have all left, and the circuit is free when they have landed too. */
 uint64_t argo_words_left(const uint32_t *state, size_t state_words, uint32_t circuit);
 
 /* The present period's number. */

@@ -1,13 +1,14 @@
 /* A planner's three modes through the exported calls: the sheet (a word with its length, then its words) comes on standard input; each
-   circuit sends without end; high wind is ordered for period 3 and evacuation for period 6. Prints what lands in each period, as
-   cycle:word with the cycle within the period. Slots may differ from examples/modes.sheet; circuits and periods may not. Returns 1 where
-   a call is refused, 2 where the sheet is of other circuits or periods. */
+   circuit sends without end, a transfer as soon as the one before has landed; high wind is ordered for period 3 and evacuation for
+   period 6. Prints what lands in each period, as cycle:word with the cycle within the period. Slots may differ from examples/modes.sheet;
+   circuits and periods may not. Returns 1 where a call is refused, 2 where the sheet is of other circuits or periods. */
 #include "argo.h"
 #include <stdio.h>
 #include <stdlib.h>
 
 enum { STATE = 10278, NODES = 4, ROOM = 16, SHEET = 8597, PERIODS = 9, PERIOD = 12, CIRCUITS = 3, SCHEDULES = 3 };
 enum { CELL = PERIOD * sizeof "11:4294967295 ", ROW = 64 + CIRCUITS * CELL };
+enum { BUSY = 17 };
 
 static uint32_t sheet[SHEET], state[STATE], memory[NODES * ROOM];
 
@@ -57,16 +58,15 @@ static int is_known(void) {
     return 1;
 }
 
-/* Starts every circuit that has no words left, all by one list. */
-static void start_idle(void) {
-    struct argo_transfer idle[CIRCUITS];
+/* Starts every circuit that is free, all by one list. Of one whose last word has not landed the answer is 17: it is not yet free. */
+static void start_free(void) {
+    struct argo_transfer transfers[CIRCUITS];
     uint32_t answers[CIRCUITS];
-    size_t count = 0;
     for (uint32_t c = 0; c < CIRCUITS; c++)
-        if (argo_words_left(state, STATE, c) == 0)
-            idle[count++] = (struct argo_transfer){c, circuits[c].read, circuits[c].write, circuits[c].count, 0};
-    carried_out("list of starts", argo_start_all(state, STATE, idle, count, answers, CIRCUITS));
-    for (size_t i = 0; i < count; i++) carried_out("start", answers[i]);
+        transfers[c] = (struct argo_transfer){c, circuits[c].read, circuits[c].write, circuits[c].count, 0};
+    carried_out("list of starts", argo_start_all(state, STATE, transfers, CIRCUITS, answers, CIRCUITS));
+    for (int c = 0; c < CIRCUITS; c++)
+        if (answers[c] != BUSY) carried_out("start", answers[c]);
 }
 
 /* The circuit whose receive region has an address of a node. */
@@ -103,7 +103,7 @@ int main(void) {
         if (period == 0) carried_out("order", argo_order(state, STATE, 1, 3));
         if (period == 3) carried_out("order", argo_order(state, STATE, 2, 6));
         for (uint32_t cycle = 0; cycle < PERIOD; cycle++) {
-            start_idle();
+            start_free();
             carried_out("cycle", argo_cycle(state, STATE, memory, NODES * ROOM));
             for (uint32_t node = 0; node < NODES; node++) {
                 if (argo_landed(state, STATE, node, 0) != 1) continue;

@@ -8,7 +8,7 @@ use std::path::{Path, PathBuf};
 use std::process::ExitCode;
 
 /// Statements that stand for themselves: proofs fill them.
-const STATEMENTS: [&str; 10] = [
+const STATEMENTS: [&str; 11] = [
     "Demand3",
     "OneMachine",
     "TableHolds",
@@ -19,6 +19,7 @@ const STATEMENTS: [&str; 10] = [
     "NeverChanges",
     "AsSingles",
     "TellsSingles",
+    "BoundSettled",
 ];
 
 /// What the book may name of the inner definitions: the cycle in words, of which OneMachine says that it is the article's; and a node of

@@ -1,15 +1,21 @@
 //! Plays the same sessions through the second machine itself, read from the lent words anew
 //! for each call: against the machine that lives on, and against the reckoning of every
-//! circuit. Then machines that are wrong about sheets of no words, about unserved circuits or about
-//! lists of transfers have to be noticed. It needs no library of ours.
+//! circuit. Then machines that are wrong about sheets of no words, about unserved circuits, about
+//! lists of transfers or about words that travel have to be noticed. It needs no library of ours.
 
-use second::planted::{are_noticed, Wrong, WRONG_LOADS};
+use second::planted::{are_noticed, goes_unnoticed, Wrong, WRONG_LOADS};
 use second::planted_lists::WRONG_LISTS;
+use second::planted_travelling::{WrongTravelling, WRONG_TRAVELLING, WRONG_TRAVELLING_IN_SESSIONS};
+use second::play::{is_noticed, is_noticed_by_lists, is_noticed_by_starts};
 use std::process::ExitCode;
 
 fn main() -> ExitCode {
-    let all_noticed = are_noticed(&WRONG_LOADS, second::play::is_noticed)
-        & are_noticed(&WRONG_LISTS.map(Wrong::List), second::play::is_noticed_by_lists);
+    let wrong_travelling = [&WRONG_TRAVELLING[..], &WRONG_TRAVELLING_IN_SESSIONS].concat();
+    let wrong_travelling: Vec<Wrong> = wrong_travelling.into_iter().map(Wrong::Travelling).collect();
+    let all_noticed = are_noticed(&WRONG_LOADS, is_noticed)
+        & are_noticed(&WRONG_LISTS.map(Wrong::List), is_noticed_by_lists)
+        & are_noticed(&wrong_travelling, is_noticed_by_starts)
+        & goes_unnoticed(Wrong::Travelling(WrongTravelling::Nothing), is_noticed_by_starts);
     if !all_noticed {
         return ExitCode::FAILURE;
     }

@@ -1,6 +1,7 @@
 // The command run: the listing of what lands, as the program landings prints it.
 import { explain } from '../lib/explain.js';
-import { circuitOfLanding, KIND_NAMES, landingsOf, listingText, MOST_CYCLES } from '../lib/listing.js';
+import { circuitOfLanding } from '../lib/landings.js';
+import { KIND_NAMES, landingsOf, listingText, MOST_CYCLES } from '../lib/listing.js';
 import { callLine } from '../lib/rules.js';
 import { partsOf } from '../lib/sheet.js';
 import { holdCount, numberOption } from './arguments.js';

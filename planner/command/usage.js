@@ -84,7 +84,8 @@ exit status
   run: `usage: calqetum run FILE --cycles N [--names] [--exam] [--json]
 
 Runs a sheet with its memory and at rows for N cycles (at most 65,536) and lists what landed: cycle, node, address, word and kind
-(0 data, 2 interrupt). Where the sheet or a row is refused, the only line is 'refused N', and standard error says why.
+(0 data, 2 interrupt). Where the sheet or a row is refused, the only line is 'refused N', and standard error says why. A start is refused
+with 17 until the last word of its circuit's transfer before has landed.
   --names  names the circuit and the kind behind each line
 ${EXAM}
 ${JSON_OPTION}
@@ -98,7 +99,8 @@ Of a refused sheet with over 8 modes the first 8 are drawn.
   -o F.svg     where the picture goes; - is standard output. No .csv, .tsv, .sheet or .words is written over
   --mode NAME  one mode alone
   --grid       draws the nodes with the words under way instead: what the at rows of the file do; or with every circuit kept sending,
-               where the file has no at rows or a mode is named (without --mode the first)
+               where the file has no at rows or a mode is named (without --mode the first). A circuit that is kept sending starts its next
+               transfer when the last word of the one before has landed
   --cycles N   so many cycles, animated: 1 to 400 (if not given, three periods, but at most 120)
   --cycle T    one cycle, still
   --exam       circuits and slots stay in the order of the rows

@@ -58,6 +58,8 @@ function callsOf(exported) {
 
   const state = [statePlace * 4, BigInt(stateWords)];
   const memory = () => [memoryPlace * 4, BigInt(memoryWords)];
+  const lentState = () => words.subarray(statePlace, statePlace + stateWords);
+  const lentMemory = () => words.subarray(memoryPlace, memoryPlace + memoryWords);
 
   return {
     stateWords,
@@ -112,10 +114,19 @@ function callsOf(exported) {
       return field(0) === 1 ? { kind: field(1), address: field(2), word: field(3) } : null;
     },
 
+    // Makes calls on the session to see what they answer, and puts every lent word back as it was.
+    asIf(ask) {
+      const kept = [lentState().slice(), lentMemory().slice()];
+      const told = ask();
+      lentState().set(kept[0]);
+      lentMemory().set(kept[1]);
+      return told;
+    },
+
     // A register of the state (docs/STATE.md), read for pictures; and all lent words, for tests.
     register: (row, place) => words[statePlace + row * ROW_WORDS + place],
-    lentState: () => words.subarray(statePlace, statePlace + stateWords),
-    lentMemory: () => words.subarray(memoryPlace, memoryPlace + memoryWords),
+    lentState,
+    lentMemory,
     lendMemory(length) {
       reach(listPlace);
       memoryWords = length;

@@ -1,5 +1,6 @@
 // Listings of what landed, as the program landings prints them (docs/INTERFACE.md), with the circuit and the kind in words where asked.
 import { cut } from './document.js';
+import { circuitOfLanding } from './landings.js';
 import { MOST_NAME } from './plan.js';
 import { callsOfPlan, openRun } from './run.js';
 import { partsOf } from './sheet.js';
@@ -26,15 +27,6 @@ export function landingsOf(calls, document, cycles, told = () => {}) {
 // One landing as the listing has it.
 export function landingLine(cycle, { node, address, word, kind }) {
   return `${cycle} ${node} ${address} ${word} ${kind}`;
-}
-
-// The number of the circuit whose landing it is, by its destination and receive region; null where it is none's.
-export function circuitOfLanding(parts, landing) {
-  const own = parts.circuits.find(({ words }) => {
-    const [, destination, , , offset, length] = words;
-    return destination === landing.node && landing.address >= offset && landing.address < offset + length;
-  });
-  return own ? own.number : null;
 }
 
 // The lines of frames (each a cycle and what landed in it), by cycle, then node. With a document, behind each line a comment names the

@@ -4,6 +4,7 @@ import { ROWS } from './calls.js';
 import { capital, circuitName, counted, modeName } from './naming.js';
 import { KINDS } from './plan.js';
 import { partsOf } from './sheet.js';
+import { underWay } from './under_way.js';
 
 const rule = (title, text) => ({ title, text });
 
@@ -64,7 +65,10 @@ export const RULES = {
     'A transfer does not fit its circuit',
     'A transfer has at least one word, an interrupt exactly one; all are read in the read region and written in the receive region.',
   ),
-  17: rule('The circuit is still sending', 'A transfer can start when no words of the one before are left.'),
+  17: rule(
+    'The last transfer of the circuit has not landed',
+    'A transfer can start when the last word of the one before has landed; until then words of it are left to send or under way.',
+  ),
   18: rule('A switch is ordered already', 'One order can be pending; the next can be given when its period has begun.'),
   19: rule(
     'A switch is ordered for a period that is too near or past',
@@ -100,13 +104,14 @@ export function triedLine({ text, number }, before, right) {
 export const SHEET_NUMBERS = [1, 2, 3, 4, 5, 6, 7, 8, 9, 10, 11, 26];
 
 // The columns of the cells of a row, as plan.js reads them.
-const START = { circuit: 3, read: 4, write: 5, count: 6, kind: 7 };
+const START = { cycle: 1, circuit: 3, read: 4, write: 5, count: 6, kind: 7 };
 const STORE = { node: 3, address: 4 };
 const MEMORY = { node: 1, address: 2 };
 const ORDER = { mode: 3, period: 4 };
 const PERIODS = 4294967296;
 
-// Why a call of a run was refused, as one sentence. `refused` is as run.js gives it; with that run's calls it says what is left or pending.
+// Why a call of a run was refused, as one sentence. `refused` is as run.js gives it; with that run's calls it says what is left, under way
+// or pending.
 export function callLine(document, refused, calls = null) {
   const { what, number, row } = refused;
   const reasons = Object.hasOwn(REASONS, what) ? REASONS[what](document, refused, calls) : [];
@@ -152,10 +157,7 @@ const REASONS = {
   start(document, refused, calls) {
     if (refused.number === 15) return unknownInStart(document, refused);
     if (refused.number === 16) return unfitStart(document, refused);
-    if (refused.number !== 17) return [];
-    const circuit = refused.arguments[0];
-    const left = calls ? counted(calls.wordsLeft(circuit).value, 'word') : 'words';
-    return [`${knownCircuit(document, circuit)}${cellText(refused.row, START.circuit)} has ${left} of its last transfer left to send`];
+    return refused.number === 17 ? [busyText(document, refused, calls)] : [];
   },
   store(document, refused) {
     if (refused.number !== 15) return [];
@@ -209,6 +211,26 @@ function outside(what, address, count, offset, length, cell, region) {
   if (address >= offset && address + count <= offset + length) return [];
   const words = `${counted(count, 'word')} from ${what} address ${address}${cell} on end at address ${address + count - 1}`;
   return [`${words}, and the ${region} of the circuit is ${offset} to ${offset + length - 1}`];
+}
+
+// A circuit is busy while words of its last transfer are left to send, and then until the last of them has landed.
+function busyText(document, refused, calls) {
+  const [number] = refused.arguments;
+  const circuit = `${knownCircuit(document, number)}${cellText(refused.row, START.circuit)}`;
+  if (!calls) return `${circuit} has words of its last transfer that were not sent or have not landed`;
+  const left = calls.wordsLeft(number).value;
+  if (left === 0) return underWayText(circuit, refused, underWay(calls, document.words, refused));
+  const free = `the next can start when ${left === 1 ? 'it' : 'the last of them'} has landed`;
+  return `${circuit} has ${counted(left, 'word')} of its last transfer left to send; ${free}`;
+}
+
+// All words were sent; `found` is what the proved calls say of those that have not landed.
+function underWayText(circuit, { cycle, row }, found) {
+  if (!found) return `${circuit} has sent its last transfer, but words of it have not landed`;
+  const [words, last] = found.count === 1 ? ['1 word of it has', 'it'] : [`${found.count} words of it have`, 'the last'];
+  const early = `cycle ${cycle}${cellText(row, START.cycle)} is too early`;
+  const landing = `${last} lands in cycle ${found.cycle - 1}, so that the earliest cycle for this start is ${found.cycle}`;
+  return `${early}: ${circuit} has sent its last transfer, but ${words} not landed; ${landing}`;
 }
 
 function pendingText(document, calls) {

@@ -1,6 +1,7 @@
 // A run of a sheet by the proved calls: the load, the memory rows as stores, then cycle after cycle, each behind the acts of its rows.
 // What is on a wire and what landed is read from the session; nothing is stepped here.
 import { ROWS } from './calls.js';
+import { circuitOfLanding, landingsNow } from './landings.js';
 import { unservedCircuits } from './served.js';
 import { partsOf, wordsOf } from './sheet.js';
 
@@ -82,10 +83,12 @@ function startTogether(calls, transfers) {
   return numbers;
 }
 
-// Starts every circuit that has no words left.
-function startIdle(calls, parts) {
-  const idle = parts.circuits.filter(({ number }) => calls.register(ROWS.left, number) === 0);
-  const transfers = idle.map(({ number, words: [, , readOffset, readLength, receiveOffset, receiveLength] }) => {
+// Starts every circuit that is free. Before the first cycle all are tried, then those that have no words left to send and for which a word
+// landed in the last cycle: only a landing makes a circuit free. Whether it did is the call's to say, and 17 means not yet.
+function startFree(calls, parts, landed) {
+  const reached = landed && new Set(landed.map((landing) => circuitOfLanding(parts, landing)));
+  const tried = parts.circuits.filter(({ number }) => !reached || (reached.has(number) && calls.register(ROWS.left, number) === 0));
+  const transfers = tried.map(({ number, words: [, , readOffset, readLength, receiveOffset, receiveLength] }) => {
     return [number, readOffset, receiveOffset, Math.min(readLength, receiveLength, MOST_SENT), 0];
   });
   startTogether(calls, transfers);
@@ -123,11 +126,12 @@ export function openRun(calls, words, { stores = [], acts = [], sending = false 
   run.refused = carryOutActs(calls, elsewhere);
   if (run.refused) return run;
   let next = 0;
+  let landed = null;
 
   // Carries out the acts of the present cycle and the cycle; null where one is refused.
   run.step = () => {
     if (run.refused) return null;
-    if (sending) startIdle(calls, parts);
+    if (sending) startFree(calls, parts, landed);
     else {
       const begin = next;
       while (next < acts.length && acts[next].cycle <= run.cycle) next++;
@@ -141,13 +145,14 @@ export function openRun(calls, words, { stores = [], acts = [], sending = false 
       refuse(number, { what: 'cycle', row: null, column: null });
       return null;
     }
+    landed = landingsNow(calls, run.nodes);
     const frame = {
       cycle: run.cycle,
       cycleInPeriod: clock[0],
       period: clock[1],
       mode: clock[2],
       wires: [...sources(calls, run.nodes), ...wires],
-      landings: landings(calls, run.nodes),
+      landings: landed,
     };
     run.cycle++;
     return frame;
@@ -173,17 +178,6 @@ function sources(calls, nodes) {
   for (let node = 0; node < nodes; node++) {
     const mark = calls.register(ROWS.linkMark, PORTS * node + 4);
     if (mark !== 0) found.push({ node, wire: SOURCE_WIRE, mark, word: calls.register(ROWS.linkWord, PORTS * node + 4) });
-  }
-  return found;
-}
-
-// What landed in the last cycle, by node. The register is looked at first, since each call tests the whole state.
-function landings(calls, nodes) {
-  const found = [];
-  for (let node = 0; node < nodes; node++) {
-    if (calls.register(ROWS.landingMark, node) === 0) continue;
-    const landing = calls.landing(node);
-    if (landing) found.push({ node, ...landing });
   }
   return found;
 }

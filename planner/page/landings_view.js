@@ -1,6 +1,7 @@
 // The landing list: a run of the file's rows, as the command run lists it, some milliseconds at a time so that the page goes on answering.
 import { element } from '../lib/markup.js';
-import { KIND_NAMES, MOST_CYCLES, circuitOfLanding } from '../lib/listing.js';
+import { circuitOfLanding } from '../lib/landings.js';
+import { KIND_NAMES, MOST_CYCLES } from '../lib/listing.js';
 import { callsOfPlan, openRun } from '../lib/run.js';
 import { partsOf } from '../lib/sheet.js';
 import { byId, fill } from './dom.js';

@@ -115,6 +115,11 @@ test('run: the listing, names, a refused sheet, a refused row', () => {
   gives(['run', example('cable-car-clash.csv'), '--cycles', '9'], 1, 'refused 11\n', /number 11/);
   const busy = written('busy.csv', text('key.csv') + 'at;3;start;first;0;0;1;data\n');
   gives(['run', busy, '--cycles', '20'], 1, 'refused 17\n', /busy\.csv: refused with number 17: .*first/);
+  const early = written('early.csv', text('key.csv') + 'at;12;start;first;0;0;1;data\n');
+  gives(['run', early, '--cycles', '20'], 1, 'refused 17\n', /early\.csv: .*1 word of it has not landed; .* this start is 17\.$/m);
+  assert.match(json(['run', early, '--cycles', '20'], 1).why[0], /^Row 8: .*cycle 12 \(B8\) is too early: circuit first \(D8\)/);
+  const landed = written('landed.csv', text('key.csv') + 'at;17;start;first;0;0;1;data\n');
+  gives(['run', landed, '--cycles', '30'], 0, `${text('key.listing')}25 1 0 11 0\n`);
   const found = json(['run', example('key.csv'), '--cycles', '20'], 0);
   assert.deepEqual(found.landings[0], { cycle: 7, node: 1, kind: 0, address: 0, word: 11, circuit: 'first', kindName: 'data' });
   gives(['run', example('key.csv'), '--cycles', '65537'], 2, '', /from 0 to 65,536, and not 65537/);

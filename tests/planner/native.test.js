@@ -55,7 +55,7 @@ test('20,000 verdicts, and where entries lie', () => {
 test('100,000 calls on sessions, with words of the state poked', () => {
   const random = seeded(2);
   const record = recordOf(calls);
-  const [numbers, seen] = [counter(), { landed: 0, switched: 0, crowded: 0, none: 0, listed: counter() }];
+  const [numbers, seen] = [counter(), { landed: 0, switched: 0, crowded: 0, none: 0, underWay: 0, listedUnderWay: 0, listed: counter() }];
   while (numbers.sum() < SESSION_CALLS) playSession(random, record, passes, numbers, seen);
   assert.equal(record.difference(), null);
   const { counts } = numbers;
@@ -63,6 +63,8 @@ test('100,000 calls on sessions, with words of the state poked', () => {
   for (let number = 13; number <= 21; number++) assert.ok(counts[number] >= 100, `number ${number}: ${counts[number]} calls`);
   assert.ok(counts[26] >= 20, `${counts[26]} loads were refused with number 26`);
   for (const number of [0, 15, 16, 17]) assert.ok(seen.listed.counts[number] >= 100, `${number} answers ${seen.listed.counts[number]} transfers`);
+  assert.ok(seen.underWay >= 100, `${seen.underWay} starts got 17 by words under way`);
+  assert.ok(seen.listedUnderWay >= 100, `${seen.listedUnderWay} transfers of lists got 17 by words under way`);
   assert.ok(seen.landed >= 1000, `${seen.landed} landings were seen`);
   assert.ok(seen.switched >= 100, `${seen.switched} switches were seen`);
   assert.ok(seen.crowded >= 20, `${seen.crowded} sessions had 16 circuits or more`);

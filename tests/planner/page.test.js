@@ -215,6 +215,19 @@ test('a refused call of the rows is marked in its cell', async () => {
   assert.match(await textOf('#cell-help'), /^F7: write\. Row 7:/);
 });
 
+test('a start before the last word has landed is refused with 17, and carried out in the cycle that is told', async () => {
+  const rows = readFileSync(example('key.csv'), 'utf8').replace(';3;data', ';2;data') + 'at;8;start;first;0;0;2;data\n';
+  await upload(written('early.csv', rows));
+  await browser.until("return document.getElementById('landings-note').textContent.includes('17')");
+  assert.ok((await isMarked('B8')) && (await isMarked('D8')) && !(await isMarked('C8')));
+  assert.match(await textOf('#explanation'), /Row 8.*17: cycle 8 \(B8\) is too early: circuit first \(D8\).*lands in cycle 8.*is 9\./s);
+  await type('B8', '9');
+  await browser.press('Enter');
+  await browser.until("return document.getElementById('landings-note').textContent.startsWith('4 words land')");
+  assert.ok(!(await isMarked('B8')) && !(await isMarked('D8')));
+  assert.equal(await textOf('#explanation'), '');
+});
+
 test('two sheets are compared', async () => {
   await upload(example('cable-car.csv'));
   await says('passes');

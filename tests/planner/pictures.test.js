@@ -112,7 +112,7 @@ test('hostile names are escaped in every picture', () => {
 test('a grid of frames: one size, each word and each landing told, a node and a cycle in words', () => {
   const draw = random(8);
   for (const [columns, rows] of [[2, 2], [3, 2], [4, 4]]) {
-    const parts = { columns, rows, memory: 512, circuits: circuitsOn(draw, columns, rows, 8, true), schedules: [] };
+    const parts = { columns, rows, memory: 2048, circuits: circuitsOn(draw, columns, rows, 8, true), schedules: [] };
     parts.schedules = [passingSchedule(draw, calls, parts, 20, 20)];
     const document = documentOf(wordsOf(served(parts)), (number) => `c${number}`, () => 'only');
     const frames = sendingFrames(calls, document.words, 45);

@@ -83,7 +83,7 @@ const CASES = [
     ['at;0;start;speed;0;0;4;data', 'at;13;start;speed;0;0;1;data'],
     17,
     'Row 13: the start of 1 word by circuit speed in cycle 13 is refused by number 17: circuit speed (D13) has 3 words of its last ' +
-      'transfer left to send.',
+      'transfer left to send; the next can start when the last of them has landed.',
   ],
   [
     ['at;0;order;high wind;5', 'at;13;order;normal;6'],
@@ -105,6 +105,37 @@ const CASES = [
   ],
 ];
 
+// Words that left in cycles 3 to 5 land 6 cycles later: rows directly before and behind the landings, and one that is the last to be sent.
+CASES.push(
+  [
+    ['at;0;start;cabin;0;4;3;data', 'at;5;start;cabin;0;4;1;data'],
+    17,
+    'Row 13: the start of 1 word by circuit cabin in cycle 5 is refused by number 17: circuit cabin (D13) has 1 word of its last transfer ' +
+      'left to send; the next can start when it has landed.',
+  ],
+  [
+    ['at;0;start;cabin;0;4;3;data', 'at;6;start;cabin;0;4;1;data'],
+    17,
+    'Row 13: the start of 1 word by circuit cabin in cycle 6 is refused by number 17: cycle 6 (B13) is too early: circuit cabin (D13) has ' +
+      'sent its last transfer, but 3 words of it have not landed; the last lands in cycle 11, so that the earliest cycle for this start ' +
+      'is 12.',
+  ],
+  [
+    ['at;0;start;cabin;0;4;3;data', 'at;11;start;cabin;0;4;1;interrupt'],
+    17,
+    'Row 13: the start of an interrupt by circuit cabin in cycle 11 is refused by number 17: cycle 11 (B13) is too early: circuit cabin ' +
+      '(D13) has sent its last transfer, but 1 word of it has not landed; it lands in cycle 11, so that the earliest cycle for this start ' +
+      'is 12.',
+  ],
+  [
+    // Number 16 comes before 17, also where words are under way.
+    ['at;0;start;cabin;0;4;3;data', 'at;11;start;cabin;0;4;0;data'],
+    16,
+    'Row 13: the start of 0 words by circuit cabin in cycle 11 is refused by number 16: the count is 0 (G13), and a transfer has at ' +
+      'least one word.',
+  ],
+);
+
 for (const [more, number, line] of CASES) {
   test(`${number}: ${more.join(' ')}`, () => {
     const { document, refused } = refusedRun(more);
@@ -118,7 +149,7 @@ test('without the calls of the run, what is left or pending is not told', () => 
     const { document, refused } = refusedRun(more);
     return callLine(document, refused);
   });
-  assert.match(lines[0], /circuit speed \(D13\) has words of its last transfer left to send\.$/);
+  assert.match(lines[0], /circuit speed \(D13\) has words of its last transfer that were not sent or have not landed\.$/);
   assert.match(lines[1], /an earlier order is pending; the next can be given when its period has begun\.$/);
   assert.match(lines[2], /period 4 \(E12\) is not at least three periods ahead\.$/);
 });

@@ -12,6 +12,8 @@ const calls = await openProved();
 const passes = (words) => calls.verdict(words) === 0;
 const RUNS = 400;
 const CYCLES = 30;
+const SENDING_RUNS = 100;
+const SENDING_CYCLES = 60;
 
 // The same calls, by which every start that is made is noted: alone, or with how many others and how it was answered.
 function watched() {
@@ -109,7 +111,7 @@ test('more starts in a cycle than a list may have are two lists, and the first t
   assert.deepEqual({ number: run.refused.number, row: run.refused.row }, { number: 17, row: 64 });
 });
 
-test('where every circuit sends, the idle ones of a cycle are one list', () => {
+test('where every circuit sends, the free ones of a cycle are one list', () => {
   const words = largestSheet(seeded(18), passes);
   const { made, calls: noted } = watched();
   const run = openRun(noted, words, { sending: true });
@@ -117,5 +119,45 @@ test('where every circuit sends, the idle ones of a cycle are one list', () => {
   assert.equal(made.alone, 0);
   assert.equal(made.lists[0], 64);
   assert.ok(made.lists.length <= 40, `${made.lists.length} lists`);
-  assert.deepEqual(new Set(made.answers), new Set([0]), 'a busy circuit is not started');
+  assert.deepEqual(new Set(made.answers), new Set([0]), 'of 64 circuits with so many words no busy one is tried');
+});
+
+// The transfers with which circuits are kept sending, and what their nodes hold.
+function traffic(parts) {
+  const transfers = parts.circuits.map(({ number, words: [, , read, readLength, receive, receiveLength] }) => {
+    return [number, read, receive, Math.min(readLength, receiveLength), 0];
+  });
+  const stores = parts.circuits.flatMap(({ number, words: [source, , read, readLength] }) =>
+    Array.from({ length: readLength }, (_, at) => ({ what: 'store', arguments: [source, read + at, (number + 1) * 100 + at] })),
+  );
+  return { transfers, stores };
+}
+
+// What a run would be if every circuit were tried before every cycle by a call of its own, 17 being not yet.
+function triedAlways(other, words, seen) {
+  const { transfers, stores } = traffic(partsOf(words));
+  const run = openRun(other, words, { stores });
+  return Array.from({ length: SENDING_CYCLES }, () => {
+    for (const transfer of transfers) {
+      const number = other.start(...transfer);
+      assert.ok(number === 0 || number === 17, `number ${number}`);
+      if (number === 17 && other.wordsLeft(transfer[0]).value === 0) seen.underWay++;
+      seen.tried++;
+    }
+    return run.step();
+  });
+}
+
+test('where every circuit sends, it is as if each were tried before every cycle, and few are tried in vain', async () => {
+  const random = seeded(19);
+  const other = await openProved();
+  const seen = { tried: 0, underWay: 0, started: 0, inVain: 0 };
+  for (let turn = 0; turn < SENDING_RUNS; turn++) {
+    const words = wordsOf(sheetParts(random, passes, { circuits: 8, period: 16, slots: 12, memory: 24 }));
+    const { made, calls: noted } = watched();
+    const run = openRun(noted, words, { sending: true });
+    assert.deepEqual(Array.from({ length: SENDING_CYCLES }, () => run.step()), triedAlways(other, words, seen));
+    for (const number of made.answers) seen[number === 0 ? 'started' : 'inVain']++;
+  }
+  assert.ok(seen.started > 1000 && seen.underWay > 1000 && seen.inVain < seen.underWay / 10, JSON.stringify(seen));
 });

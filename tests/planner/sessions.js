@@ -6,6 +6,8 @@ const STRANGE = [64, 65, 0x7fffffff, 0x80000000, 0xffffffff];
 const ROW_WORDS = 80;
 const SHEET_PLACE = 1680;
 const LANDING_MARK_ROW = 12;
+const LEFT_ROW = 16;
+const BUSY = 17;
 // The rows that hold marks, choices or kinds (docs/STATE.md); the others hold words, addresses and counts.
 const SMALL_ROWS = new Set([1, 3, 5, 6, 7, 9, 10, 12, 13, 19, 20]);
 
@@ -100,7 +102,7 @@ const HUGE = { ...USUAL, memory: 16384 };
 
 // A sheet with what is in the memories, and as it is looked at to choose arguments.
 function openSession(random, record, passes) {
-  const most = random.chance(0.005) ? HUGE : random.chance(0.15) ? CROWDED : USUAL;
+  const most = random.chance(0.005) ? HUGE : random.chance(0.2) ? CROWDED : USUAL;
   // Now and then no words, which stand for an idle network.
   const none = random.chance(0.08);
   const parts = none ? partsOf([]) : sheetParts(random, passes, most);
@@ -110,12 +112,23 @@ function openSession(random, record, passes) {
   return { record, parts, words, given: none ? [] : words, contents, nodes, register: record.calls.register };
 }
 
+// Counts starts that are refused with 17 though their circuits have no words left to send: words of theirs are under way. A refused start
+// changes nothing, and a list that started such a circuit before would leave it words to send.
+function countUnderWay(session, [name, ...list], answer, seen) {
+  const isUnderWay = (circuit, number) => number === BUSY && session.register(LEFT_ROW, circuit) === 0;
+  if (name === 'start' && isUnderWay(list[0], answer.number)) seen.underWay++;
+  if (name !== 'startAll' && name !== 'startLists') return;
+  const circuits = name === 'startAll' ? list[0].map(([circuit]) => circuit) : list[0][0];
+  if (answer.number === 0) seen.listedUnderWay += circuits.filter((circuit, at) => isUnderWay(circuit, answer.answers[at])).length;
+}
+
 // Makes a call and counts it by its number. A switch is counted; where a word landed, every field of it is asked for.
 function maker(session, numbers, seen) {
   return function make([name, ...list]) {
     const before = session.register(0, 2);
     const answer = session.record.call(name, ...list);
     numbers.add(answer.number);
+    countUnderWay(session, [name, ...list], answer, seen);
     if (name === 'startAll' && answer.number === 0) for (const told of answer.answers.slice(0, list[0].length)) seen.listed.add(told);
     if (name !== 'cycle' || answer.number !== 0) return answer;
     if (session.register(0, 2) !== before) seen.switched++;

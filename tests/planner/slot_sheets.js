@@ -5,10 +5,12 @@ import { openRun } from '../../planner/lib/run.js';
 import { wordsOf } from '../../planner/lib/sheet.js';
 import { served } from './sheets.js';
 
-const MEMORY = 512;
+const MEMORY = 2048;
+// As many words as a source can send in three periods of 30 cycles.
+const MANY = 90;
 
-// Circuits on a grid, sorted as the rules want them, their regions apart. Each has one length of slot; with `full` its regions hold whole
-// packets of that length, so that a circuit that is kept sending fills each slot.
+// Circuits on a grid, sorted as the rules want them, their regions apart. Each has one length of slot; with `full` its regions hold all
+// words of a test, so that a circuit that is kept sending fills each slot: the next transfer would have to wait for the last landing.
 export function circuitsOn(random, columns, rows, count, full) {
   const nodes = columns * rows;
   const free = new Array(nodes).fill(0);
@@ -18,7 +20,7 @@ export function circuitsOn(random, columns, rows, count, full) {
     const source = random.below(nodes);
     const destination = (source + random.between(1, nodes - 1)) % nodes;
     const length = random.between(2, 7);
-    const size = full ? (length - 1) * random.between(1, 3) : random.between(1, 9);
+    const size = full ? MANY : random.between(1, 9);
     circuits.push({ length, words: [source, destination, take(source, size), size, take(destination, size), size] });
   }
   circuits.sort((a, b) => a.words[1] - b.words[1] || a.words[4] - b.words[4]);

@@ -86,6 +86,14 @@ impl Call {
         }
     }
 
+    /// What is to be started, by a single start or by a list.
+    pub fn starts(&self) -> Vec<Transfer> {
+        match *self {
+            Call::Start { circuit, read, write, count, kind } => vec![Transfer { circuit, read, write, count, kind }],
+            _ => self.transfers().unwrap_or_default(),
+        }
+    }
+
     /// The call for a reader; a long sheet or list is cut.
     pub fn start_of_text(&self) -> String {
         format!("{self:?}").chars().take(300).collect()
@@ -194,9 +202,11 @@ impl Second {
         self.machine.as_ref().expect("a load was carried out")
     }
 
-    /// Takes up a sound state that was made by hand.
+    /// Takes up a sound state of which only the clock was made by hand.
     pub fn take_up(&mut self, state: &[u32]) {
-        self.machine = Some(self.reader.from_words(state).expect("a sound state"));
+        let mut taken = self.reader.from_words(state).expect("a sound state");
+        taken.go_on_counting_from(self.view());
+        self.machine = Some(taken);
     }
 
     fn machine(&mut self, state: &[u32]) -> Result<&mut Machine, u32> {

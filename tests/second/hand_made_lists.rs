@@ -34,7 +34,7 @@ fn interrupt(circuit: u32, read: u32, write: u32, count: u32) -> Transfer {
 }
 
 /// The registers that a start writes.
-fn started(transfer: &Transfer) -> Vec<(usize, u32)> {
+pub fn started(transfer: &Transfer) -> Vec<(usize, u32)> {
     let circuit = transfer.circuit as usize;
     vec![
         (Row::Left.at(circuit), transfer.count),
@@ -106,7 +106,7 @@ fn several_circuits(all: &mut Collection, plan: &Plan) {
     let answered = [(data(1, 2, 4, 4), 17), (data(0, 1, 0, 3), 0), (data(1, 5, 7, 1), 17), (data(2, 2, 7, 1), 0)];
     all.add_taken_on("a circuit has words left", busy.clone(), &answered);
     all.add_taken_on("15 and 16 before words left", busy, &[(data(1, 8, 4, 1), 15), (data(1, 2, 4, 5), 16)]);
-    // Words left alone make a circuit busy.
+    // What is beside no words left makes no circuit busy.
     let old_rest = rest_in(plan, 0, 0, 0);
     all.add_taken_on("a circuit had words left", old_rest, &[(data(0, 2, 1, 2), 0), (data(0, 2, 1, 2), 17)]);
 }

@@ -272,6 +272,7 @@ impl Reader {
         let sheet = self.sheet(&state[SHEET..SHEET + length]).map_err(|number| vec![Clause::Sheet(number)])?;
         let mut machine = Machine::new(sheet);
         machine.each_register(|place, register| *register = state[place]);
+        machine.forget_count();
         let broken = machine.broken_clauses();
         if broken.is_empty() {
             Ok(machine)

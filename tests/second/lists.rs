@@ -3,8 +3,8 @@
 //!
 //! Covered: no record to 64, and more (21); as many words for answers, more and fewer (21); records
 //! that are right, wrong in each way of 15 and 16, repeated, at the ends of regions and with words
-//! of any size; circuits that are free, that have words left, and that an earlier record started;
-//! lists of words of different lengths (21); short states, with all of these (12).
+//! of any size; circuits that are free, that have words left or travelling, and that an earlier record
+//! started; lists of words of different lengths (21); short states, with all of these (12).
 //! Not covered: unsound states (13), which tests/states.rs has.
 
 use super::calls::{lists_of, Call, FIELDS};
@@ -12,8 +12,9 @@ use super::machine::{Machine, Transfer, DATA, INTERRUPT, MOST_TRANSFERS};
 use super::sessions::{Generator, Made, Start};
 
 /// The ways in which lists are made.
-pub const LIST_WAYS: [&str; 22] = [
+pub const LIST_WAYS: [&str; 23] = [
     "list: any records",
+    "list: about a landing",
     "list: every circuit",
     "list: no records, no answer words",
     "list: no records, some answer words",
@@ -55,13 +56,13 @@ pub fn unanswered(count: usize) -> Vec<u32> {
 struct List {
     starts: Vec<Start>,
     answers: Vec<u32>,
-    /// Which circuits have words left behind the records so far.
+    /// Which circuits are busy behind the records so far.
     busy: Vec<bool>,
 }
 
 impl List {
     fn new(machine: &Machine) -> List {
-        let busy = machine.senders.iter().map(|sender| sender.left > 0).collect();
+        let busy = (0..machine.senders.len()).map(|circuit| machine.is_busy(circuit)).collect();
         List { starts: Vec::new(), answers: Vec::new(), busy }
     }
 
@@ -227,8 +228,8 @@ impl Generator {
         self.made(name, Call::StartLists { lists, answers }, 21)
     }
 
-    /// Records that depend on each other; a list of any where all circuits have words left.
-    fn list_on_free_circuit(&mut self, machine: &Machine) -> Made {
+    /// Records that depend on each other; a list of any where all circuits are busy.
+    pub fn list_on_free_circuit(&mut self, machine: &Machine) -> Made {
         let mut list = List::new(machine);
         let circuits = self.circuits_in_any_order(machine);
         let Some(circuit) = circuits.into_iter().find(|&circuit| !list.busy[circuit]) else {
@@ -300,6 +301,22 @@ impl Generator {
             circuits.swap(place, self.random.position(place + 1));
         }
         circuits
+    }
+
+    /// A start among some others, and now and then behind itself.
+    pub fn list_about_landings(&mut self, start: Start, machine: &Machine) -> Made {
+        let mut list = List::new(machine);
+        for _ in 0..self.random.between(0, 2) {
+            self.add_any(&mut list);
+        }
+        list.add(start);
+        if self.random.once_in(4) {
+            list.add(start);
+        }
+        for _ in 0..self.random.between(0, 2) {
+            self.add_any(&mut list);
+        }
+        self.taken_list("list: about a landing", list)
     }
 
     /// Both kinds on one circuit, in any order, now and then behind an interrupt of two words.

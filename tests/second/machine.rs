@@ -2,8 +2,9 @@
 //! three stages, senders, receive units, the clock and the order, and the ten calls upon them. What the papers leave free and
 //! the causes of number 20 are as docs/STATE.md lists them. Every register there is a field here. A machine's sheet has
 //! passed the second checker once, when the machine was made: by 1 to 11 and 26 for a load, by 1 to 11 for a state.
+//! Which circuits have words travelling (17) is counted since the load; travelling.rs reads it off registers instead.
 
-use super::checker::{self, Entry, Schedule, Sheet, Side};
+use super::checker::{self, Circuit, Entry, Schedule, Sheet, Side};
 use std::ops::Range;
 use std::rc::Rc;
 
@@ -129,7 +130,7 @@ pub enum Fault {
 pub struct CheckedSheet {
     pub words: Vec<u32>,
     pub sheet: Sheet,
-    neighbours: Vec<[usize; 4]>,
+    pub neighbours: Vec<[usize; 4]>,
 }
 
 impl CheckedSheet {
@@ -175,16 +176,16 @@ pub fn kind_of(header: u32) -> u32 {
     header >> 30
 }
 
-fn address_of(header: u32) -> u32 {
+pub fn address_of(header: u32) -> u32 {
     header >> 16 & 0x3FFF
 }
 
-fn shifted(header: u32) -> u32 {
+pub fn shifted(header: u32) -> u32 {
     (header & 0xFFFF_0000) | (header & 0xFFFF) >> 2
 }
 
 /// The output that a header asks for: the code of the side it came in by means the memory.
-fn output_of(header: u32, input: usize) -> usize {
+pub fn output_of(header: u32, input: usize) -> usize {
     let code = (header & 3) as usize;
     if code == input {
         MEMORY
@@ -281,6 +282,8 @@ pub struct Machine {
     pub clock: Clock,
     pub nodes: Vec<Node>,
     pub senders: Vec<Sender>,
+    /// By circuit, the words that left and have not landed; nothing where nobody counted from the load on.
+    counted: Option<Vec<u32>>,
 }
 
 impl Machine {
@@ -290,8 +293,33 @@ impl Machine {
             clock: Clock::default(),
             nodes: vec![Node::default(); sheet.nodes()],
             senders: vec![Sender::default(); sheet.sheet.circuits.len()],
+            counted: Some(vec![0; sheet.sheet.circuits.len()]),
             sheet,
         }
+    }
+
+    /// The registers are someone else's, who kept no count.
+    pub fn forget_count(&mut self) {
+        self.counted = None;
+    }
+
+    /// The registers are as the other machine left them, but for the clock.
+    pub fn go_on_counting_from(&mut self, other: &Machine) {
+        self.counted = other.counted.clone();
+    }
+
+    /// The words of a circuit that left and have not landed, where they are counted.
+    pub fn words_travelling(&self, circuit: usize) -> Option<u32> {
+        self.counted.as_ref().map(|counted| counted[circuit])
+    }
+
+    /// A circuit is busy until its last word has landed.
+    pub fn is_busy(&self, circuit: usize) -> bool {
+        let travels = || match self.words_travelling(circuit) {
+            Some(words) => words > 0,
+            None => self.shows_words_travelling(circuit),
+        };
+        self.senders[circuit].left > 0 || travels()
     }
 
     pub fn start(&mut self, circuit: u32, read: u32, write: u32, count: u32, kind: u32) -> Result<(), u32> {
@@ -310,10 +338,10 @@ impl Machine {
         {
             return Err(16);
         }
-        let sender = &mut self.senders[circuit as usize];
-        if sender.left > 0 {
+        if self.is_busy(circuit as usize) {
             return Err(17);
         }
+        let sender = &mut self.senders[circuit as usize];
         *sender = Sender { left: count, read, write, kind, to_go: sender.to_go };
         Ok(())
     }
@@ -390,6 +418,7 @@ impl Machine {
         let put_by_sources = self.source_wires(memory, opening.clone());
         self.advance_senders(opening);
         self.advance_nodes(memory, &put_by_sources);
+        self.count_landings();
         self.advance_clock();
         Ok(())
     }
@@ -461,12 +490,15 @@ impl Machine {
 
     /// No packet is being sent by a circuit whose slot begins: that is a fault.
     fn advance_senders(&mut self, opening: Range<usize>) {
-        for sender in &mut self.senders {
+        for (circuit, sender) in self.senders.iter_mut().enumerate() {
             if sender.to_go > 0 {
                 sender.left -= 1;
                 sender.read += 1;
                 sender.write += 1;
                 sender.to_go -= 1;
+                if let Some(counted) = &mut self.counted {
+                    counted[circuit] += 1;
+                }
             }
         }
         let sheet = Rc::clone(&self.sheet);
@@ -497,6 +529,19 @@ impl Machine {
                     put_by_routers[self.sheet.neighbours[number][port]][(port + 2) % 4]
                 };
             }
+        }
+    }
+
+    /// A landing is of the circuit whose receive region it lies in.
+    fn count_landings(&mut self) {
+        let Some(counted) = &mut self.counted else { return };
+        for (number, node) in self.nodes.iter().enumerate().filter(|(_, node)| node.landing.mark == 1) {
+            let receives = |record: &Circuit| {
+                record.destination == number as u64
+                    && lies_within(node.landing.address, 1, record.receive_offset, record.receive_length)
+            };
+            let circuit = self.sheet.sheet.circuits.iter().position(receives);
+            counted[circuit.expect("what left lands in its circuit's region")] -= 1;
         }
     }
 

@@ -1,11 +1,12 @@
-//! Machines that are wrong about sheets of no words, about circuits that no schedule serves or
-//! about lists of transfers, planted for the self tests: each of them has to be noticed.
+//! Machines that are wrong about sheets of no words, about circuits that no schedule serves, about
+//! lists of transfers or about words that travel, planted for the self tests: each of them has to be noticed.
 
-use super::calls::{Calls, Second, FIELDS};
+use super::calls::{number_of, Calls, Second, FIELDS};
 use super::checker;
 use super::lent::{MOVING_WORDS, SHEET, SHEET_LENGTH, STATE_WORDS};
 use super::machine::Transfer;
 use super::planted_lists::WrongList;
+use super::planted_travelling::{Remembered, WrongTravelling};
 use super::sheets::idle_network;
 
 #[derive(Clone, Copy, Debug, PartialEq, Eq)]
@@ -39,6 +40,7 @@ pub enum Wrong {
     /// A start on an unserved circuit is refused by 26.
     RefusesUnservedStarts,
     List(WrongList),
+    Travelling(WrongTravelling),
 }
 
 /// What a load can have wrong, and so a session can show.
@@ -64,11 +66,12 @@ pub const WRONG_ON_STATES: [Wrong; 3] =
 pub struct Planted {
     second: Second,
     wrong: Wrong,
+    remembered: Remembered,
 }
 
 impl Planted {
     pub fn new(wrong: Wrong) -> Planted {
-        Planted { second: Second::reading(), wrong }
+        Planted { second: Second::reading(), wrong, remembered: Remembered::default() }
     }
 
     /// The state that a call works on.
@@ -149,6 +152,9 @@ impl Calls for Planted {
         }
         let before = state.to_vec();
         let number = self.second.load(sheet, state, memory);
+        if number == 0 && matches!(self.wrong, Wrong::Travelling(_)) {
+            self.remembered.note_load(&before, &mut self.second);
+        }
         if number == 26 {
             return self.load_unserved(sheet, state, memory);
         }
@@ -164,6 +170,10 @@ impl Calls for Planted {
     }
 
     fn start(&mut self, state: &mut [u32], circuit: u32, read: u32, write: u32, count: u32, kind: u32) -> u32 {
+        if let Wrong::Travelling(wrong) = self.wrong {
+            let transfer = Transfer { circuit, read, write, count, kind };
+            return wrong.start(&mut self.remembered, &mut self.second, state, transfer);
+        }
         if self.wrong == Wrong::RefusesUnservedStarts {
             let number = self.second.start(&mut state.to_vec(), circuit, read, write, count, kind);
             if number == 0 && stored_sheet(state).is_some_and(|sheet| !is_served(sheet, circuit)) {
@@ -174,36 +184,59 @@ impl Calls for Planted {
     }
 
     fn store(&mut self, state: &[u32], memory: &mut [u32], node: u32, address: u32, word: u32) -> u32 {
-        self.second.store(&self.taken(state), memory, node, address, word)
+        let number = self.second.store(&self.taken(state), memory, node, address, word);
+        self.remembered.stored |= number == 0;
+        number
     }
 
     fn fetch(&mut self, state: &[u32], memory: &[u32], node: u32, address: u32) -> u64 {
-        self.second.fetch(&self.taken(state), memory, node, address)
+        let answer = self.second.fetch(&self.taken(state), memory, node, address);
+        self.remembered.asked |= number_of(answer) == 0;
+        answer
     }
 
     fn words_left(&mut self, state: &[u32], circuit: u32) -> u64 {
-        self.second.words_left(&self.taken(state), circuit)
+        let taken = self.taken(state);
+        let answer = match self.wrong {
+            Wrong::Travelling(wrong) => wrong.words_left(&mut self.second, &taken, circuit),
+            _ => self.second.words_left(&taken, circuit),
+        };
+        self.remembered.asked |= number_of(answer) == 0;
+        answer
     }
 
     fn period_number(&mut self, state: &[u32]) -> u64 {
-        self.second.period_number(&self.taken(state))
+        let answer = self.second.period_number(&self.taken(state));
+        self.remembered.asked |= number_of(answer) == 0;
+        answer
     }
 
     fn landed(&mut self, state: &[u32], node: u32, field: u32) -> u64 {
-        self.second.landed(&self.taken(state), node, field)
+        let answer = self.second.landed(&self.taken(state), node, field);
+        self.remembered.asked |= number_of(answer) == 0;
+        answer
     }
 
     fn order(&mut self, state: &mut [u32], schedule: u32, period_number: u32) -> u32 {
-        self.change(state, |second, state| second.order(state, schedule, period_number))
+        let number = self.change(state, |second, state| second.order(state, schedule, period_number));
+        self.remembered.ordered |= number == 0;
+        number
     }
 
     fn cycle(&mut self, state: &mut [u32], memory: &mut [u32]) -> u32 {
-        self.change(state, |second, state| second.cycle(state, memory))
+        let number = self.change(state, |second, state| second.cycle(state, memory));
+        if number == 0 {
+            self.remembered.forget();
+        }
+        number
     }
 
     fn start_all(&mut self, state: &mut [u32], transfers: &[Transfer], answers: &mut [u32]) -> u32 {
         match self.wrong {
             Wrong::List(wrong) => wrong.start_all(&mut self.second, state, transfers, answers),
+            Wrong::Travelling(wrong) => {
+                wrong.start_all(&mut self.remembered, &mut self.second, state, transfers, answers)
+            }
             _ => self.change(state, |second, state| second.start_all(state, transfers, answers)),
         }
     }
@@ -211,6 +244,9 @@ impl Calls for Planted {
     fn start_lists(&mut self, state: &mut [u32], lists: [&[u32]; FIELDS], answers: &mut [u32]) -> u32 {
         match self.wrong {
             Wrong::List(wrong) => wrong.start_lists(&mut self.second, state, lists, answers),
+            Wrong::Travelling(wrong) => {
+                wrong.start_lists(&mut self.remembered, &mut self.second, state, lists, answers)
+            }
             _ => self.change(state, |second, state| second.start_lists(state, lists, answers)),
         }
     }

@@ -6,10 +6,13 @@
 use super::calls::{lists_of, number_of, Call, Calls, Second};
 use super::coverage::Coverage;
 use super::lent::{Row, PERIOD_NUMBER, STATE_WORDS};
-use super::lists::{LIST_WAYS, ONE_OF_OTHER_LENGTH};
 use super::machine::{Machine, Transfer, INTERRUPT};
+use super::play_names::{
+    answer_name, idle_name, made_name, record_name, wanted, wanted_often, LIST, LOADS_NO_WORDS, LOAD_OF_NO_WORDS,
+};
+use super::play_travelling::{compare_ways, Flights};
 use super::reckoning::{Calendar, Reckoning, Word};
-use super::sessions::{Generator, Made, LISTS_FROM, NO_WORDS_FROM, SESSIONS, UNSERVED_LOADS};
+use super::sessions::{Generator, Made, FURTHER_FROM, LISTS_FROM, NO_WORDS_FROM, SESSIONS, TRAVELLING_FROM};
 use super::sheets::idle_network;
 use super::words::{Lent, Words};
 use std::ops::Range;
@@ -20,18 +23,6 @@ const DIFFERENCES_SHOWN: usize = 5;
 /// Cycles between two rounds of questions about every circuit and node.
 const QUESTIONS_EVERY: u32 = 9;
 
-const LOADS_NO_WORDS: &str = "situation: session in which no words are loaded";
-const SESSIONS_REQUIRED_OF_NO_WORDS: u64 = 40;
-/// Of each way to lend slices to a load of a sheet with an unserved circuit.
-const UNSERVED_LOADS_REQUIRED: u64 = 50;
-const LIST: &str = "situation: list in both forms";
-const LISTS_REQUIRED: u64 = 600;
-/// Of each way to make a list.
-const LISTS_OF_WAY_REQUIRED: u64 = 10;
-/// Of each number of the two forms, and of each answer to a record.
-const LIST_ANSWERS_REQUIRED: u64 = 50;
-const RECORD_ANSWERS_REQUIRED: u64 = 500;
-
 struct Player<'a, C> {
     tested: &'a mut C,
     coverage: &'a mut Coverage,
@@ -41,6 +32,7 @@ struct Player<'a, C> {
     calendar: Option<Calendar>,
     /// Which circuits a list started last.
     started_by_list: Vec<bool>,
+    flights: Flights,
     /// Whether the network was loaded by no words.
     idle: bool,
     loads_of_no_words: u32,
@@ -90,167 +82,17 @@ pub fn is_noticed(tested: &mut impl Calls) -> bool {
 
 /// Whether a session with lists does.
 pub fn is_noticed_by_lists(tested: &mut impl Calls) -> bool {
-    is_noticed_in(tested, LISTS_FROM..SESSIONS)
+    is_noticed_in(tested, LISTS_FROM..TRAVELLING_FROM)
+}
+
+/// Whether a session does in which circuits are started while their words travel.
+pub fn is_noticed_by_starts(tested: &mut impl Calls) -> bool {
+    is_noticed_in(tested, TRAVELLING_FROM..FURTHER_FROM)
 }
 
 fn is_noticed_in(tested: &mut impl Calls, mut sessions: Range<u64>) -> bool {
     sessions.any(|session| play(tested, &mut Coverage::default(), session).is_err())
 }
-
-/// What should be met often, and how often.
-fn wanted_often() -> Vec<(u64, String)> {
-    let mut names = vec![(SESSIONS_REQUIRED_OF_NO_WORDS, LOADS_NO_WORDS.to_string())];
-    names.extend(UNSERVED_LOADS.map(|name| (UNSERVED_LOADS_REQUIRED, made_name(name))));
-    names.push((LISTS_REQUIRED, LIST.to_string()));
-    let list_ways = LIST_WAYS.iter().chain(ONE_OF_OTHER_LENGTH.iter().flatten());
-    names.extend(list_ways.map(|name| (LISTS_OF_WAY_REQUIRED, made_name(name))));
-    for form in ["start all", "start lists"] {
-        names.extend([0, 12, 21].map(|number| (LIST_ANSWERS_REQUIRED, answer_name(form, number))));
-    }
-    names.extend([0, 15, 16, 17].map(|answer| (RECORD_ANSWERS_REQUIRED, record_name(answer))));
-    names
-}
-
-/// Every call with every number that a session can meet, on the idle network too, and the
-/// situations that matter.
-fn wanted() -> Vec<String> {
-    let numbers: [(&str, &[u32]); 11] = [
-        ("load", &[0, 1, 2, 3, 4, 5, 6, 7, 8, 9, 10, 11, 12, 14, 26]),
-        ("start", &[0, 12, 15, 16, 17]),
-        ("store", &[0, 12, 14, 15]),
-        ("fetch", &[0, 12, 14, 15]),
-        ("words left", &[0, 12, 15]),
-        ("period number", &[0, 12]),
-        ("what landed", &[0, 12, 15]),
-        ("order", &[0, 12, 15, 18, 19]),
-        ("cycle", &[0, 12, 14]),
-        ("start all", &[0, 12, 21]),
-        ("start lists", &[0, 12, 21]),
-    ];
-    let idle_numbers: [(&str, &[u32]); 11] = [
-        ("load", &[0, 1, 12, 14, 26]),
-        ("start", &[12, 15]),
-        ("store", &[0, 12, 14, 15]),
-        ("fetch", &[0, 12, 14, 15]),
-        ("words left", &[12, 15]),
-        ("period number", &[0, 12]),
-        ("what landed", &[0, 12, 15]),
-        ("order", &[0, 12, 15, 18, 19]),
-        ("cycle", &[0, 12, 14]),
-        ("start all", &[0, 12, 21]),
-        ("start lists", &[0, 12, 21]),
-    ];
-    let mut names = Vec::new();
-    for (call, numbers) in numbers {
-        names.extend(numbers.iter().map(|&number| answer_name(call, number)));
-    }
-    for (call, numbers) in idle_numbers {
-        names.extend(numbers.iter().map(|&number| idle_name(&answer_name(call, number))));
-    }
-    names.extend([0, 12, 14].map(|number| answer_name(LOAD_OF_NO_WORDS, number)));
-    names.extend(IDLE_SITUATIONS.map(idle_name));
-    names.extend(SITUATIONS.map(|name| format!("situation: {name}")));
-    names.extend(WAYS.map(made_name));
-    for columns in 2..=4 {
-        names.extend((2..=4).map(|rows| grid_name(columns, rows)));
-    }
-    names
-}
-
-const LOAD_OF_NO_WORDS: &str = "load of no words";
-
-/// What is met on a network that was loaded by no words is counted apart besides.
-fn idle_name(name: &str) -> String {
-    format!("idle network, {name}")
-}
-
-fn answer_name(call: &str, number: u32) -> String {
-    match number {
-        0 => format!("answer: {call}, carried out"),
-        _ => format!("answer: {call}, {number}"),
-    }
-}
-
-/// Of a record in a list.
-fn record_name(answer: u32) -> String {
-    answer_name("record", answer)
-}
-
-fn made_name(name: &str) -> String {
-    format!("made: {name}")
-}
-
-fn grid_name(columns: u64, rows: u64) -> String {
-    format!("situation: landing in a grid of {columns} by {rows}")
-}
-
-const IDLE_SITUATIONS: [&str; 5] = [
-    "no words loaded again",
-    "another sheet loaded",
-    "schedule in force ordered again and put in force",
-    "order for a period behind the wrap",
-    "period number wraps",
-];
-
-const SITUATIONS: [&str; 36] = [
-    "state longer than published",
-    "start of a circuit that only another schedule serves",
-    "switch to a schedule that serves a circuit which the one before did not, with words left",
-    "start while earlier words of the circuit travel",
-    "start in the first cycle of the circuit's slot",
-    "start a cycle after its slot began",
-    "slot begins with more words owed than it holds",
-    "slot begins with fewer words owed than it holds",
-    "store at an address still to be read",
-    "store into a receive region while words travel to it",
-    "data lands",
-    "interrupt lands",
-    "landing after 1 hops",
-    "landing after 2 hops",
-    "landing after 3 hops",
-    "landing after 4 hops",
-    "landings at several nodes in one cycle",
-    "landing at the last address of a memory of 16,384 words",
-    "words travel over the end of a period",
-    "switch to a schedule of another period",
-    "switch to another schedule of the same period",
-    "schedule in force ordered again and put in force",
-    "words travel over a switch",
-    "period number wraps",
-    "order for a period behind the wrap",
-    "load carried out in the midst of transfers",
-    "no words loaded in the midst of transfers",
-    "no words loaded while words travel",
-    "refused call on a state with words travelling",
-    "list while words travel",
-    "list starts several circuits",
-    "by a list, start of a circuit that only another schedule serves",
-    "by a list, start while earlier words of the circuit travel",
-    "by a list, start in the first cycle of the circuit's slot",
-    "by a list, start a cycle after its slot began",
-    "word of a transfer that a list started lands",
-];
-
-const WAYS: [&str; 18] = [
-    "start: no such circuit",
-    "start: no such read address",
-    "start: no such write address",
-    "start: kind 1",
-    "start: no such kind",
-    "start: count 0",
-    "start: interrupt of another count",
-    "start: count that wraps",
-    "start: reads before its region",
-    "start: reads beyond its region",
-    "start: writes before its region",
-    "start: writes beyond its region",
-    "order: no such schedule",
-    "order: too soon",
-    "order: half way round",
-    "order: behind",
-    "short state",
-    "memory of another length",
-];
 
 fn play(tested: &mut impl Calls, coverage: &mut Coverage, session: u64) -> Result<(), String> {
     let mut generator = Generator::new(session);
@@ -262,6 +104,7 @@ fn play(tested: &mut impl Calls, coverage: &mut Coverage, session: u64) -> Resul
         reckonings: Vec::new(),
         calendar: None,
         started_by_list: Vec::new(),
+        flights: Flights::default(),
         idle: false,
         loads_of_no_words: 0,
         actual: words.clone(),
@@ -291,6 +134,9 @@ impl<C: Calls> Player<'_, C> {
     /// Makes one call and compares the answer and every lent word.
     fn make(&mut self, made: &Made) -> Result<(), String> {
         let before = self.calendar.is_some().then(|| self.second.view().clone());
+        if let Some(before) = &before {
+            compare_ways(before, &self.reckonings, made).map_err(|what| format!("{}: {what}", made.name))?;
+        }
         let other_form = other_form(&made.call).map(|call| (call, self.actual.clone()));
         let expected = self.expected.make(&made.call, made.lent, &mut self.second);
         let actual = self.actual.make(&made.call, made.lent, self.tested);
@@ -470,7 +316,7 @@ impl<C: Calls> Player<'_, C> {
     }
 
     fn note_situation(&mut self, before: &Machine, made: &Made) {
-        let mut names: Vec<String> = Vec::new();
+        let mut names = self.flights.note(before, &self.reckonings, made);
         let travelling = self.reckonings.iter().any(Reckoning::has_words_travelling);
         if made.expected != 0 {
             if travelling {
@@ -516,9 +362,6 @@ impl<C: Calls> Player<'_, C> {
     }
 
     fn note_start(&self, before: &Machine, circuit: usize, names: &mut Vec<String>) {
-        if self.reckonings[circuit].has_words_travelling() {
-            names.push("start while earlier words of the circuit travel".to_string());
-        }
         let slot_begins = |cycle: u64| {
             let entries = &before.sheet.sheet.schedules[before.clock.schedule as usize].entries;
             entries.iter().any(|entry| entry.circuit == circuit as u64 && entry.offset == cycle)
@@ -653,6 +496,10 @@ fn compare_reckoning(machine: &Machine, circuit: usize, reckoning: &Reckoning, m
     let reckoned = [reckoning.owed(), reckoning.period_number(), reckoning.schedule()];
     if shown != reckoned {
         return Err(format!("words left, period number, schedule {shown:?}, reckoned {reckoned:?}"));
+    }
+    let (counted, reckoned) = (machine.words_travelling(circuit), reckoning.words_travelling());
+    if counted != Some(reckoned) || reckoning.has_words_travelling() != (reckoned > 0) {
+        return Err(format!("words travelling, counted {counted:?}, reckoned {reckoned}"));
     }
     let destination = reckoning.destination();
     let landed = machine.what_landed(destination).ok().flatten();

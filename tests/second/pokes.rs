@@ -3,7 +3,7 @@
 //! dropped from their sheet. The second machine says each answer and every lent word afterwards,
 //! refused calls included. What a load of no words leaves, and what is then answered, stands here
 //! besides, and that a transfer on a circuit that no schedule serves is taken and never sends. Lists of
-//! transfers are asked of every hand-made state, and of some others.
+//! transfers are asked of every hand-made state, and of some others. pokes_travelling.rs has those about words that travel.
 
 use super::calls::{lists_of, number_of, Call, Calls, Second};
 use super::coverage::Coverage;
@@ -18,6 +18,7 @@ use super::lent::{
 };
 use super::lists::unanswered;
 use super::machine::{Cell, Fault, Machine, Transfer, DATA, EMPTY, HEADER, INTERRUPT, LAST, PORTS};
+use super::pokes_travelling::are_met;
 use super::sessions::{Generator, NO_WORDS_FROM, SPARE_WORDS};
 use super::sheets::{idle_network, sheet_a, Plan, Random};
 use super::words::{Lent, Words};
@@ -41,11 +42,11 @@ const UNSERVED_SOUND: &str = "unserved: sound state";
 const UNSERVED_SOUND_REQUIRED: u64 = 50;
 const DIFFERENCES_SHOWN: usize = 10;
 
-struct Runner<'a, C> {
-    tested: &'a mut C,
+pub struct Runner<'a, C> {
+    pub tested: &'a mut C,
     second: Second,
     reader: Reader,
-    coverage: Coverage,
+    pub coverage: Coverage,
     passed: usize,
     differences: Vec<String>,
 }
@@ -62,6 +63,8 @@ pub fn run_all(tested: &mut impl Calls) -> ExitCode {
     runner.run_hand_made_cycles();
     runner.run_hand_made_lists();
     runner.run_example_m();
+    runner.run_hand_made_busy(false);
+    runner.run_flights();
     let poked = runner.run_poked();
     runner.coverage.print();
     for difference in runner.differences.iter().take(DIFFERENCES_SHOWN) {
@@ -69,6 +72,7 @@ pub fn run_all(tested: &mut impl Calls) -> ExitCode {
     }
     let complete = runner.coverage.has_all(wanted().iter().map(String::as_str))
         & runner.coverage.has_at_least(UNSERVED_SOUND_REQUIRED, UNSERVED_SOUND)
+        & are_met(&runner.coverage)
         && poked >= POKED_STATES_REQUIRED;
     let failed = runner.differences.len() + usize::from(!complete);
     println!("{} passed, {failed} failed", runner.passed);
@@ -243,7 +247,7 @@ fn calls_of_unserved(plan: &Plan) -> Vec<Call> {
 }
 
 impl<C: Calls> Runner<'_, C> {
-    fn new(tested: &mut C) -> Runner<'_, C> {
+    pub fn new(tested: &mut C) -> Runner<'_, C> {
         Runner {
             tested,
             second: Second::reading(),
@@ -254,8 +258,18 @@ impl<C: Calls> Runner<'_, C> {
         }
     }
 
+    pub fn is_noticed(&self) -> bool {
+        !self.differences.is_empty()
+    }
+
     /// Makes a call on both and compares answers and words; its number.
-    fn compare(&mut self, call: &Call, lent: Lent, actual: &mut Words, expected: &mut Words) -> Result<u32, String> {
+    pub fn compare(
+        &mut self,
+        call: &Call,
+        lent: Lent,
+        actual: &mut Words,
+        expected: &mut Words,
+    ) -> Result<u32, String> {
         let expected_answer = expected.make(call, lent, &mut self.second);
         let answer = actual.make(call, lent, self.tested);
         if answer != expected_answer {
@@ -268,7 +282,7 @@ impl<C: Calls> Runner<'_, C> {
         Ok(number_of(answer))
     }
 
-    fn count(&mut self, result: Result<(), String>, what: impl FnOnce() -> String) {
+    pub fn count(&mut self, result: Result<(), String>, what: impl FnOnce() -> String) {
         match result {
             Ok(()) => self.passed += 1,
             Err(difference) => self.differences.push(format!("{}: {difference}", what())),
@@ -276,7 +290,7 @@ impl<C: Calls> Runner<'_, C> {
     }
 
     /// Words on which the second machine carried out a load of the plan.
-    fn loaded(&mut self, plan: &Plan) -> Words {
+    pub fn loaded(&mut self, plan: &Plan) -> Words {
         let mut words = unloaded_for(plan);
         assert_eq!(self.second.load(&plan.words(), &mut words.state, &words.memory), 0, "the plan passes");
         words
@@ -711,6 +725,7 @@ impl<C: Calls> Runner<'_, C> {
                 let result = self.run_poked_state("filled", &mut random, &words, &machine, &pokes);
                 self.count(result, || format!("session {session}, registers filled, {turn}"));
             }
+            self.run_aimed_states(session, &words, &machine, &plan);
             if session % UNSERVED_EVERY == 0 && !plan.circuits.is_empty() {
                 let result = self.run_midst_unserved(&mut random, &words, plan);
                 self.count(result, || format!("session {session} with an unserved circuit"));
@@ -777,7 +792,7 @@ impl<C: Calls> Runner<'_, C> {
 }
 
 /// The words with some of the state written over.
-fn written_over(words: &Words, pokes: &[(usize, u32)]) -> Words {
+pub fn written_over(words: &Words, pokes: &[(usize, u32)]) -> Words {
     let mut words = words.clone();
     for &(place, value) in pokes {
         words.state[place] = value;
@@ -820,7 +835,7 @@ fn met_name(read: &Result<Machine, Vec<Clause>>) -> String {
 }
 
 /// How the words of a generated session stand after some of its calls, and the plan that is loaded then.
-fn snapshot(session: u64) -> (Words, Machine, Plan) {
+pub fn snapshot(session: u64) -> (Words, Machine, Plan) {
     let mut generator = Generator::new(session);
     let mut words = generator.lent_words();
     let mut second = Second::living();

@@ -82,6 +82,13 @@ struct Transfer {
     kind: u32,
 }
 
+/// When a word left.
+struct Leaving {
+    cycle: u64,
+    period_number: u32,
+    schedule: usize,
+}
+
 /// A word of the circuit as it lands.
 #[derive(Clone, Copy, Debug, PartialEq, Eq)]
 pub struct Word {
@@ -101,6 +108,9 @@ pub struct Reckoning {
     gone: u32,
     /// The cycles in which words leave, as far as slots have begun.
     leaving: VecDeque<u64>,
+    /// Of the transfer's packets, the cycles in which their last words leave.
+    packets: Vec<u64>,
+    last_left: Option<Leaving>,
     /// Words that left, with the cycles in which they land.
     travelling: VecDeque<(u64, Word)>,
     landed: Option<Word>,
@@ -125,6 +135,8 @@ impl Reckoning {
             transfer: Transfer { read: 0, write: 0, count: 0, kind: 0 },
             gone: 0,
             leaving: VecDeque::new(),
+            packets: Vec::new(),
+            last_left: None,
             travelling: VecDeque::new(),
             landed: None,
             read_region: region(record.source, record.read_offset, record.read_length),
@@ -142,6 +154,7 @@ impl Reckoning {
     pub fn start(&mut self, read: u32, write: u32, count: u32, kind: u32) {
         self.transfer = Transfer { read, write, count, kind };
         self.gone = 0;
+        self.packets.clear();
     }
 
     pub fn store(&mut self, node: u32, address: u32, word: u32) {
@@ -163,13 +176,18 @@ impl Reckoning {
             // Nothing is added where no words are owed.
             let words = (slot.length - 1).min(u64::from(self.owed()));
             self.leaving.extend(now + 1..=now + words);
+            if words > 0 {
+                self.packets.push(now + words);
+            }
         }
         if self.leaving.front() == Some(&now) {
             self.leaving.pop_front();
             let word = *self.read_region.word_at(self.transfer.read + self.gone);
             let word = Word { kind: self.transfer.kind, address: self.transfer.write + self.gone, word };
-            self.travelling.push_back((now + 3 * (self.hops + 1), word));
+            self.travelling.push_back((now + self.flight(), word));
             self.gone += 1;
+            let Calendar { period_number, schedule, .. } = self.calendar;
+            self.last_left = Some(Leaving { cycle: now, period_number, schedule });
         }
         self.landed = None;
         if let Some(&(cycle, word)) = self.travelling.front() {
@@ -211,8 +229,67 @@ impl Reckoning {
         self.calendar.schedule as u32
     }
 
+    /// The cycles from a word's leaving to its landing.
+    fn flight(&self) -> u64 {
+        3 * (self.hops + 1)
+    }
+
+    /// Cycle calls until the last word that left has landed, 0 or fewer where it has; nothing where none left.
+    fn cycles_to_landing(&self) -> Option<i64> {
+        let left = self.last_left.as_ref()?;
+        Some((left.cycle + self.flight() + 1) as i64 - self.cycles as i64)
+    }
+
+    /// Whether a word left and has not landed; the last to leave is the last to land.
     pub fn has_words_travelling(&self) -> bool {
-        !self.travelling.is_empty()
+        self.cycles_to_landing().is_some_and(|cycles| cycles > 0)
+    }
+
+    /// How many words left and have not landed, by the landings so far.
+    pub fn words_travelling(&self) -> u32 {
+        self.travelling.len() as u32
+    }
+
+    /// Number 17 of document 02, L3.
+    pub fn is_busy(&self) -> bool {
+        self.owed() > 0 || self.has_words_travelling()
+    }
+
+    /// Whether the circuit is busy by words that left, and by no others.
+    pub fn waits_for_landings(&self) -> bool {
+        self.owed() == 0 && self.has_words_travelling()
+    }
+
+    /// Whether all that is owed has left, and the next cycle sees the last of it land.
+    pub fn lands_last_next(&self) -> bool {
+        self.owed() == 0 && self.cycles_to_landing() == Some(1)
+    }
+
+    /// Whether the last cycle saw the last word of the transfer land.
+    pub fn landed_last_just_now(&self) -> bool {
+        self.owed() == 0 && self.cycles_to_landing() == Some(0)
+    }
+
+    /// Whether the transfer has taken several packets so far, and the first has wholly landed.
+    pub fn first_of_packets_landed(&self) -> bool {
+        self.packets.len() > 1 && self.packets[0] + self.flight() < self.cycles
+    }
+
+    /// Whether the last word that left did so in an earlier period.
+    pub fn left_in_earlier_period(&self) -> bool {
+        let now = self.calendar.period_number;
+        self.last_left.as_ref().is_some_and(|left| left.period_number != now)
+    }
+
+    /// Whether another schedule was in force when the last word left.
+    pub fn left_under_other_schedule(&self) -> bool {
+        let now = self.calendar.schedule;
+        self.last_left.as_ref().is_some_and(|left| left.schedule != now)
+    }
+
+    /// The last start's.
+    pub fn kind(&self) -> u32 {
+        self.transfer.kind
     }
 
     /// Node, offset and words of the two regions.

@@ -5,13 +5,15 @@
 //! Covered: all nine grids; memories of 1 to 16,384 words; no circuit to 64; one to eight
 //! schedules, mostly crowded, of periods 9 to 48 that differ, some up to 1,024; circuits that
 //! every schedule serves and circuits that only one does; starts that are right, too early (17)
-//! and wrong in each way of 15 and 16; starts again while words travel; stores and fetches
+//! and wrong in each way of 15 and 16; starts while words travel, and directly after the last of
+//! them landed (sessions_travelling.rs); stores and fetches
 //! anywhere, mostly in regions in use; orders 3 and more periods ahead, 2^31 − 1 ahead, and
 //! refused in each way of 15, 18, 19; loads in the midst, carried out and refused with each of
 //! 1 to 12, 14 and 26; states and memories lent too short or too long; the idle network, loaded
 //! by no words at first or in the midst; period numbers that wrap, for which the first period's
 //! number is written into the state directly after the load, the only word that no call has
-//! written; in the sessions behind `LISTS_FROM` lists of transfers too (lists.rs).
+//! written; in the sessions behind `LISTS_FROM` lists of transfers too (lists.rs), and behind
+//! `TRAVELLING_FROM` many starts of circuits whose words travel.
 //! Not covered: other states that no calls lead to (tests/states.rs has those, with unserved
 //! circuits too), and switches between schedules of more than some hundred cycles, which three
 //! periods would make long.
@@ -20,7 +22,9 @@ use super::calls::Call;
 use super::lent::{MOVING_WORDS, STATE_WORDS};
 use super::machine::{Machine, Transfer, DATA, INTERRUPT};
 use super::near_misses::{add_fault, GRIDS};
-use super::sheets::{idle_network, largest, serve_unserved, some_schedule, wished_plan, Plan, Random, Wish};
+use super::session_plans::{plan_of_four_hops, plan_of_short_periods, plan_of_style};
+use super::sessions_travelling::Aim;
+use super::sheets::{idle_network, largest, Plan, Random};
 use super::words::{Lent, Words};
 
 /// Words behind the published length of a state and behind a memory.
@@ -34,8 +38,16 @@ pub const NO_WORDS_FROM: u64 = LARGEST_FROM + 2;
 const NO_WORDS_LATER_FROM: u64 = NO_WORDS_FROM + 72;
 /// From here on lists of transfers are among the calls.
 pub const LISTS_FROM: u64 = NO_WORDS_LATER_FROM + 24;
-/// All sessions; lists meet each grid, and there each style of sheet that is not a usual one.
-pub const SESSIONS: u64 = LISTS_FROM + 90;
+/// From here on circuits are started while their words travel; lists before met each grid, and there
+/// each style of sheet that is not a usual one.
+pub const TRAVELLING_FROM: u64 = LISTS_FROM + 108;
+/// Every so many of these have circuits of four hops.
+const FOUR_HOPS_EVERY: u64 = 2;
+/// From here on sessions are as at first, and every so many load no words first.
+pub const FURTHER_FROM: u64 = TRAVELLING_FROM + 72;
+const NO_WORDS_EVERY: u64 = 4;
+/// All sessions.
+pub const SESSIONS: u64 = FURTHER_FROM + 36;
 /// Every so many of the sessions with lists begin on the idle network.
 const LISTS_ON_IDLE_EVERY: u64 = 13;
 
@@ -63,7 +75,7 @@ impl Made {
     }
 }
 
-/// A start with the way it was made and the number that this calls for; words left are not counted in.
+/// A start with the way it was made and the number that this calls for; 17 is not counted in.
 #[derive(Clone, Copy)]
 pub struct Start {
     pub name: &'static str,
@@ -80,7 +92,8 @@ pub struct Generator {
     current: usize,
     /// Circuits that are still to be started at first.
     to_start: usize,
-    has_lists: bool,
+    pub has_lists: bool,
+    pub aim: Aim,
     state_words: usize,
     /// Cycles that the session has to carry out.
     pub cycles: u32,
@@ -98,12 +111,21 @@ impl Generator {
         let (columns, rows) = GRIDS[session as usize % GRIDS.len()];
         let style = session / GRIDS.len() as u64 % 24;
         let is_largest = (LARGEST_FROM..NO_WORDS_FROM).contains(&session);
-        let plan = if is_largest { largest(session) } else { plan_of_style(&mut random, columns, rows, style) };
+        let about_landings = (TRAVELLING_FROM..FURTHER_FROM).contains(&session);
+        let four_hops = about_landings && session % FOUR_HOPS_EVERY == 0;
+        let plan = match (is_largest, about_landings) {
+            (true, _) => largest(session),
+            (_, true) if four_hops => plan_of_four_hops(&mut random),
+            (_, true) => plan_of_short_periods(&mut random, columns, rows),
+            _ => plan_of_style(&mut random, columns, rows, style),
+        };
         let (other_columns, other_rows) = random.choose(&GRIDS);
         let other = plan_of_style(&mut random, other_columns, other_rows, 0);
         let mut plans = vec![plan, other];
-        let has_lists = session >= LISTS_FROM;
+        let has_lists = (LISTS_FROM..TRAVELLING_FROM).contains(&session);
         let idle = match session {
+            FURTHER_FROM.. => (session % NO_WORDS_EVERY == 0).then_some(0),
+            TRAVELLING_FROM.. => None,
             LISTS_FROM.. => (session % LISTS_ON_IDLE_EVERY == 0).then_some(0),
             NO_WORDS_LATER_FROM.. => Some(1),
             NO_WORDS_FROM.. => Some(0),
@@ -113,22 +135,26 @@ impl Generator {
             plans[idle] = idle_network();
         }
         let state_words = STATE_WORDS + random.choose(&[0, 0, 0, 1, SPARE_WORDS]);
-        let cycles = match (is_largest, has_lists) {
+        let cycles = match (is_largest, has_lists || about_landings) {
             (true, _) => 300,
+            (_, true) if about_landings => random.between(55, 80),
             (_, true) => random.between(20, 50),
             _ => random.between(40, 170),
         };
         let wraps = random.once_in(if idle == Some(0) { 2 } else { 6 });
         let first_period = wraps.then(|| u32::MAX - random.between(0, 4));
         let to_start = plans[0].circuits.len();
-        Generator { random, plans, idle, current: 0, to_start, has_lists, state_words, cycles, first_period }
+        let aim = if about_landings { Aim::at_landings(four_hops) } else { Aim::default() };
+        Generator { random, plans, idle, current: 0, to_start, has_lists, aim, state_words, cycles, first_period }
     }
 
     /// Lent words of any content: the state's, and memory enough for every sheet of the session.
     pub fn lent_words(&mut self) -> Words {
         let memory_words = self.plans.iter().map(memory_words_of).max().unwrap_or(0);
         let mut any = |count: usize| (0..count).map(|_| self.random.word()).collect();
-        Words::new(any(STATE_WORDS + SPARE_WORDS), any(memory_words + SPARE_WORDS))
+        let mut words = Words::new(any(STATE_WORDS + SPARE_WORDS), any(memory_words + SPARE_WORDS));
+        self.put_headers_to_be_sent(&mut words.memory);
+        words
     }
 
     pub fn first_load(&self) -> Made {
@@ -141,7 +167,7 @@ impl Generator {
     }
 
     /// The load of the present plan.
-    fn load(&self) -> Call {
+    pub fn load(&self) -> Call {
         Call::Load { sheet: if self.is_idle() { Vec::new() } else { self.plan().words() } }
     }
 
@@ -156,6 +182,9 @@ impl Generator {
 
     /// First most circuits are started, then calls come in any order.
     pub fn next(&mut self, machine: &Machine) -> Made {
+        if let Some(made) = self.about_landings(machine) {
+            return made;
+        }
         if self.has_lists && self.to_start > 0 && self.random.once_in(4) {
             self.to_start = 0;
             return self.list_of_every_circuit(machine);
@@ -190,7 +219,7 @@ impl Generator {
         if machine.senders.is_empty() {
             return self.made("cycle", Call::Cycle, 0);
         }
-        let is_free = |&circuit: &usize| machine.senders[circuit].left == 0;
+        let is_free = |&circuit: &usize| !machine.is_busy(circuit);
         let free: Vec<usize> = (0..machine.senders.len()).filter(is_free).collect();
         let circuit = if free.is_empty() || self.random.once_in(8) {
             self.random.position(machine.senders.len())
@@ -200,9 +229,9 @@ impl Generator {
         self.start_of(circuit, machine)
     }
 
-    /// A right start of a circuit, which words left still turn away.
+    /// A right start of a circuit, which words left or travelling still turn away.
     fn start_of(&mut self, circuit: usize, machine: &Machine) -> Made {
-        let expected = if machine.senders[circuit].left == 0 { 0 } else { 17 };
+        let expected = if machine.is_busy(circuit) { 17 } else { 0 };
         let start = self.right_start(circuit);
         self.made(start.name, Call::start(start.transfer), expected)
     }
@@ -402,7 +431,7 @@ impl Generator {
     }
 
     /// A right order, which a pending one still turns away.
-    fn order(&mut self, machine: &Machine) -> Made {
+    pub fn order(&mut self, machine: &Machine) -> Made {
         let schedules = self.plan().schedules.len() as u32;
         let schedule = self.random.between(0, schedules - 1);
         let ahead = match self.random.between(0, 29) {
@@ -456,7 +485,7 @@ impl Generator {
     }
 
     /// A load of a sheet with one fault, of each number in turn by chance.
-    fn refused_load(&mut self) -> Made {
+    pub fn refused_load(&mut self) -> Made {
         if self.random.once_in(8) {
             if let Some(made) = self.unserved_load() {
                 return made;
@@ -497,8 +526,14 @@ impl Generator {
         if !(self.is_idle() && self.random.once_in(3)) {
             self.current = 1 - self.current;
         }
-        self.to_start = self.plan().circuits.len();
+        self.start_anew();
         self.made("further load", self.load(), 0)
+    }
+
+    /// Every circuit is free and still to be started.
+    pub fn start_anew(&mut self) {
+        self.to_start = self.plan().circuits.len();
+        self.aim.forget();
     }
 
     pub fn short_state(&mut self) -> usize {
@@ -539,49 +574,4 @@ impl Generator {
         }
         made
     }
-}
-
-/// What the usual sheets are like: crowded.
-fn usual_wish(random: &mut Random, columns: u32, rows: u32) -> Wish {
-    Wish {
-        columns,
-        rows,
-        memory_words: random.between(12, 64),
-        circuits: random.between(3, 18),
-        longest_region: random.between(2, 12),
-        schedules: 0,
-        period: None,
-        entries: random.between(8, 60),
-        length: random.choose(&[None, None, Some(2), Some(3), Some(5)]),
-    }
-}
-
-/// Sheets by style; more than half are usual ones of short periods.
-fn plan_of_style(random: &mut Random, columns: u32, rows: u32, style: u64) -> Plan {
-    let usual = usual_wish(random, columns, rows);
-    let some = random.between(1, 4);
-    let (wish, schedules, shortest, longest) = match style {
-        14 | 15 => {
-            let crowded = Wish { memory_words: 128, circuits: 64, longest_region: 4, entries: 180, ..usual };
-            (crowded, some, 24, 48)
-        }
-        16 => (Wish { memory_words: random.between(1, 3), longest_region: 2, ..usual }, some, 9, 32),
-        17 => (Wish { memory_words: 16_384, longest_region: 64, circuits: 24, ..usual }, some, 9, 32),
-        18 => (usual, 2, 49, 300),
-        19 => (Wish { entries: 100, ..usual }, random.choose(&[1, 8]), 1_000, 1_024),
-        20 => (Wish { circuits: 0, entries: 0, ..usual }, some, 9, 32),
-        21 => (usual, some, 9, 9),
-        _ => (usual, some, 9, 32),
-    };
-    let mut plan = wished_plan(random, &wish);
-    for _ in 0..schedules {
-        let period = random.between(shortest, longest);
-        // Now and then a schedule in which nothing is sent.
-        let entries = if random.once_in(10) { 0 } else { wish.entries };
-        let schedule = some_schedule(random, &plan, period, entries, wish.length);
-        plan.schedules.push(schedule);
-    }
-    serve_unserved(random, &mut plan);
-    plan.drop_unserved();
-    plan
 }

@@ -2,7 +2,7 @@
 -- Assumes nothing.
 use Rattle.isolation.specs.Demand.{Demand3}
 use Rattle.isolation.proofs.Reckoning.Dates.{never-refused}
-use Rattle.isolation.proofs.Reckoning.Reckons.{period-number, landed-answered, landed-at-load, landed-kept, as-reckoned, reading}
+use Rattle.isolation.proofs.Reckoning.Reckons.{period-number, landed-answered, landed-at-load, landed-kept, as-reckoned, reading, starts-by}
 use Rattle.isolation.proofs.Reckoning.Undisturbed.{undisturbed-reading}
 
 pub demand3 : Demand3
@@ -14,5 +14,6 @@ demand3 = record {
   landed-kept = landed-kept;
   as-reckoned = as-reckoned;
   undisturbed = λ a b c d n ic id na nb x.
-      undisturbed-reading a b c d n (as-reckoned a c ic) (as-reckoned b d id) na nb x (reading a c ic);
+      undisturbed-reading a b c d n (as-reckoned a c ic) (as-reckoned b d id) na nb x (reading a c ic)
+      (starts-by a c ic) (starts-by b d id);
 }

@@ -8,3 +8,5 @@ pub mod Trajectory
 pub mod Send
 pub mod Deliver
 pub mod NeverFaulty
+pub mod Bound
+pub mod Arriving

@@ -1,9 +1,14 @@
 pub mod Starts
 pub mod Stream
+pub mod StartAnswers
 pub mod Dates
 pub mod Landed
 pub mod SenderFollowed
 pub mod Regions
+pub mod OnWay
+pub mod Inbound
+pub mod UnderWay
+pub mod Busy
 pub mod ReckonedWords
 pub mod Points
 pub mod Reckons

@@ -2,29 +2,26 @@
 -- and the period lengths stay the same. Stated over what the calls answer (session/specs/Calls.antt) and the reckoning: the machine's
 -- cycle stands in it only as what the call `cycle` does.
 use Prim.Native.Nat.{ℕ, suc, _+_, _≤_, _<_}
-use mathlib.Core.Bool.{Bool, true}
+use mathlib.Core.Bool.{Bool, true, false}
 use mathlib.Core.List.{List, [], _∷_, _++_, flatMap}
 use mathlib.Core.Path.{_≡_}
 use lib.ListN.{length, getD}
-use Rattle.words.specs.Tests.{_and_, _≤?_, _<?_, _=?_}
+use Rattle.words.specs.Tests.{any, _and_, _or_, _≤?_, _=?_}
 use Rattle.words.specs.Words.{pick}
 use Rattle.sheet.specs.declared.circuits.Region.{Region}
 use Rattle.sheet.specs.declared.circuits.Circuit.{Circuit}
 use Rattle.sheet.specs.Sheet.{columns, rows, circuits, schedules, nodes, circuitAt, period, entriesOf, entryCount, entryAt}
 use Rattle.sheet.specs.Slots.{slotLength, sourceOf, destinationOf}
 use Rattle.sheet.specs.Rules.{entryRoute, routeHops}
+pub use Rattle.network.specs.Inbound.{inRegion}
 use Rattle.session.specs.declared.Found.the-variants.{Word as FoundWord}
 use Rattle.session.specs.declared.Landed.{Landed}
 use Rattle.session.specs.declared.Landed.the-variants.{Nothing, Word as LandedWord, Refused}
 use Rattle.session.specs.Answers.{leftAnswer, fetchAnswer, periodAnswer, landedAnswer}
-use Rattle.session.specs.Calls.{whatLanded, cycle, number, ask}
+use Rattle.session.specs.Calls.{whatLanded, start, cycle, number, ask}
 use Rattle.isolation.specs.Sessions.{Session, afterLoad, standing, Event, startDone, storeDone, orderDone, cycleDone, eventsBefore, events, Transfer}
 use Rattle.isolation.specs.Calendar.{Calendar, calendarAtLoad, calendarEvent, calendarAt, cyclesDone, pointAfter, scheduleIn}
 use Rattle.isolation.specs.Reckoning.{Item, none, item, Reckoned, owed, hopsOf, flightCycles, lastReckoned, reckon}
-
--- an address of a region
-abbrev pub inRegion : Region → ℕ → Bool
-inRegion r address = r .offset ≤? address and address <? r .offset + r .size
 
 -- what landed, as far as it falls into a region
 abbrev pub itemWithin : Region → Landed → Item
@@ -38,6 +35,20 @@ itsRecord l circuit = circuitAt (l .sheet) circuit
 
 abbrev pub reckonedAt : Session → ℕ → ℕ → Reckoned
 reckonedAt l circuit k = reckon (l .sheet) circuit (l .lent .memory) (eventsBefore l k)
+
+-- something is an item, and not nothing
+abbrev pub isItem : Item → Bool
+isItem none = false
+isItem (item kind address w) = true
+
+-- after so many cycles words of a circuit are under way: one left in a cycle t of them, and cycle t + 3 × (hops + 1), in which it lands, is
+-- still to come
+unfoldable pub underWay : List ℕ → ℕ → Reckoned → ℕ → Bool
+underWay z circuit r cycles = any cycles (λ t. isItem (r .sent .leaving t) and cycles ≤? t + flightCycles z circuit)
+
+-- document 02, L3: so a circuit is busy while words of it are owed or under way
+abbrev pub reckonedBusy : List ℕ → ℕ → Reckoned → ℕ → Bool
+reckonedBusy z circuit r cycles = 1 ≤? owed r or underWay z circuit r cycles
 
 -- call k of the session is a cycle that is carried out
 abbrev pub CycleAt : Session → ℕ → Type 0
@@ -66,6 +77,13 @@ pub record AsReckoned (l : Session) (circuit : ℕ) : Type 0 where
   -- at every point what landed last in its receive region is what left so many cycles before, or nothing
   pub landings : (k : ℕ) → k ≤ length (l .calls)
       → circuitLanding l circuit k ≡ lastReckoned (l .sheet) circuit (reckonedAt l circuit k) (cyclesDone l k)
+  -- at every point a start on it that answers 17 means that words of it are owed or under way, and one that answers 0 that none are
+  pub busy : (k readAddress writeAddress count kind : ℕ) → k ≤ length (l .calls)
+      → number (start circuit readAddress writeAddress count kind) (standing l k) ≡ 17
+      → reckonedBusy (l .sheet) circuit (reckonedAt l circuit k) (cyclesDone l k) ≡ true
+  pub free : (k readAddress writeAddress count kind : ℕ) → k ≤ length (l .calls)
+      → number (start circuit readAddress writeAddress count kind) (standing l k) ≡ 0
+      → reckonedBusy (l .sheet) circuit (reckonedAt l circuit k) (cyclesDone l k) ≡ false
   -- its regions' words are those at load, changed only by stores and these landings
   pub read-region : (k address : ℕ) → k ≤ length (l .calls) → inRegion (itsRecord l circuit .read) address ≡ true
       → fetchAnswer (standing l k) (sourceOf (l .sheet) circuit) address ≡ FoundWord (reckonedAt l circuit k .words .read address)
@@ -124,6 +142,13 @@ pub record Undisturbed (a b : Session) (c d n : ℕ) : Type 0 where
   -- directly after the n cycles, its words left and its regions' words
   pub words-left : leftAnswer (standing a (pointAfter a n)) c ≡ leftAnswer (standing b (pointAfter b n)) d
   pub regions : SameRegions a b c d (pointAfter a n) (pointAfter b n)
+  -- and the same start on it answers 17 in both or in neither, and 0 in both or in neither
+  pub same-busy : (readAddress writeAddress count kind : ℕ)
+      → (number (start c readAddress writeAddress count kind) (standing a (pointAfter a n)) =? 17)
+      ≡ (number (start d readAddress writeAddress count kind) (standing b (pointAfter b n)) =? 17)
+  pub same-free : (readAddress writeAddress count kind : ℕ)
+      → (number (start c readAddress writeAddress count kind) (standing a (pointAfter a n)) =? 0)
+      ≡ (number (start d readAddress writeAddress count kind) (standing b (pointAfter b n)) =? 0)
 
 -- demand 3, one claim over lists of calls
 pub record Demand3 : Type 0 where

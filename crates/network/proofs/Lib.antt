@@ -4,6 +4,7 @@ pub mod ViewLaws
 pub mod FaultLaws
 pub mod StepLaws
 pub mod StageLaws
+pub mod BoundLaws
 pub mod SlotLaws
 pub mod FirstLaws
 pub mod PartLaws

@@ -16,6 +16,7 @@ use Rattle.sheet.proofs.CheckLaws.{rules-pass}
 use Rattle.network.specs.Registers.{reg, sheetIn, room, stateWords, clockRow, orderMarkPlace, leftRow}
 use Rattle.network.specs.Inner.Machine.{faultyIn}
 use Rattle.network.specs.OneMachine.{cycleFault}
+use Rattle.network.specs.Inbound.{isInbound}
 use Rattle.soundness.specs.Sound.{sound, kindTravels}
 use Rattle.soundness.proofs.SoundLaws.{Lies, lies}
 use Rattle.words.specs.Numbers.{_then_}
@@ -79,6 +80,7 @@ pub record StartPassed (s : List ℕ) (circuit readAddress writeAddress count ki
   pub reads : Lies (circuitAt (sheetIn s) circuit .read) readAddress count
   pub writes : Lies (circuitAt (sheetIn s) circuit .receive) writeAddress count
   pub free : reg s leftRow circuit ≡ 0
+  pub not-inbound : isInbound s circuit ≡ false
 
 -- a register that is not at least 1
 zero-left : (x : ℕ) → not (1 ≤? x) ≡ true → x ≡ 0
@@ -87,6 +89,12 @@ zero-left x e = go (ℕ-discrete x 0)
     go : Dec (x ≡ 0) → x ≡ 0
     go (yes q) = q
     go (no q) = absurd (false≢true (sym (not-holds _ e) ∙ yes≤ (omega (arith, q))))
+
+-- neither of two tests holds
+neither : (a b : Bool) → not (a or b) ≡ true → (not a ≡ true) × (b ≡ false)
+unfolding _or_
+neither true b e = absurd (false≢true e)
+neither false b e = (refl, not-holds b e)
 
 pub start-passed : (s : List ℕ) (circuit readAddress writeAddress count kind : ℕ)
     → startNumber s circuit readAddress writeAddress count kind ≡ 0
@@ -102,6 +110,7 @@ start-passed s circuit readAddress writeAddress count kind e =
     let fits = unless-zero 16 _ (omega arith) (r .0) in
     let fits₁ = and-right _ _ fits in
     let fits₂ = and-right _ _ fits₁ in
+    let idle = neither _ _ (unless-zero 17 _ (omega arith) (r .1)) in
     record {
       state = state-passed s (p .0);
       circuit-inside = is< _ _ (and-left _ _ named);
@@ -112,7 +121,8 @@ start-passed s circuit readAddress writeAddress count kind e =
       single = and-left _ _ fits₁;
       reads = lies _ _ _ (and-left _ _ fits₂);
       writes = lies _ _ _ (and-right _ _ fits₂);
-      free = zero-left _ (unless-zero 17 _ (omega arith) (r .1));
+      free = zero-left _ (idle .0);
+      not-inbound = idle .1;
     }
 
 -- a list of transfers that is taken

@@ -9,7 +9,7 @@ use native.Mathlib.Nat.{not-suc-le-zero}
 use lib.ListN.{length, take, getD}
 use Rattle.words.specs.Tests.{_and_, _or_, _≤?_, _<?_, _=?_}
 use Rattle.words.specs.Words.{pick}
-use Rattle.words.proofs.TestLaws.{yes≤, yes=}
+use Rattle.words.proofs.TestLaws.{or-yes, yes≤, yes=}
 use Rattle.words.proofs.NumberLaws.{then-zero, then-next, then-on, unless-no}
 use Rattle.packet.specs.Header.{dataKind}
 use Rattle.sheet.specs.Sheet.{memoryWords, circuits, circuitAt}
@@ -123,7 +123,7 @@ unfolding startNumber isBusy
 refused-busy s u t b named fits =
     sym (then-next (b .passes)
     (then-on 15 (named-same s u t (b .same-sheet) named)
-    (then-on 16 (fits-same s u t (b .same-sheet) fits) (unless-no 17 (ap not (yes≤ (b .some-left)))))))
+    (then-on 16 (fits-same s u t (b .same-sheet) fits) (unless-no 17 (ap not (sym (or-yes _ (yes≤ (b .some-left)))))))))
 
 next-done : (t : Transfer) (s : List ℕ) → transferNumber s t ≡ 0
     → startedNext s t ≡ startedBy s t

@@ -17,6 +17,7 @@ use Rattle.network.specs.Registers.{orderPeriodPlace, landingMark, landingKind,
 use Rattle.network.specs.Inner.Machine.{nextState, nextMemory}
 use Rattle.network.specs.OneMachine.{cycleFault}
 use Rattle.network.specs.Seen.{seenLanding}
+use Rattle.network.specs.Inbound.{isInbound}
 use Rattle.soundness.specs.Sound.{sound, kindTravels, liesIn}
 use Rattle.session.specs.declared.Transfer.{Transfer}
 
@@ -48,9 +49,10 @@ startFits s circuit readAddress writeAddress count kind =
     and liesIn (circuitAt (sheetIn s) circuit .read) readAddress count
     and liesIn (circuitAt (sheetIn s) circuit .receive) writeAddress count
 
--- document 01: a circuit is free at zero words left
+-- document 02, L3: a circuit is busy until its last word has landed; the words not yet sent are left, those sent and not landed are on
+-- their way
 unfoldable pub isBusy : List ℕ → ℕ → Bool
-isBusy s circuit = 1 ≤? reg s leftRow circuit
+isBusy s circuit = 1 ≤? reg s leftRow circuit or isInbound s circuit
 
 unfoldable pub startNumber : List ℕ → ℕ → ℕ → ℕ → ℕ → ℕ → ℕ
 startNumber s circuit readAddress writeAddress count kind =

@@ -1,6 +1,6 @@
 // The calls that write without a cycle: store, order and start. A refusal writes nothing.
 ghost use mathlib.Core.Path.{_≡_};
-ghost use Rattle.session.specs.Calls.{stateNumber, orderNumber, ordered, startNamed, startFits, startNumber, started, lend, lendState, start, store, order, number, after};
+ghost use Rattle.session.specs.Calls.{stateNumber, orderNumber, ordered, startNamed, startFits, isBusy, startNumber, started, lend, lendState, start, store, order, number, after};
 ghost use Rattle.session.specs.Answers.{answerOf};
 use crate::Answer;
 use network::put_reg;
@@ -111,6 +111,17 @@ fn start_fits(s: &[u32], circuit: u32, read: u32, write: u32, count: u32, kind: 
     false
 }
 
+// A circuit of a state that has passed 12 and 13 has words that were not sent or have not landed.
+fn is_busy(s: &[u32], circuit: u32) -> bool
+    requires { ⌜ stateNumber (now s) ≡ 0 ⌝ }
+    ensures { λ r. ⌜ r ≡ isBusy (now (s .entry)) circuit ⌝ }
+{
+    if reg(s, network::LEFT_ROW, circuit) != 0 {
+        return true;
+    }
+    inbound::is_inbound(s, circuit)
+}
+
 // The number that a start answers on a state that has passed 12 and 13.
 fn start_number(s: &[u32], circuit: u32, read: u32, write: u32, count: u32, kind: u32) -> u32
     requires { ⌜ stateNumber (now s) ≡ 0 ⌝ }
@@ -118,10 +129,10 @@ fn start_number(s: &[u32], circuit: u32, read: u32, write: u32, count: u32, kind
 {
     if start_named(s, circuit, read, write, kind) {
         if start_fits(s, circuit, read, write, count, kind) {
-            if reg(s, network::LEFT_ROW, circuit) == 0 {
-                return 0;
+            if is_busy(s, circuit) {
+                return 17;
             }
-            return 17;
+            return 0;
         }
         return 16;
     }

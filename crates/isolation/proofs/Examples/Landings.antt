@@ -22,7 +22,7 @@ use Rattle.session.specs.Calls.{Call, start, cycle}
 use Rattle.sheet.proofs.MeantLaws.{itself}
 use Rattle.isolation.specs.Sessions.{Session}
 use Rattle.isolation.specs.Reckoning.{Item, none, item, reckonedLanding, leavesIn}
-use Rattle.isolation.specs.Demand.{circuitLanding}
+use Rattle.isolation.specs.Demand.{underWay, circuitLanding}
 use Rattle.isolation.specs.Examples.{sheetA}
 use Rattle.isolation.proofs.Reckoning.EventsDecided.{decided, events-decided}
 use Rattle.isolation.proofs.Reckoning.Reckons.{as-reckoned}
@@ -82,5 +82,5 @@ pub wanted : map landsAfter (0 ∷ 1 ∷ 2 ∷ 3 ∷ 4 ∷ 5 ∷ 6 ∷ 7 ∷ 8 �
     ≡ none ∷ none ∷ none ∷ none ∷ none ∷ none ∷ none ∷ none ∷ none ∷ item 0 0 11 ∷ item 0 1 22
     ∷ none ∷ none ∷ none ∷ none ∷ none ∷ none ∷ none ∷ item 0 2 33 ∷ none ∷ none ∷ none ∷ []
 unfolding rows reckonedLanding leavesIn slotLength entryBeginning beginsAt schedulePlace circuitAt entriesOf entryAt lastOf any _and_ _or_ _≤?_ _<?_ _=?_
-    distanceOf leastFrom walks neighbourOf kindTravels liesIn unless _then_
+    distanceOf leastFrom walks neighbourOf kindTravels liesIn unless _then_ underWay
 wanted = refl

@@ -25,20 +25,21 @@ use Rattle.session.specs.declared.Found.the-variants.{Word as FoundWord}
 use Rattle.soundness.specs.Sound.{kindTravels, liesIn}
 use Rattle.session.specs.Answers.{fetchAnswer}
 use Rattle.session.specs.declared.Transfer.{Transfer}
-use Rattle.session.specs.Calls.{Call, load, start, startAll, answersAll, store, fetch, left, periodNumber, whatLanded, order, cycle, ask}
+use Rattle.words.proofs.TestLaws.{is=, yes=}
+use Rattle.session.specs.Calls.{Call, load, start, number, startAll, answersAll, store, fetch, left, periodNumber, whatLanded, order, cycle, ask}
 use Rattle.sheet.proofs.MeantLaws.{itself}
 use Rattle.isolation.specs.Sessions.{Session, afterLoad, standing, Event, storeDone, orderDone, cycleDone}
 use Rattle.isolation.specs.Calendar.{calendarAfter, cyclesDone, pointAfter, scheduleIn}
 use Rattle.isolation.specs.Reckoning.{Item, item, reckonedLanding, leavesIn}
-use Rattle.isolation.specs.Demand.{inRegion, itsRecord, circuitLanding, Alike, Undisturbed}
+use Rattle.isolation.specs.Demand.{inRegion, itsRecord, underWay, circuitLanding, Alike, Undisturbed}
 use Rattle.isolation.proofs.Reckoning.Regions.{in-high}
 use Rattle.isolation.proofs.Reckoning.Points.{upTo, eventsOf}
-use Rattle.isolation.proofs.Reckoning.EventsDecided.{decided, events-decided, listAnswers, list-here}
+use Rattle.isolation.proofs.Reckoning.EventsDecided.{startAnswer, decided, events-decided, listAnswers, list-here}
 use Rattle.isolation.proofs.Reckoning.Reckons.{as-reckoned}
 use Rattle.isolation.proofs.Reckoning.Alike.{actsIn, acts-are}
 use Rattle.isolation.proofs.Reckoning.Undisturbed.{schedule-before}
 use Rattle.isolation.proofs.DemandProved.{demand3}
-use Rattle.isolation.proofs.Examples.Witness.{badLoads, bad-loads, load-zero, zeros, zeros-long, startEvent, events-are, cycles-by, lastLanded, landed-by, table, table-at}
+use Rattle.isolation.proofs.Examples.Witness.{badLoads, bad-loads, load-zero, zeros, zeros-long, startEvent, events-are, cycles-by, lastLanded, landed-by, started-by, table, table-at}
 
 -- the first sheet: 8 memory words a node, and one circuit, 0, from node 0 to node 1; its slots go by route 13 (east), at offset 0 for two
 -- words in schedule 0 of period 10, at offset 2 for one word in schedule 1 of period 12
@@ -168,12 +169,12 @@ otherEvents =
 
 one-decided : decided oneSheet oneMemory oneCalls [] ≡ oneEvents
 unfolding rows reckonedLanding leavesIn slotLength entryBeginning beginsAt schedulePlace circuitAt entriesOf entryAt lastOf any _and_ _or_ _≤?_ _<?_ _=?_
-    kindTravels liesIn unless _then_
+    kindTravels liesIn unless _then_ underWay distanceOf leastFrom walks neighbourOf
 one-decided = refl
 
 other-decided : decided otherSheet otherMemory otherCalls [] ≡ otherEvents
 unfolding rows reckonedLanding leavesIn slotLength entryBeginning beginsAt schedulePlace circuitAt entriesOf entryAt lastOf any _and_ _or_ _≤?_ _<?_ _=?_
-    kindTravels liesIn unless _then_
+    kindTravels liesIn unless _then_ underWay distanceOf leastFrom walks neighbourOf
 other-decided = refl
 
 first-decided : decided otherSheet otherMemory (take 1 otherCalls) [] ≡ storeDone 3 5 99 ∷ []
@@ -182,7 +183,7 @@ first-decided = refl
 
 -- in the list the third transfer is refused with 17
 list-decided : listAnswers otherSheet otherMemory bothStarted (storeDone 3 5 99 ∷ []) ≡ 0 ∷ 0 ∷ 17 ∷ []
-unfolding rows schedulePlace circuitAt _and_ _or_ _≤?_ _<?_ _=?_ kindTravels liesIn unless _then_
+unfolding rows schedulePlace circuitAt any _and_ _or_ _≤?_ _<?_ _=?_ kindTravels liesIn unless _then_ underWay
 list-decided = refl
 
 pub one-events : (s : List ℕ) (long : stateWords ≤ length s) → eventsOf (oneOn s long) ≡ oneEvents
@@ -343,29 +344,29 @@ module _ (s s′ : List ℕ) (long : stateWords ≤ length s) (long′ : stateWo
       ∙ sym (as-reckoned second 1 (omega arith) .receive-region 0 address (omega arith) i)
 
   -- the two sessions, on any lent states, are alike for the circuit up to 40 cycles
-  pub alike-on : Alike first second 0 1 40
-  alike-on = record {
+  pub alike-on : (n : ℕ) → n ≤ 40 → Alike first second 0 1 n
+  alike-on n most = record {
     same-columns = refl;
     same-rows = rows-alike;
     same-record = record-one ∙ sym record-other;
     same-regions = record { read = alike-read; receive = alike-receive };
     same-acts = λ t l.
         acts-are first 0 t ∙ ap (λ (es : List Event). actsIn oneSheet 0 es t) (one-events s long)
-        ∙ table-at 40 (actsIn oneSheet 0 oneEvents) (actsIn otherSheet 1 otherEvents) acts-alike t l
+        ∙ table-at 40 (actsIn oneSheet 0 oneEvents) (actsIn otherSheet 1 otherEvents) acts-alike t (omega arith)
         ∙ sym (acts-are second 1 t ∙ ap (λ (es : List Event). actsIn otherSheet 1 es t) (other-events s′ long′));
     same-lengths = λ t l.
-        ap (period oneSheet) (one-schedule s long t l) ∙ lengths-alike (t <? 30)
-        ∙ sym (ap (period otherSheet) (other-schedule s′ long′ t l));
+        ap (period oneSheet) (one-schedule s long t (omega arith)) ∙ lengths-alike (t <? 30)
+        ∙ sym (ap (period otherSheet) (other-schedule s′ long′ t (omega arith)));
     same-slots = λ t offset l.
-        ap (λ (j : ℕ). slotLength oneSheet j offset 0) (one-schedule s long t l) ∙ slots-alike (t <? 30) offset
-        ∙ sym (ap (λ (j : ℕ). slotLength otherSheet j offset 1) (other-schedule s′ long′ t l));
+        ap (λ (j : ℕ). slotLength oneSheet j offset 0) (one-schedule s long t (omega arith)) ∙ slots-alike (t <? 30) offset
+        ∙ sym (ap (λ (j : ℕ). slotLength otherSheet j offset 1) (other-schedule s′ long′ t (omega arith)));
   }
 
   -- so the circuit is undisturbed
-  pub undisturbed-on : Undisturbed first second 0 1 40
-  undisturbed-on =
-      demand3 .undisturbed first second 0 1 40 (omega arith) (omega arith) (omega (arith, one-cycles s long))
-      (omega (arith, other-cycles s′ long′)) alike-on
+  pub undisturbed-on : (n : ℕ) → n ≤ 40 → Undisturbed first second 0 1 n
+  undisturbed-on n most =
+      demand3 .undisturbed first second 0 1 n (omega arith) (omega arith) (omega (arith, one-cycles s long))
+      (omega (arith, other-cycles s′ long′)) (alike-on n most)
 
 -- the two sessions on zeros, and demand 3 applied to them
 abbrev pub one : Session
@@ -375,7 +376,7 @@ abbrev pub other : Session
 other = otherOn zeros zeros-long
 
 pub pair : Undisturbed one other 0 1 40
-pair = undisturbed-on zeros zeros zeros-long zeros-long
+pair = undisturbed-on zeros zeros zeros-long zeros-long 40 (omega arith)
 
 -- what lands of a circuit in cycle t, as the session answers directly after it
 abbrev pub landsAt : Session → ℕ → ℕ → Item
@@ -440,3 +441,32 @@ other-delivers = record {
   stored-word = sym (pair .landings 18 (omega arith)) ∙ one-delivers .stored-word;
   interrupt = sym (pair .landings 39 (omega arith)) ∙ one-delivers .interrupt;
 }
+
+-- directly after 18 cycles all four words have left, and the last lands in the next cycle: a start on the circuit is refused with 17 in the
+-- first session; directly after 19 it is taken
+abbrev answersIn : ℕ → ℕ
+answersIn t = startAnswer oneSheet oneMemory (upTo oneEvents t ++ (cycleDone ∷ [])) 0 0 0 1 0
+
+one-answers : (t : ℕ) → t < 40 → number (start 0 0 0 1 0) (standing one (pointAfter one (suc t))) ≡ answersIn t
+one-answers t l = started-by one oneEvents (one-events zeros zeros-long) t l 0 0 0 1 0
+
+busy-17 : answersIn 17 ≡ 17
+unfolding rows reckonedLanding leavesIn slotLength entryBeginning beginsAt lastOf entriesOf entryAt schedulePlace circuitAt
+    neighbourOf walks distanceOf leastFrom any _and_ _or_ _≤?_ _<?_ _=?_ kindTravels liesIn unless _then_ underWay
+busy-17 = refl
+
+free-18 : answersIn 18 ≡ 0
+unfolding rows reckonedLanding leavesIn slotLength entryBeginning beginsAt lastOf entriesOf entryAt schedulePlace circuitAt
+    neighbourOf walks distanceOf leastFrom any _and_ _or_ _≤?_ _<?_ _=?_ kindTravels liesIn unless _then_ underWay
+free-18 = refl
+
+-- and so, by demand 3, in the other
+pub other-busy : number (start 1 0 0 1 0) (standing other (pointAfter other 18)) ≡ 17
+other-busy =
+    is= _ _ (sym (undisturbed-on zeros zeros zeros-long zeros-long 18 (omega arith) .same-busy 0 0 1 0)
+    ∙ yes= (one-answers 17 (omega arith) ∙ busy-17))
+
+pub other-free : number (start 1 0 0 1 0) (standing other (pointAfter other 19)) ≡ 0
+other-free =
+    is= _ _ (sym (undisturbed-on zeros zeros zeros-long zeros-long 19 (omega arith) .same-free 0 0 1 0)
+    ∙ yes= (one-answers 18 (omega arith) ∙ free-18))

@@ -18,7 +18,7 @@ use Rattle.sheet.proofs.MeantLaws.{itself}
 use Rattle.isolation.specs.Sessions.{Session, Event, storeDone, cycleDone}
 use Rattle.isolation.specs.Reckoning.{Item, none, item, reckonedLanding, leavesIn}
 use Rattle.isolation.specs.Calendar.{pointAfter}
-use Rattle.isolation.specs.Demand.{Undisturbed, circuitLanding}
+use Rattle.isolation.specs.Demand.{underWay, Undisturbed, circuitLanding}
 use Rattle.isolation.proofs.Reckoning.Points.{upTo}
 use Rattle.isolation.proofs.Reckoning.EventsDecided.{decided}
 use Rattle.isolation.proofs.Examples.Witness.{bad-loads, load-zero, zeros, zeros-long, events-are, lastLanded, landed-by, startEvent}
@@ -44,7 +44,7 @@ eventsThen a b = startEvent 0 0 0 3 0 ∷ storeDone 0 1 a ∷ storeDone 0 1 b �
 
 events-decided-so : (a b : ℕ) → decided sheet memories (storesThen a b) [] ≡ eventsThen a b
 unfolding rows reckonedLanding leavesIn slotLength entryBeginning beginsAt schedulePlace circuitAt entriesOf entryAt lastOf any _and_ _or_ _≤?_ _<?_ _=?_
-    kindTravels liesIn unless _then_
+    kindTravels liesIn unless _then_ underWay
 events-decided-so a b = refl
 
 -- the word stored last lands in cycle 8

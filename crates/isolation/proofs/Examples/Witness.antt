@@ -1,5 +1,5 @@
 -- What the witnesses of demand 3 share: loads that are refused, a load that is carried out, the sessions' events computed, and what is
--- answered as landed from them.
+-- answered as landed, or to a start, from them.
 -- Assumes nothing.
 use Prim.Native.Nat.{ℕ, zero, suc, _*_, _≤_, _<_}
 use mathlib.Core.Bool.{Bool, true, false, false≢true}
@@ -17,12 +17,12 @@ use Rattle.sheet.specs.Rules.{firstBroken, checkRules, checkNumber}
 use Rattle.network.specs.Registers.{stateWords}
 use Rattle.session.specs.Calls.{Lent, Call, load, start, startAll, store, order, cycle, number, after, loadWordsNumber, loadNumber, ask}
 use Rattle.words.proofs.NumberLaws.{then-zero, zero-then, zero-unless}
-use Rattle.isolation.specs.Sessions.{LoadsRefused, Session, Event, startDone, cycleDone, eventsBefore}
+use Rattle.isolation.specs.Sessions.{LoadsRefused, Session, standing, Event, startDone, cycleDone, eventsBefore}
 use Rattle.isolation.specs.Calendar.{calendarAfter, cyclesDone, pointAfter}
 use Rattle.isolation.specs.Reckoning.{Item, lastReckoned, reckon}
 use Rattle.isolation.specs.Demand.{circuitLanding}
 use Rattle.isolation.proofs.Reckoning.Points.{upTo, cyclesIn, all-events, all-counted, point-inside, reached, eventsOf}
-use Rattle.isolation.proofs.Reckoning.EventsDecided.{decided, events-decided}
+use Rattle.isolation.proofs.Reckoning.EventsDecided.{startAnswer, start-here, decided, events-decided}
 use Rattle.isolation.proofs.Reckoning.Reckons.{as-reckoned}
 
 -- every load among some calls has a sheet that does not pass
@@ -98,6 +98,17 @@ landed-by l circuit es inside e t i =
     as-reckoned l circuit inside .landings (pointAfter l (suc t)) (point-inside l (suc t))
     ∙ ap (λ (k : ℕ). lastLanded (l .sheet) circuit (l .lent .memory) (eventsBefore l k)) (r .point)
     ∙ ap (lastLanded (l .sheet) circuit (l .lent .memory)) (r .through ∙ ap (λ (r : List Event). upTo r t ++ (cycleDone ∷ [])) e)
+
+-- what a start answers after each cycle, from the events
+pub started-by : (l : Session) (es : List Event) → eventsOf l ≡ es → (t : ℕ) → t < cyclesIn es
+    → (circuit readAddress writeAddress count kind : ℕ)
+    → number (start circuit readAddress writeAddress count kind) (standing l (pointAfter l (suc t)))
+    ≡ startAnswer (l .sheet) (l .lent .memory) (upTo es t ++ (cycleDone ∷ [])) circuit readAddress writeAddress count kind
+started-by l es e t i circuit readAddress writeAddress count kind =
+    let r = reached l t (omega (arith, i, cycles-by l es e)) in
+    start-here l (pointAfter l (suc t)) circuit readAddress writeAddress count kind
+    ∙ ap (λ (fs : List Event). startAnswer (l .sheet) (l .lent .memory) fs circuit readAddress writeAddress count kind)
+    (ap (eventsBefore l) (r .point) ∙ r .through ∙ ap (λ (fs : List Event). upTo fs t ++ (cycleDone ∷ [])) e)
 
 -- two functions with the same values below n, last first
 abbrev pub table : {A : Type 0} → ℕ → (ℕ → A) → List A

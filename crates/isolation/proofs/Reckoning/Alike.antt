@@ -6,7 +6,7 @@ use mathlib.Core.List.{List, [], _∷_, _++_, flatMap}
 use mathlib.Core.Path.{_≡_, refl, sym, _∙_, ap, ap₂, subst}
 use native.Mathlib.Omega.{arith}
 use native.Mathlib.Nat.{le-refl}
-use Rattle.words.specs.Tests.{_and_, _≤?_, _=?_, any}
+use Rattle.words.specs.Tests.{_and_, _or_, _≤?_, _=?_, any}
 use Rattle.words.specs.Words.{pick}
 use Rattle.words.proofs.TestLaws.{is=, yes=, no=}
 use Rattle.words.proofs.AllLaws.{any-same}
@@ -18,9 +18,10 @@ use Rattle.isolation.specs.Sessions.{Session, Transfer, Event, startDone
 use Rattle.isolation.specs.Calendar.{Calendar, calendarAtLoad, nextCalendar, calendarEvent, calendarAll}
 use Rattle.isolation.specs.Reckoning.{Item, none, item, Reckoned, owed, flightCycles, reckonedLanding, lastReckoned, wordAfter, leavesIn}
 use Rattle.isolation.specs.Reckoning.{nextItem, cycleOn, startOn, storeOn, reckonEvent, reckonAll}
-use Rattle.isolation.specs.Demand.{inRegion, Act, began, readStored, receiveStored, actOf, eventsAfter, actsAfter}
+use Rattle.isolation.specs.Demand.{inRegion, underWay, reckonedBusy, Act, began, readStored, receiveStored, actOf, eventsAfter, actsAfter}
 use Rattle.isolation.proofs.Reckoning.Dates.{next-cycles, next-cycle}
 use Rattle.isolation.proofs.Reckoning.Points.{stretch, eventsOf}
+use Rattle.isolation.proofs.Reckoning.UnderWay.{under-way-same}
 
 -- two calendars agree in the cycles since the load and in the cycle within the period
 pub record SameTime (k k′ : Calendar) : Type 0 where
@@ -291,6 +292,13 @@ pub landed-same : (z z′ : List ℕ) (c d : ℕ) {m : Circuit} (r q : Reckoned)
     → Same m r q → lastReckoned z c r n ≡ lastReckoned z′ d q n′
 landed-same z z′ c d r q n n′ f e h =
     ap₂ (λ (t : ℕ) (i : Item). pick (1 ≤? t) i none) e (landing-same z z′ c d r q (n - 1) (n′ - 1) f (ap (λ (t : ℕ). t - 1) e) h)
+
+-- both are busy or neither is
+pub busy-same : (z z′ : List ℕ) (c d : ℕ) {m : Circuit} (r q : Reckoned) (n n′ : ℕ) → flightCycles z c ≡ flightCycles z′ d → n ≡ n′
+    → Same m r q → reckonedBusy z c r n ≡ reckonedBusy z′ d q n′
+busy-same z z′ c d r q n n′ f e h =
+    ap₂ (λ (x : Transfer) (g : ℕ). 1 ≤? (x .count - g) or underWay z c r n) (h .same-transfer) (h .same-gone)
+    ∙ ap (λ (b : Bool). 1 ≤? owed q or b) (under-way-same z z′ c d r q n n′ f e (h .same-leaving))
 
 -- a cycle on both calendars
 pub time-next : (z z′ : List ℕ) (c d : ℕ) (k k′ : Calendar) → Sheets z z′ c d k k′ → SameTime k k′

@@ -8,38 +8,44 @@ use mathlib.Core.Path.{_≡_, refl, sym, _∙_, ap, ap₂, subst}
 use native.Mathlib.Omega.{arith}
 use native.Mathlib.Decide.{decLt}
 use native.Mathlib.Nat.{not-suc-le-zero}
-use lib.ListN.{length, take, getD}
-use Rattle.words.specs.Tests.{_and_, _or_, _≤?_, _<?_, _=?_}
+use lib.ListN.{length, take, drop, getD}
+use Rattle.words.specs.Tests.{_and_, _≤?_, _<?_, _=?_}
 use Rattle.words.specs.Words.{pick}
 use Rattle.words.specs.Numbers.{unless, _then_}
 use Rattle.words.proofs.TestLaws.{yes≤, no≤, yes=, no=, no<, is=, and-no}
 use Rattle.sheet.specs.Sheet.{memoryWords, circuits, schedules, nodes, circuitAt}
-use Rattle.network.specs.View.{Order, noOrder, pending}
-use Rattle.network.specs.Registers.{reg, clockRow, orderMarkPlace, orderSchedulePlace, orderPeriodPlace, leftRow}
+use Rattle.sheet.specs.Rules.{verdict}
+use Rattle.network.specs.View.{Order, noOrder, pending, View}
+use Rattle.network.specs.Registers.{reg, clockRow, orderMarkPlace, orderSchedulePlace, orderPeriodPlace}
 use Rattle.network.specs.Seen.{seenOrder}
-use Rattle.soundness.specs.Sound.{kindTravels, liesIn}
+use Rattle.soundness.specs.Sound.{kindTravels}
 use Rattle.session.specs.declared.Transfer.{Transfer as Listed}
 use Rattle.session.specs.Calls.{lend, lendState, startAll, asStart, transferNumber, startAllNumber, startedBy, startedNext, carriedOut, answersAll}
 use Rattle.session.specs.Calls.{Lent, Call, load, start, store, fetch, left, periodNumber, whatLanded, order, cycle, isLoad, number, memoryNumber}
-use Rattle.session.specs.Calls.{placeNumber, leftNumber, landedNumber, startNamed, startFits, isBusy, startNumber, isPending, ahead, orderNumber}
+use Rattle.session.specs.Calls.{placeNumber, leftNumber, landedNumber, isBusy, isPending, ahead, orderNumber}
 use Rattle.session.specs.Calls.{Question, ask, questionNumber}
-use Rattle.words.proofs.NumberLaws.{zero-then, zero-unless, unless-test, after-zero, test-then, then-next, then-stop}
+use Rattle.words.proofs.NumberLaws.{zero-then, zero-unless, unless-test, after-zero, test-then, then-stop}
 use Rattle.isolation.specs.Sessions.{Session, afterLoad, standing, Event, startOf, eventOf, eventsBefore}
 use Rattle.isolation.specs.Calendar.{Calendar, calendarAtLoad, calendarAll, calendarAfter, calendarAt, cyclesDone}
-use Rattle.isolation.specs.Reckoning.{owed, reckon, atLoad}
-use Rattle.isolation.proofs.Reckoning.Stream.{isCycle, Fine, fine-does, is-cycle}
-use Rattle.isolation.proofs.Reckoning.ReckonedWords.{Now, start-now}
-use Rattle.isolation.proofs.Reckoning.Dates.{point-at, never-refused}
+use Rattle.isolation.specs.Reckoning.{Reckoned, reckon, atLoad}
+use Rattle.isolation.specs.Demand.{reckonedBusy}
+use Rattle.isolation.proofs.Reckoning.Stream.{isCycle, seen, Fine, fine-does, is-cycle, machineAt, session-passes, session-trajectory}
+use Rattle.isolation.proofs.Reckoning.ReckonedWords.{Now, start-now, start-leaving}
+use Rattle.isolation.proofs.Reckoning.Dates.{calendar-append, point-at, never-refused}
 use Rattle.isolation.proofs.Reckoning.Points.{events-more, reckon-last}
-use Rattle.isolation.proofs.Reckoning.Reckons.{state-zero, refused-at, at-point}
+use Rattle.isolation.proofs.Reckoning.Reckons.{refused-at, at-point, busy-at}
+use Rattle.isolation.proofs.Reckoning.StartAnswers.{namedOn, fitsIn, state-zero, start-is}
+use Rattle.isolation.proofs.Reckoning.Busy.{SameWires, point-wires, start-wires, busy-agrees}
+use Rattle.isolation.proofs.Reckoning.SenderFollowed.{itemOf}
+use Rattle.isolation.proofs.Flights.Deliver.{leavingNow}
+use Rattle.isolation.proofs.Flights.Trajectory.{Trajectory}
 
 -- the number that a start answers, from the events before it
-abbrev startAnswer : List ℕ → List ℕ → List Event → ℕ → ℕ → ℕ → ℕ → ℕ → ℕ
+abbrev pub startAnswer : List ℕ → List ℕ → List Event → ℕ → ℕ → ℕ → ℕ → ℕ → ℕ
 startAnswer z m es circuit readAddress writeAddress count kind =
-    unless 15 (circuit <? circuits z and readAddress <? memoryWords z and writeAddress <? memoryWords z and kindTravels kind)
-    then unless 16 (1 ≤? count and (kind =? 0 or count =? 1) and liesIn (circuitAt z circuit .read) readAddress count
-    and liesIn (circuitAt z circuit .receive) writeAddress count)
-    then unless 17 (owed (reckon z circuit m es) =? 0)
+    unless 15 (namedOn z circuit readAddress writeAddress kind)
+    then unless 16 (fitsIn (circuitAt z circuit) readAddress writeAddress count kind)
+    then unless 17 (not (reckonedBusy z circuit (reckon z circuit m es) (calendarAfter z es .cycles)))
 
 -- an order is pending
 abbrev isHeld : Order → Bool
@@ -68,44 +74,31 @@ goes z m es (order schedule period) = orderGoes z (calendarAfter z es) schedule 
 goes z m es cycle = true
 goes z m es (ask question) = askGoes z question
 
-none-left : (n : ℕ) → not (1 ≤? n) ≡ (n =? 0)
-none-left zero = ap not (no≤ (omega arith)) ∙ sym (yes= refl)
-none-left (suc n) = ap not (yes≤ (omega arith)) ∙ sym (no= (λ e. absurd (let z : ⊥ = omega arith in z)))
-
 -- a register shows whether an order is pending
 held-register : (mark schedule period : ℕ) → isHeld (seenOrder mark schedule period) ≡ (1 ≤? mark)
 held-register zero schedule period = sym (no≤ (omega arith))
 held-register (suc mark) schedule period = sym (yes≤ (omega arith))
 
--- what a start answers on lent words, where each circuit's owed words are reckoned from the events before it
+-- what a start answers on lent words, where each circuit is busy by the words as it is by the events before it
 module _ (z m : List ℕ) (w : Lent) (f : Fine z w) (es : List Event)
-    (owed-is : (circuit : ℕ) → circuit < circuits z → owed (reckon z circuit m es) ≡ reg (w .state) leftRow circuit) where
+    (busy-is : (circuit : ℕ) → circuit < circuits z
+    → isBusy (w .state) circuit ≡ reckonedBusy z circuit (reckon z circuit m es) (calendarAfter z es .cycles)) where
   start-answers : (circuit readAddress writeAddress count kind : ℕ)
       → number (start circuit readAddress writeAddress count kind) w ≡ startAnswer z m es circuit readAddress writeAddress count kind
-  unfolding startNumber startNamed startFits isBusy
   start-answers circuit readAddress writeAddress count kind =
-      sym (then-next (state-zero z w f) refl)
-      ∙ ap (λ (y : List ℕ).
-      unless 15 (circuit <? circuits y and readAddress <? memoryWords y and writeAddress <? memoryWords y and kindTravels kind)
-      then unless 16 (1 ≤? count and (kind =? 0 or count =? 1) and liesIn (circuitAt y circuit .read) readAddress count
-      and liesIn (circuitAt y circuit .receive) writeAddress count)
-      then unless 17 (not (isBusy (w .state) circuit))) (f .sheet-is)
-      ∙ go (decLt circuit (circuits z))
+      start-is z w f circuit readAddress writeAddress count kind ∙ go (decLt circuit (circuits z))
     where
       named : Bool
       named = readAddress <? memoryWords z and writeAddress <? memoryWords z and kindTravels kind
 
       fits : Bool
-      fits =
-          1 ≤? count and (kind =? 0 or count =? 1) and liesIn (circuitAt z circuit .read) readAddress count
-          and liesIn (circuitAt z circuit .receive) writeAddress count
+      fits = fitsIn (circuitAt z circuit) readAddress writeAddress count kind
 
       go : Dec (circuit < circuits z)
-          → (unless 15 (circuit <? circuits z and named) then unless 16 fits then unless 17 (not (1 ≤? reg (w .state) leftRow circuit)))
-          ≡ (unless 15 (circuit <? circuits z and named) then unless 16 fits then unless 17 (owed (reckon z circuit m es) =? 0))
+          → (unless 15 (circuit <? circuits z and named) then unless 16 fits then unless 17 (not (isBusy (w .state) circuit)))
+          ≡ startAnswer z m es circuit readAddress writeAddress count kind
       go (yes inside) =
-          ap (λ (t : Bool). unless 15 (circuit <? circuits z and named) then unless 16 fits then unless 17 t)
-          (none-left (reg (w .state) leftRow circuit) ∙ ap (λ (n : ℕ). n =? 0) (sym (owed-is circuit inside)))
+          ap (λ (b : Bool). unless 15 (circuit <? circuits z and named) then unless 16 fits then unless 17 (not b)) (busy-is circuit inside)
       go (no n) =
           let outside : (circuit <? circuits z and named) ≡ false = sym (and-no named (no< (omega (arith, n)))) in
           sym (then-stop 15 _ (omega arith) outside) ∙ then-stop 15 _ (omega arith) outside
@@ -131,11 +124,23 @@ pub record ListShown (z m : List ℕ) (ts : List Listed) (s : List ℕ) (es : Li
   pub tells : map startOf (carriedOut s ts) ≡ listTold z m ts es
   pub answers : answersAll s ts ≡ listAnswers z m ts es
 
--- where the lent words show the reckoning of every circuit
-module _ (z m memory : List ℕ) (n : ℕ) where
+-- where the lent words show the reckoning of every circuit, and their wires are those of a machine S of a session
+module _ (z : List ℕ) (passes : verdict z ≡ 0) (S : ℕ → View) (J : Trajectory z S) (m memory : List ℕ) (n : ℕ) where
   record Shown (s : List ℕ) (es : List Event) : Type 0 where
     fine : Fine z (lend s memory)
     now : (circuit : ℕ) → circuit < circuits z → Now z circuit (lend s memory) n (reckon z circuit m es)
+    wires : SameWires z (S n) (seen (lend s memory))
+    left-then : (circuit : ℕ) → circuit < circuits z → (t : ℕ) → t < n
+        → reckon z circuit m es .sent .leaving t ≡ itemOf (leavingNow z (S t) circuit)
+    counted : calendarAfter z es .cycles ≡ n
+
+  -- so each is busy by the words as it is by the events
+  busy-shown : (s : List ℕ) (es : List Event) → Shown s es → (circuit : ℕ) → circuit < circuits z
+      → isBusy s circuit ≡ reckonedBusy z circuit (reckon z circuit m es) (calendarAfter z es .cycles)
+  busy-shown s es p circuit inside =
+      busy-agrees z passes circuit inside S J n (lend s memory) (p .fine) (p .wires) (reckon z circuit m es) (p .now circuit inside .sending)
+      (p .left-then circuit inside)
+      ∙ ap (reckonedBusy z circuit (reckon z circuit m es)) (sym (p .counted))
 
   shown-start : (t : Listed) (s : List ℕ) (es : List Event) → transferNumber s t ≡ 0 → Shown s es
       → Shown (startedBy s t) (es ++ (startOf t ∷ []))
@@ -145,13 +150,18 @@ module _ (z m memory : List ℕ) (n : ℕ) where
         subst (Now z circuit (lend (startedBy s t) memory) n) (sym (reckon-last z circuit es (startOf t) calendarAtLoad (atLoad z circuit m)))
         (start-now z circuit inside (lend s memory) (p .fine) n (calendarAll z es calendarAtLoad) (reckon z circuit m es)
         (p .now circuit inside) (t .circuit) (t .read) (t .write) (t .count) (t .kind) e);
+    wires = start-wires z (S n) (lend s memory) (p .fine) (t .circuit) (t .read) (t .write) (t .count) (t .kind) e (p .wires);
+    left-then = λ circuit inside i l.
+        ap (λ (r : Reckoned). r .sent .leaving i) (reckon-last z circuit es (startOf t) calendarAtLoad (atLoad z circuit m))
+        ∙ start-leaving circuit (t .circuit) _ (reckon z circuit m es) i ∙ p .left-then circuit inside i l;
+    counted = ap (λ (k : Calendar). k .cycles) (calendar-append z es (startOf t ∷ []) calendarAtLoad) ∙ p .counted;
   }
 
   list-shown : (ts : List Listed) (s : List ℕ) (es : List Event) → Shown s es → ListShown z m ts s es
   unfolding carriedOut answersAll startedNext
   list-shown [] s es p = record { tells = refl; answers = refl }
   list-shown (t ∷ ts) s es p =
-      let same = start-answers z m (lend s memory) (p .fine) es (λ circuit inside. p .now circuit inside .sending .left-is)
+      let same = start-answers z m (lend s memory) (p .fine) es (busy-shown s es p)
       (t .circuit) (t .read) (t .write) (t .count) (t .kind) in
       let rest = go (list-shown ts) (transferNumber s t =? 0) refl in
       record {
@@ -194,11 +204,22 @@ module _ (l : Session) (k : ℕ) where
   f : Fine z w
   f = point-at l k .fine
 
+  -- what a start answers here
+  pub start-here : (circuit readAddress writeAddress count kind : ℕ)
+      → number (start circuit readAddress writeAddress count kind) w ≡ startAnswer z (l .lent .memory) es circuit readAddress writeAddress count kind
+  start-here = start-answers z (l .lent .memory) w f es (λ circuit inside. busy-at l circuit inside k)
+
   -- what a list of transfers tells and answers here
   pub list-here : (ts : List Listed) → ListShown z (l .lent .memory) ts (w .state) es
   list-here ts =
-      list-shown z (l .lent .memory) (w .memory) (cyclesDone l k) ts (w .state) es
-      (record { fine = f; now = λ circuit inside. at-point l circuit inside k .now })
+      list-shown z (session-passes l) (machineAt l) (session-trajectory l) (l .lent .memory) (w .memory) (cyclesDone l k) ts (w .state) es
+      (record {
+        fine = f;
+        now = λ circuit inside. at-point l circuit inside k .now;
+        wires = point-wires z (machineAt l) (drop k (l .calls)) w (calendarAt l k) (point-at l k);
+        left-then = λ circuit inside. at-point l circuit inside k .left-then;
+        counted = refl;
+      })
 
   list-test : (ts : List Listed) (answerWords : ℕ)
       → (number (startAll ts answerWords) w =? 0) ≡ (length ts ≤? 64 and length ts ≤? answerWords)
@@ -251,8 +272,7 @@ module _ (l : Session) (k : ℕ) where
       → (number x w =? 0) ≡ goes z (l .lent .memory) es x
   call-test (load y) c r = no= (r refl)
   call-test (start circuit readAddress writeAddress count kind) c r =
-      ap (λ (n : ℕ). n =? 0) (start-answers z (l .lent .memory) w f es (λ c inside. at-point l c inside k .now .sending .left-is)
-      circuit readAddress writeAddress count kind)
+      ap (λ (n : ℕ). n =? 0) (start-here circuit readAddress writeAddress count kind)
   call-test (startAll ts answerWords) c r = list-test ts answerWords
   call-test (store node address new) c r = place-test node address
   call-test (order schedule period) c r = order-test schedule period

@@ -209,7 +209,7 @@ module _ (z : List ℕ) (circuit : ℕ) (inside : circuit < circuits z) where
     does-now cycle l c e = absurd (false≢true (sym c))
 
 -- a call that is no cycle leaves what left
-start-leaving : (circuit d : ℕ) (transfer : Transfer) (r : Reckoned) (t : ℕ)
+pub start-leaving : (circuit d : ℕ) (transfer : Transfer) (r : Reckoned) (t : ℕ)
     → (pick (d =? circuit) (startOn transfer r) r) .sent .leaving t ≡ r .sent .leaving t
 start-leaving circuit d transfer r t = go (d =? circuit)
   where

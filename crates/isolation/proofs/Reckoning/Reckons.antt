@@ -1,16 +1,16 @@
 -- The answers of a session are what is reckoned: demand 3 but for the comparison of two sessions.
 -- Assumes nothing.
 use Prim.Native.Nat.{ℕ, zero, suc, _+_, _-_, _*_, _≤_, _<_}
-use mathlib.Core.Bool.{Bool, true, false, false≢true}
+use mathlib.Core.Bool.{Bool, true, false, not, false≢true}
 use mathlib.Core.List.{List, [], _∷_, _++_}
 use mathlib.Core.Path.{_≡_, refl, sym, _∙_, ap, ap₂, subst}
 use native.Mathlib.Omega.{arith}
 use native.Mathlib.Nat.{not-suc-le-zero}
 use native.Mathlib.Decide.{ℕ-discrete}
 use lib.ListN.{length, take, drop, getD}
-use Rattle.words.specs.Tests.{_≤?_}
+use Rattle.words.specs.Tests.{_and_, _≤?_}
 use Rattle.words.specs.Words.{pick}
-use Rattle.words.proofs.TestLaws.{and-both, yes≤, yes<, yes=}
+use Rattle.words.proofs.TestLaws.{and-right, and-both, yes≤, yes<, yes=}
 use Rattle.torus.proofs.WalkLaws.{distance-least}
 use Rattle.sheet.specs.declared.circuits.Region.{Region}
 use Rattle.sheet.specs.Sheet.{columns, rows, memoryWords, circuits, schedules, nodes, circuitAt, entriesOf, entryCount, entryAt}
@@ -24,16 +24,20 @@ use Rattle.session.specs.declared.Found.the-variants.{Word as FoundWord}
 use Rattle.session.specs.declared.Landed.{Landed}
 use Rattle.session.specs.declared.Landed.the-variants.{Nothing, Word as LandedWord, Refused}
 use Rattle.session.specs.Answers.{foundOf, landedOf, leftAnswer, fetchAnswer, periodAnswer, landedAnswer}
-use Rattle.session.specs.Calls.{Lent, Call, cycle, isLoad, number, after, afterAll, stateNumber, memoryNumber, placeNumber, leftNumber, landedNumber, fetched, wordsLeft, periodNumberIn, lastLanding}
+use Rattle.soundness.specs.Sound.{kindTravels}
+use Rattle.session.proofs.NumberLaws.{not-holds}
+use Rattle.session.specs.Calls.{Lent, Call, cycle, isLoad, number, after, afterAll, isBusy, memoryNumber, placeNumber, leftNumber, landedNumber, fetched, wordsLeft, periodNumberIn, lastLanding}
 use Rattle.words.proofs.NumberLaws.{zero-then, zero-unless}
 use Rattle.soundness.proofs.SheetLaws.{SheetBounds, sheet-bounds, circuit-bounds}
 use Rattle.isolation.specs.Sessions.{LoadsRefused, Session, afterLoad, standing, cycleDone, eventsBefore}
 use Rattle.isolation.specs.Calendar.{Calendar, calendarAtLoad, nextCalendar, calendarAfter, calendarAt, cyclesDone}
 use Rattle.isolation.specs.Reckoning.{Item, none, item, Reckoned, hopsOf, flightCycles, reckonedLanding, lastReckoned, leavesIn, cycleOn, atLoad, reckon}
-use Rattle.isolation.specs.Demand.{inRegion, itemWithin, reckonedAt, CycleAt, answerAtDestination, circuitLanding, AsReckoned}
+use Rattle.isolation.specs.Demand.{inRegion, itemWithin, reckonedAt, isItem, reckonedBusy, CycleAt, answerAtDestination, circuitLanding, AsReckoned}
 use Rattle.isolation.proofs.Routes.Apart.{entry-way, entryHops}
 use Rattle.isolation.proofs.Reckoning.Dates.{Dated, next-cycles, calendar-append, after-all-at, point-opened, point-at, never-refused}
 use Rattle.isolation.proofs.Reckoning.Landed.{landing-kept, landing-opened}
+use Rattle.isolation.proofs.Reckoning.StartAnswers.{fitsIn, state-zero, start-17, start-0, StartsBy}
+use Rattle.isolation.proofs.Reckoning.Busy.{point-wires, busy-agrees}
 use Rattle.isolation.proofs.Reckoning.SenderFollowed.{sends-load, leaves-no, leaving-before}
 use Rattle.isolation.proofs.Reckoning.Regions.{in-high, in-region, itemIn}
 use Rattle.isolation.proofs.Reckoning.Stream.{isCycle, is-cycle, seen, Fine, fine-parts, fine-opened, machineAt, session-passes, zero-at, session-trajectory}
@@ -42,23 +46,19 @@ use Rattle.isolation.proofs.Reckoning.ReckonedWords.{wordAt, seen-memor
 
 -- the numbers of the asking calls on a session's words
 module _ (z : List ℕ) (w : Lent) (f : Fine z w) where
-  pub state-zero : stateNumber (w .state) ≡ 0
-  unfolding stateNumber
-  state-zero = zero-then (zero-unless 12 (yes≤ (f .long))) (zero-unless 13 (f .is-sound))
-
   left-zero : (circuit : ℕ) → circuit < circuits z → leftNumber (w .state) circuit ≡ 0
   unfolding leftNumber
-  left-zero circuit l = zero-then state-zero (zero-unless 15 (yes< (omega (arith, ap circuits (f .sheet-is)))))
+  left-zero circuit l = zero-then (state-zero z w f) (zero-unless 15 (yes< (omega (arith, ap circuits (f .sheet-is)))))
 
   pub landed-zero : (node : ℕ) → node < nodes z → landedNumber (w .state) node ≡ 0
   unfolding landedNumber
-  landed-zero node l = zero-then state-zero (zero-unless 15 (yes< (omega (arith, ap nodes (f .sheet-is)))))
+  landed-zero node l = zero-then (state-zero z w f) (zero-unless 15 (yes< (omega (arith, ap nodes (f .sheet-is)))))
 
   pub place-zero : (node address : ℕ) → node < nodes z → address < memoryWords z → placeNumber (w .state) (w .memory) node address ≡ 0
   unfolding placeNumber memoryNumber
   place-zero node address n l =
       zero-then
-      (zero-then state-zero
+      (zero-then (state-zero z w f)
       (zero-unless 14 (yes= (f .whole ∙ ap (λ (y : List ℕ). nodes y * memoryWords y) (sym (f .sheet-is))))))
       (zero-unless 15
       (and-both (yes< (omega (arith, ap nodes (f .sheet-is)))) (yes< (omega (arith, ap memoryWords (f .sheet-is))))))
@@ -91,10 +91,6 @@ answered-in r nothing = refl
 answered-in r (landing kind address new) = refl
 
 -- and back: what falls into a region is what landed
-abbrev isItem : Item → Bool
-isItem none = false
-isItem (item kind address w) = true
-
 abbrev landedItem : Item → Landed
 landedItem none = Nothing
 landedItem (item kind address w) = LandedWord kind address w
@@ -246,6 +242,24 @@ module _ (l : Session) (circuit : ℕ) (inside : circuit < circuits (l .sheet)) 
       ∙ ap₂ (λ (r : Reckoned) (n : ℕ). lastReckoned z circuit r n) (reckoned-after k c) counted
       ∙ lands-reckoned (calendarAt l k) (reckonedAt l circuit k) t e ∙ left)
 
+  -- the circuit is busy by the words where it is by the reckoning
+  pub busy-at : (k : ℕ) → isBusy (standing l k .state) circuit ≡ reckonedBusy z circuit (reckonedAt l circuit k) (cyclesDone l k)
+  busy-at k =
+      let a = at-point k in
+      busy-agrees z (session-passes l) circuit inside S (session-trajectory l) (cyclesDone l k) (standing l k) (fine-at k)
+      (point-wires z S (drop k (l .calls)) (standing l k) (calendarAt l k) (a .point)) (reckonedAt l circuit k) (a .now .sending) (a .left-then)
+
+  -- so starts on it are answered
+  pub starts-by : StartsBy l circuit
+  starts-by = record {
+    refused-17 = λ k readAddress writeAddress count kind.
+        start-17 z (standing l k) (fine-at k) circuit readAddress writeAddress count kind inside
+        ∙ ap (λ (b : Bool). kindTravels kind and fitsIn (circuitAt z circuit) readAddress writeAddress count kind and b) (busy-at k);
+    taken = λ k readAddress writeAddress count kind.
+        start-0 z (standing l k) (fine-at k) circuit readAddress writeAddress count kind inside
+        ∙ ap (λ (b : Bool). kindTravels kind and fitsIn (circuitAt z circuit) readAddress writeAddress count kind and not b) (busy-at k);
+  }
+
   -- the session's answers are what is reckoned
   pub as-reckoned : AsReckoned l circuit
   as-reckoned = record {
@@ -255,6 +269,10 @@ module _ (l : Session) (circuit : ℕ) (inside : circuit < circuits (l .sheet)) 
         left-answer (standing l k) (fine-at k) ∙ ap FoundWord (sym (a .now .sending .left-is));
     lands = lands;
     landings = λ k p. landings k;
+    busy = λ k readAddress writeAddress count kind p e.
+        and-right _ _ (and-right _ _ (sym (starts-by .refused-17 k readAddress writeAddress count kind) ∙ yes= e));
+    free = λ k readAddress writeAddress count kind p e.
+        not-holds _ (and-right _ _ (and-right _ _ (sym (starts-by .taken k readAddress writeAddress count kind) ∙ yes= e)));
     read-region = λ k address p i.
         fetch-is z (standing l k) (fine-at k) (sourceOf z circuit) address (small .source-inside)
         (omega (arith, in-high (circuitAt z circuit .read) address i, small .read-ends))

@@ -12,12 +12,12 @@ use Rattle.words.specs.Words.{pick}
 use Rattle.words.proofs.TestLaws.{is=}
 use Rattle.sheet.specs.Sheet.{meant, memoryWords, circuits, schedules, nodes, circuitAt}
 use Rattle.sheet.specs.Rules.{verdict}
-use Rattle.network.specs.View.{View, empty, Order, noOrder, pending, ports}
+use Rattle.network.specs.View.{View, empty, Receiver, Order, noOrder, pending, ports}
 use Rattle.network.specs.Cycle.{tick, faulty}
 use Rattle.network.specs.Registers.{reg, sheetIn, stateWords, clockRow, cyclePlace, numberPlace, inForcePlace, orderMarkPlace, orderSchedulePlace, rowCount, rowWords}
 use Rattle.network.specs.Registers.{orderPeriodPlace, linkMark, linkWord, headMark, headWord, choiceRow, latchRow, outMark, outWord, receiveMark}
 use Rattle.network.specs.Registers.{receiveKind, receiveAddress, leftRow, readRow, writeRow, kindRow, toGoRow, at}
-use Rattle.network.specs.Seen.{seenSender, seenCell, seenChoice, view, Agree}
+use Rattle.network.specs.Seen.{seenSender, seenCell, seenChoice, marked, view, Agree}
 use Rattle.network.proofs.RowLaws.{sheet-kept, sender-same}
 use Rattle.network.proofs.StepLaws.{state-length, memory-length}
 use Rattle.network.proofs.ViewLaws.{cycle-agrees}
@@ -162,7 +162,7 @@ module _ (z : List ℕ) (w : Lent) (f : Fine z w) where
   abbrev s : List ℕ
   s = w .state
 
-  start-between : (circuit readAddress writeAddress count kind : ℕ) → number (start circuit readAddress writeAddress count kind) w ≡ 0
+  pub start-between : (circuit readAddress writeAddress count kind : ℕ) → number (start circuit readAddress writeAddress count kind) w ≡ 0
       → Between z (seen w) (seen (does (start circuit readAddress writeAddress count kind) w))
   start-between circuit readAddress writeAddress count kind e =
       let p = start-passed s circuit readAddress writeAddress count kind e in
@@ -332,7 +332,7 @@ is-cycle (ask question) e = absurd (false≢true e)
 is-cycle (order schedule period) e = absurd (false≢true e)
 is-cycle cycle e = refl
 
-streams : (z : List ℕ) (calls : List Call) (w : Lent) → Fine z w → LoadsRefused calls w → Streaming z w (stream calls w)
+pub streams : (z : List ℕ) (calls : List Call) (w : Lent) → Fine z w → LoadsRefused calls w → Streaming z w (stream calls w)
 streams z [] w f r = idle-streams z w f
 streams z (x ∷ calls) w f r = go (λ u. streams z calls u) (isCycle x) refl (number cycle w =? 0) refl
   where
@@ -384,6 +384,9 @@ module _ (l : Session) where
           head = λ node input n i. sym (first .routers .head node input n i) ∙ empty-at headMark _ node input (omega arith) n i;
           out = λ node input n i. sym (first .routers .out node input n i) ∙ empty-at outMark _ node input (omega arith) n i;
         };
+        none-arriving = λ node n.
+            ap (λ (r : Receiver). r .arriving) (first .receiver node n)
+            ∙ ap marked (zero-at receiveMark node (omega arith) (omega (arith, bounds .few-nodes)));
         first-cycle = first .cycle ∙ zero-at clockRow cyclePlace (omega arith) (omega arith);
         first-schedule =
             omega

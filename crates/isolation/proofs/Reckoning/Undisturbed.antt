@@ -1,25 +1,28 @@
 -- The second half of demand 3 from the first: two sessions alike for a circuit of each answer alike for it.
 -- Assumes nothing.
 use Prim.Native.Nat.{ℕ, zero, suc, _+_, _-_, _≤_, _<_}
-use mathlib.Core.Bool.{true}
+use mathlib.Core.Bool.{Bool, true, not}
 use mathlib.Core.List.{[], _∷_}
 use mathlib.Core.Path.{_≡_, refl, sym, _∙_, ap, ap₂, subst}
 use native.Mathlib.Omega.{arith}
 use lib.ListN.{length}
+use Rattle.words.specs.Tests.{_and_}
 use Rattle.sheet.specs.declared.circuits.Circuit.{Circuit}
 use Rattle.sheet.specs.Sheet.{period}
 use Rattle.sheet.specs.Slots.{slotLength}
 use Rattle.sheet.proofs.TimeLaws.{flight-same}
+use Rattle.soundness.specs.Sound.{kindTravels}
 use Rattle.session.specs.declared.Found.{Found}
 use Rattle.session.specs.declared.Found.the-variants.{Word as FoundWord, Refused as FoundRefused}
 use Rattle.isolation.specs.Sessions.{Session, Transfer, cycleDone}
 use Rattle.isolation.specs.Calendar.{Calendar, calendarAtLoad, nextCalendar, calendarAll, calendarAfter, calendarAt, cyclesDone, pointAfter, scheduleIn}
 use Rattle.isolation.specs.Reckoning.{Reckoned, flightCycles, leavesIn, cycleOn, atLoad, reckonAll, reckon}
-use Rattle.isolation.specs.Demand.{inRegion, itsRecord, reckonedAt, circuitLanding, AsReckoned, Alike, Undisturbed}
+use Rattle.isolation.specs.Demand.{inRegion, itsRecord, reckonedAt, reckonedBusy, circuitLanding, AsReckoned, Alike, Undisturbed}
 use Rattle.isolation.proofs.Reckoning.Dates.{calendar-append}
 use Rattle.isolation.proofs.Reckoning.Points.{upTo, stretch, cyclesIn, all-counted, point-counted, point-inside, point-first, reached}
 use Rattle.isolation.proofs.Reckoning.Points.{calendar-first, calendar-next, reckon-last, reckon-first, reckon-next, eventsOf}
-use Rattle.isolation.proofs.Reckoning.Alike.{SameTime, stretch-kept, time-next, Same, same-sym, same-trans, same-refl, actsIn, acts-are, actAll, stretch-acts, Sheets, landed-same, cycle-same}
+use Rattle.isolation.proofs.Reckoning.Alike.{SameTime, stretch-kept, time-next, Same, same-sym, same-trans, same-refl, actsIn, acts-are, actAll, stretch-acts, Sheets, landed-same, busy-same, cycle-same}
+use Rattle.isolation.proofs.Reckoning.StartAnswers.{fitsIn, StartsBy}
 
 -- whenever a word of the circuit leaves in a cycle, its read address lies in the read region
 abbrev pub ReadsInRegion : Session → ℕ → Type 0
@@ -78,7 +81,7 @@ module _ (l : Session) where
       (sym (calendar-next (l .sheet) (eventsOf l) t calendarAtLoad (cycles-inside t (omega arith))))
 
 module _ (a b : Session) (c d n : ℕ) (ha : AsReckoned a c) (hb : AsReckoned b d) (na : n ≤ cyclesDone a (length (a .calls)))
-    (nb : n ≤ cyclesDone b (length (b .calls))) (x : Alike a b c d n) (reading : ReadsInRegion a c) where
+    (nb : n ≤ cyclesDone b (length (b .calls))) (x : Alike a b c d n) (reading : ReadsInRegion a c) (sa : StartsBy a c) (sb : StartsBy b d) where
   abbrev m : Circuit
   m = itsRecord a c
 
@@ -211,6 +214,12 @@ module _ (a b : Session) (c d n : ℕ) (ha : AsReckoned a c) (hb : AsReckoned b 
       (point-counted a (suc t) (omega arith) ∙ sym (point-counted b (suc t) (omega arith))) (after-same (suc t) (omega arith))
       ∙ sym (hb .landings (pointAfter b (suc t)) (point-inside b (suc t)))
 
+  -- the circuit is busy in both or in neither
+  busy-equal : reckonedBusy (a .sheet) c (reckonedAt a c (pointAfter a n)) (cyclesDone a (pointAfter a n))
+      ≡ reckonedBusy (b .sheet) d (reckonedAt b d (pointAfter b n)) (cyclesDone b (pointAfter b n))
+  busy-equal =
+      busy-same (a .sheet) (b .sheet) c d _ _ _ _ flight-equal (point-counted a n na ∙ sym (point-counted b n nb)) (after-same n (omega arith))
+
   -- nobody can tell the two apart
   pub undisturbed-reading : Undisturbed a b c d n
   undisturbed-reading =
@@ -230,4 +239,14 @@ module _ (a b : Session) (c d n : ℕ) (ha : AsReckoned a c) (hb : AsReckoned b 
               ∙ ap FoundWord (s .same-receiveWords address i)
               ∙ sym (hb .receive-region (pointAfter b n) address ib (to-receive address i));
         };
+        same-busy = λ readAddress writeAddress count kind.
+            sa .refused-17 (pointAfter a n) readAddress writeAddress count kind
+            ∙ ap₂ (λ (y : Circuit) (busy : Bool). kindTravels kind and fitsIn y readAddress writeAddress count kind and busy)
+            (x .same-record) busy-equal
+            ∙ sym (sb .refused-17 (pointAfter b n) readAddress writeAddress count kind);
+        same-free = λ readAddress writeAddress count kind.
+            sa .taken (pointAfter a n) readAddress writeAddress count kind
+            ∙ ap₂ (λ (y : Circuit) (busy : Bool). kindTravels kind and fitsIn y readAddress writeAddress count kind and not busy)
+            (x .same-record) busy-equal
+            ∙ sym (sb .taken (pointAfter b n) readAddress writeAddress count kind);
       }

@@ -1,20 +1,23 @@
 -- A sheet that passes gives its slots their ways: by shortest routes, so that all slots of a circuit have as many routers and travel as
 -- long.
 -- Assumes nothing.
-use Prim.Native.Nat.{ℕ, suc, _+_, _<_}
+use Prim.Native.Nat.{ℕ, suc, _+_, _≤_, _<_}
 use mathlib.Core.Bool.{true}
 use mathlib.Core.List.{List}
 use mathlib.Core.Path.{_≡_, refl, _∙_, ap}
 use native.Mathlib.Omega.{arith}
 use Rattle.torus.proofs.WalkLaws.{distance-least}
 use Rattle.torus.proofs.TravelLaws.{last-delay-is}
+use Rattle.torus.proofs.DistanceLaws.{distance-most}
 use Rattle.torus.specs.Route.{routerCycles}
-use Rattle.sheet.specs.Sheet.{columns, rows}
-use Rattle.sheet.specs.Slots.{slotLength, slotRoute, sourceOf}
+use Rattle.sheet.specs.Sheet.{columns, rows, circuits}
+use Rattle.sheet.specs.Slots.{slotLength, slotRoute, sourceOf, destinationOf}
 use Rattle.sheet.specs.Flight.{hopsOf, flightCycles}
 use Rattle.sheet.specs.Rules.{rule11, verdict}
 use Rattle.sheet.specs.Inner.Passed.{Routed}
+use Rattle.sheet.proofs.PassedLaws.{in-grid}
 use Rattle.sheet.proofs.VerdictLaws.{passed, routed}
+use Rattle.soundness.proofs.SheetLaws.{sheet-bounds, circuit-bounds}
 use Rattle.isolation.specs.Reckoning.{hopsOf, flightCycles}
 use Rattle.isolation.proofs.Routes.Way.{wayNode, wayInput, wayOutput, wayDelay, node-first, input-first, delay-first, node-next, input-next, delay-next, way-inside, header-output}
 use Rattle.isolation.proofs.Routes.Apart.{entryHops, entry-last-delay, shared-output, shared-source}
@@ -149,3 +152,16 @@ ways-of z e = record {
 pub travel-is : (z : List ℕ) (e : verdict z ≡ 0) (circuit : ℕ) → ways-of z e .travel circuit ≡ flightCycles z circuit
 unfolding ways-of
 travel-is z e circuit = refl
+
+-- no grid has a longer way than over four hops
+pub routers-few : (z : List ℕ) (e : verdict z ≡ 0) (circuit : ℕ) → circuit < circuits z → ways-of z e .routers circuit ≤ 5
+unfolding ways-of
+routers-few z e circuit l =
+    let b = sheet-bounds z e in
+    let c = circuit-bounds z b circuit l in
+    let h = b .ranged .framed .headed in
+    omega (
+      arith,
+      distance-most (columns z) (rows z) (sourceOf z circuit) (destinationOf z circuit) (in-grid z h (sourceOf z circuit) (c .source-inside))
+          (in-grid z h (destinationOf z circuit) (c .destination-inside)),
+    )

@@ -1,0 +1,4 @@
+pub mod WalkLaws
+pub mod RegionLaws
+pub mod HeaderLaws
+pub mod SearchLaws
