@@ -9,6 +9,7 @@ mod second {
     pub mod checker;
     pub mod listing;
     pub mod machine;
+    pub mod travelling;
 }
 
 use std::io::{Read, Write};

@@ -1,8 +1,8 @@
 //! Which circuits have words on their way, read off the registers as docs/STATE.md says, for words that no load need
 //! have led to: every header is followed to the memory that it comes to, and the receive units say what arrives.
 
+use super::checker::Side;
 use super::machine::{address_of, lies_within, output_of, shifted, Cell, Machine, HEADER, MEMORY, PORTS};
-use super::sheets::NORTH;
 
 /// Where a packet was found.
 #[derive(Clone, Copy, Debug, PartialEq, Eq)]
@@ -72,7 +72,7 @@ impl Machine {
             node = self.sheet.neighbours[node][output];
             let input = (output + 2) % 4;
             // Zeros lead north, and to the memory only for who comes from there.
-            if word & 0xFFFF == 0 && input != NORTH as usize {
+            if word & 0xFFFF == 0 && input != Side::North as usize {
                 return None;
             }
             output = output_of(word, input);
