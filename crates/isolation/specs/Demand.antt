@@ -36,7 +36,7 @@ itsRecord l circuit = circuitAt (l .sheet) circuit
 abbrev pub reckonedAt : Session → ℕ → ℕ → Reckoned
 reckonedAt l circuit k = reckon (l .sheet) circuit (l .lent .memory) (eventsBefore l k)
 
--- something is an item, and not nothing
+-- a word is there
 abbrev pub isItem : Item → Bool
 isItem none = false
 isItem (item kind address w) = true

@@ -443,30 +443,30 @@ other-delivers = record {
 }
 
 -- directly after 18 cycles all four words have left, and the last lands in the next cycle: a start on the circuit is refused with 17 in the
--- first session; directly after 19 it is taken
+-- first session; directly after 19 it is taken. What it answers directly after cycle t
 abbrev answersIn : ℕ → ℕ
 answersIn t = startAnswer oneSheet oneMemory (upTo oneEvents t ++ (cycleDone ∷ [])) 0 0 0 1 0
 
 one-answers : (t : ℕ) → t < 40 → number (start 0 0 0 1 0) (standing one (pointAfter one (suc t))) ≡ answersIn t
 one-answers t l = started-by one oneEvents (one-events zeros zeros-long) t l 0 0 0 1 0
 
-busy-17 : answersIn 17 ≡ 17
+before-landing : answersIn 17 ≡ 17
 unfolding rows reckonedLanding leavesIn slotLength entryBeginning beginsAt lastOf entriesOf entryAt schedulePlace circuitAt
     neighbourOf walks distanceOf leastFrom any _and_ _or_ _≤?_ _<?_ _=?_ kindTravels liesIn unless _then_ underWay
-busy-17 = refl
+before-landing = refl
 
-free-18 : answersIn 18 ≡ 0
+after-landing : answersIn 18 ≡ 0
 unfolding rows reckonedLanding leavesIn slotLength entryBeginning beginsAt lastOf entriesOf entryAt schedulePlace circuitAt
     neighbourOf walks distanceOf leastFrom any _and_ _or_ _≤?_ _<?_ _=?_ kindTravels liesIn unless _then_ underWay
-free-18 = refl
+after-landing = refl
 
 -- and so, by demand 3, in the other
 pub other-busy : number (start 1 0 0 1 0) (standing other (pointAfter other 18)) ≡ 17
 other-busy =
     is= _ _ (sym (undisturbed-on zeros zeros zeros-long zeros-long 18 (omega arith) .same-busy 0 0 1 0)
-    ∙ yes= (one-answers 17 (omega arith) ∙ busy-17))
+    ∙ yes= (one-answers 17 (omega arith) ∙ before-landing))
 
 pub other-free : number (start 1 0 0 1 0) (standing other (pointAfter other 19)) ≡ 0
 other-free =
     is= _ _ (sym (undisturbed-on zeros zeros zeros-long zeros-long 19 (omega arith) .same-free 0 0 1 0)
-    ∙ yes= (one-answers 18 (omega arith) ∙ free-18))
+    ∙ yes= (one-answers 18 (omega arith) ∙ after-landing))
