@@ -1,17 +1,20 @@
 //! Times the proved program `landings` against the same program in plain Rust, whose paths
-//! are the arguments: 65,536 cycles on three sheets, the least of several runs in turn. Then
-//! the exported cycle call against its parts. Exits 1 where a bar is missed.
+//! are the arguments: 65,536 cycles on three sheets, the least of several runs in turn; and on
+//! grids with long vertical links against those without. Then the exported cycle call against
+//! its parts. Exits 1 where a bar is missed.
 
 #[path = "../tests/exports.rs"]
 mod exports;
+mod kinds;
 
 use exports::Exports;
+use kinds::{on_both_kinds, MOST_LONG_RATIO};
 use second::calls::Calls;
 use second::inputs::{
     all_transfers, bytes_of, input_words, largest_in_small_memory, middle_in_small_memory, some_memory, Transfer,
 };
 use second::lent::STATE_WORDS;
-use second::sheets::{sheet_a, Plan, Random};
+use second::sheets::{self, sheet_a, Plan, Random};
 use std::fs::{self, File};
 use std::hint::black_box;
 use std::path::{Path, PathBuf};
@@ -36,19 +39,22 @@ struct Subject {
     transfers: Vec<Transfer>,
 }
 
-fn subjects() -> Vec<Subject> {
-    let mut random = Random::new(3);
-    let plans = [
+fn plans() -> [(&'static str, Plan); 3] {
+    [
         ("sheet A", sheet_a()),
         ("middle sheet", middle_in_small_memory(1)),
         ("largest sheet", largest_in_small_memory(1)),
-    ];
-    let subject = |(name, plan): (&'static str, Plan)| {
-        let memory = some_memory(&mut random, &plan);
-        let transfers = all_transfers(&plan);
-        Subject { name, plan, memory, transfers }
-    };
-    plans.into_iter().map(subject).collect()
+    ]
+}
+
+fn subject_of(name: &'static str, plan: Plan) -> Subject {
+    let memory = some_memory(&mut Random::new(3), &plan);
+    let transfers = all_transfers(&plan);
+    Subject { name, plan, memory, transfers }
+}
+
+fn subjects() -> Vec<Subject> {
+    plans().into_iter().map(|(name, plan)| subject_of(name, plan)).collect()
 }
 
 fn main() -> ExitCode {
@@ -60,6 +66,10 @@ fn main() -> ExitCode {
     let subjects = subjects();
     match time_programs(ours, rust, &subjects) {
         Ok((seconds, good)) => {
+            let good = good & time_kinds(ours, rust).unwrap_or_else(|complaint| {
+                println!("{complaint}");
+                false
+            });
             if time_public_cycles(&subjects, &seconds) & good {
                 ExitCode::SUCCESS
             } else {
@@ -88,6 +98,21 @@ fn time_programs(ours: &str, rust: &str, subjects: &[Subject]) -> Result<(Vec<f6
         seconds.push(our_seconds - our_start);
     }
     Ok((seconds, good))
+}
+
+/// Whether the bar is kept on all: long vertical links against none, with the same circuits and entries.
+fn time_kinds(ours: &str, rust: &str) -> Result<bool, String> {
+    println!("{:<14} {:>8} {:>12} {:>12} {:>6}", "on both kinds", "landings", "long, s", "short, s", "ratio");
+    let mut good = true;
+    for (name, plan) in plans() {
+        let [short, long] = on_both_kinds(&plan).map(|plan| subject_of(name, plan));
+        let (short_seconds, _, _) = time_input(ours, rust, &short, CYCLES)?;
+        let (long_seconds, _, landings) = time_input(ours, rust, &long, CYCLES)?;
+        let ratio = long_seconds / short_seconds;
+        println!("{name:<14} {landings:>8} {long_seconds:>12.4} {short_seconds:>12.4} {ratio:>6.2}");
+        good &= ratio <= MOST_LONG_RATIO;
+    }
+    Ok(good)
 }
 
 fn time_input(ours: &str, rust: &str, subject: &Subject, cycles: u32) -> Result<(f64, f64, usize), String> {

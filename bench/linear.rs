@@ -107,10 +107,13 @@ pub fn tuned_verdict(sheet: &[u32]) -> u32 {
 }
 
 fn verdict_with<T: Table>(sheet: &[u32]) -> u32 {
-    let &[columns, rows, memory_words, circuit_count, schedule_count, ref body @ ..] = sheet else {
+    let &[columns, rows_word, memory_words, circuit_count, schedule_count, ref body @ ..] = sheet else {
         // No words stand for an idle network, which passes.
         return if sheet.is_empty() { 0 } else { 1 };
     };
+    // 256 more than the rows says that the vertical links are long.
+    let long = rows_word >= 256;
+    let rows = if long { rows_word - 256 } else { rows_word };
     if !(2..=4).contains(&columns)
         || !(2..=4).contains(&rows)
         || !(1..=16_384).contains(&memory_words)
@@ -151,7 +154,7 @@ fn verdict_with<T: Table>(sheet: &[u32]) -> u32 {
         return 7;
     }
     OCCUPIED.with_borrow_mut(|occupied| {
-        schedules_verdict::<T>(columns, rows, circuits, schedule_words, longest_period, occupied)
+        schedules_verdict::<T>(columns, rows, long, circuits, schedule_words, longest_period, occupied)
     })
 }
 
@@ -219,6 +222,7 @@ fn distance(columns: u32, rows: u32, source: u32, destination: u32) -> u32 {
 fn schedules_verdict<T: Table>(
     columns: u32,
     rows: u32,
+    long: bool,
     circuits: &[[u32; 6]],
     schedule_words: &[u32],
     longest_period: u32,
@@ -232,6 +236,8 @@ fn schedules_verdict<T: Table>(
         neighbours[node as usize] =
             [at(row + rows - 1, column), at(row, column + 1), at(row + 1, column), at(row, column + columns - 1)];
     }
+    // Cycles that the links by the sides take.
+    let links = [usize::from(long), 0, usize::from(long), 0];
     let mut distances = [0u32; MOST_CIRCUITS];
     for (steps, circuit) in distances.iter_mut().zip(circuits) {
         *steps = distance(columns, rows, circuit[0], circuit[1]);
@@ -283,6 +289,7 @@ fn schedules_verdict<T: Table>(
                 codes >>= 2;
                 cycle += 3;
                 *start = (node * WIRES_PER_NODE + side as usize) * row_bytes + cycle;
+                cycle += links[side as usize];
                 node = neighbours[node][side as usize] as usize;
                 came_in_by = side ^ 2;
             }

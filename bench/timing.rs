@@ -13,25 +13,31 @@ const NANOSECONDS_PER_ROUND: f64 = 1_000_000.0;
 /// round times both directly one after the other, so that a change of the machine's speed
 /// meets both alike.
 pub fn times(words: &[u32], our_call: Asked, rust_call: Asked) -> (f64, f64, f64) {
-    let repetitions = |call: Asked| {
+    times_of((words, our_call), (words, rust_call))
+}
+
+/// The same of two functions, each of its own words.
+pub fn times_of(one: (&[u32], Asked), other: (&[u32], Asked)) -> (f64, f64, f64) {
+    let repetitions = |(words, call): (&[u32], Asked)| {
         let single = (0..5).map(|_| round(call, words, 20)).fold(f64::INFINITY, f64::min);
         ((NANOSECONDS_PER_ROUND / single) as u32).max(10)
     };
-    let our_repetitions = repetitions(our_call);
-    let rust_repetitions = repetitions(rust_call);
-    let mut ours = Vec::new();
-    let mut rust = Vec::new();
+    let timed = |(words, call): (&[u32], Asked), count| round(call, words, count);
+    let one_count = repetitions(one);
+    let other_count = repetitions(other);
+    let mut one_times = Vec::new();
+    let mut other_times = Vec::new();
     for turn in 0..ROUNDS {
         if turn % 2 == 0 {
-            ours.push(round(our_call, words, our_repetitions));
-            rust.push(round(rust_call, words, rust_repetitions));
+            one_times.push(timed(one, one_count));
+            other_times.push(timed(other, other_count));
         } else {
-            rust.push(round(rust_call, words, rust_repetitions));
-            ours.push(round(our_call, words, our_repetitions));
+            other_times.push(timed(other, other_count));
+            one_times.push(timed(one, one_count));
         }
     }
-    let ratios = ours.iter().zip(&rust).map(|(ours, rust)| ours / rust).collect();
-    (median(ours), median(rust), median(ratios))
+    let ratios = one_times.iter().zip(&other_times).map(|(one, other)| one / other).collect();
+    (median(one_times), median(other_times), median(ratios))
 }
 
 fn round(call: Asked, words: &[u32], repetitions: u32) -> f64 {

@@ -1,17 +1,20 @@
-//! Times our verdict against a linear Rust checker, in one run and on the same sheets, and measures the stack that our verdict
-//! takes on the largest sheet. The bar holds against the plain table; the tuned one is shown beside it.
+//! Times our verdict against a linear Rust checker, in one run and on the same sheets, then on grids with long vertical links against those
+//! without, and measures the stack that our verdict takes on the largest sheet. The bar holds against the plain table; the tuned one is
+//! shown beside it.
 
+mod kinds;
 mod linear;
 #[allow(dead_code)]
 #[path = "../tests/second/sheets.rs"]
 mod sheets;
 mod timing;
 
+use kinds::{on_both_kinds, MOST_LONG_RATIO};
 use std::alloc::{alloc, dealloc, handle_alloc_error, Layout};
 use std::ffi::c_void;
 use std::hint::black_box;
 use std::process::ExitCode;
-use timing::times;
+use timing::{times, times_of};
 
 extern "C" {
     fn argo_verdict(sheet: *const u32, length: usize) -> u32;
@@ -51,6 +54,16 @@ fn main() -> ExitCode {
             sheet.len()
         );
         good &= ratio <= MOST_RATIO;
+    }
+
+    println!("{:<14} {:>6} {:>12} {:>12} {:>6}", "on both kinds", "words", "long, ns", "short, ns", "ratio");
+    let plans = [("sheet A", sheets::sheet_a()), ("middle sheet", sheets::middle(1)), ("largest sheet", sheets::largest(1))];
+    for (name, plan) in &plans {
+        let [short, long] = on_both_kinds(plan).map(|plan| plan.words());
+        assert_eq!([our_verdict(&short), our_verdict(&long)], [0, 0], "the entries pass on either kind");
+        let (long_time, short_time, ratio) = times_of((&long, our_verdict), (&short, our_verdict));
+        println!("{name:<14} {:>6} {long_time:>12.1} {short_time:>12.1} {ratio:>6.2}", long.len());
+        good &= ratio <= MOST_LONG_RATIO;
     }
 
     let bytes = stack_bytes(&largest);

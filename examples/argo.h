@@ -22,7 +22,8 @@ uint32_t argo_verdict(const uint32_t *sheet, size_t sheet_words);
 /* The entries of a schedule in a sheet that keeps 1 to 11, also where 26 refuses it. Field 0: the place of their first word in the sheet; 1: how many words they have. */
 uint64_t argo_entries(const uint32_t *sheet, size_t sheet_words, uint32_t schedule, uint32_t field);
 
-/* Loads a sheet into a state, for a memory of columns * rows * M words, node by node: cycle 0, period 0, schedule 0. */
+/* Loads a sheet into a state, for a memory of columns * rows * M words, node by node: cycle 0, period 0, schedule 0. The rows are the
+   sheet's second word, less 256 where the vertical links are long. */
 uint32_t argo_load(const uint32_t *sheet, size_t sheet_words, uint32_t *state, size_t state_words, const uint32_t *memory,
                    size_t memory_words);
 

@@ -6,7 +6,7 @@
 #include <stdio.h>
 #include <stdlib.h>
 
-enum { STATE = 10278, NODES = 4, ROOM = 16, SHEET = 8597, PERIODS = 9, PERIOD = 12, CIRCUITS = 3, SCHEDULES = 3 };
+enum { STATE = 10438, NODES = 4, ROOM = 16, SHEET = 8597, PERIODS = 9, PERIOD = 12, CIRCUITS = 3, SCHEDULES = 3 };
 enum { CELL = PERIOD * sizeof "11:4294967295 ", ROW = 64 + CIRCUITS * CELL };
 enum { BUSY = 17 };
 

@@ -4,7 +4,10 @@
 
 mod exports;
 
-use second::sheets::{largest, sheet_a, Case, Circuit, Entry, Plan, Schedule};
+use second::sheets::{
+    all_shortest_paths, largest, last_offset, route_of, sheet_a, Case, Circuit, Entry, Plan, Schedule,
+};
+use second::sheets_long::{self, ABOUT_LONG_LINKS};
 use second::{checker, near_misses};
 use std::collections::BTreeMap;
 use std::io::Write;
@@ -14,7 +17,7 @@ extern "C" {
     fn argo_verdict(sheet: *const u32, length: usize) -> u32;
 }
 
-const SHEETS_REQUIRED: usize = 6_000;
+const SHEETS_REQUIRED: usize = 20_000;
 const SHEETS_REQUIRED_OF_EACH_NUMBER: usize = 100;
 /// Sheets of 26, and schedules whose entries such sheets hand back.
 const REQUIRED_OF_26: usize = 300;
@@ -28,7 +31,8 @@ const FIELDS_ASKED: [u32; 5] = [0, 1, 2, 3, u32::MAX];
 /// Ordered pairs of different nodes, over the nine grids.
 const PAIRS_OF_NODES: usize = 760;
 /// Routes of up to five codes: four hops, the most that a distance asks for, and the way out.
-const ROUTES_TRIED: u32 = 1 << 10;
+const ROUTE_BITS: u32 = 10;
+const ROUTES_TRIED: u32 = 1 << ROUTE_BITS;
 
 fn our_verdict(sheet: &[u32]) -> u32 {
     // The pointer and the length are those of a live slice.
@@ -80,20 +84,22 @@ fn main() -> ExitCode {
 
     let mut pairs = 0;
     let mut routes_by_number = [0; 12];
+    let mut on_long_links_by_number = [0; 12];
     for (columns, rows) in (2..=4).flat_map(|columns| (2..=4).map(move |rows| (columns, rows))) {
         for (source, destination) in pairs_of_nodes(columns * rows) {
             pairs += 1;
             let numbers = routes_agree(columns, rows, source, destination, &mut differences);
-            for (all, found) in routes_by_number.iter_mut().zip(numbers) {
-                *all += found;
-            }
+            add_to(&mut routes_by_number, numbers);
+            let on_long_links = routes_on_long_links(columns, rows, source, destination, &mut differences);
+            add_to(&mut on_long_links_by_number, on_long_links);
             if numbers[0] == 0 {
-                differences.push(format!("grid {columns} x {rows}: no route leads from node {source} to {destination}"));
+                differences
+                    .push(format!("grid {columns} x {rows}: no route leads from node {source} to {destination}"));
             }
         }
     }
     let verdicts: usize = routes_by_number.iter().sum();
-    passed += verdicts;
+    passed += verdicts + on_long_links_by_number.iter().sum::<usize>();
 
     let inputs = inputs(&cases, &numbers);
     let mut inputs_by_line: Vec<(String, usize)> = Vec::new();
@@ -133,6 +139,10 @@ fn main() -> ExitCode {
         println!("{number:>6}  {count:>6}");
     }
     println!(" total  {verdicts:>6}");
+    println!("number  routes between two nodes on long links");
+    for (number, count) in on_long_links_by_number.iter().enumerate().filter(|&(_, &count)| count > 0) {
+        println!("{number:>6}  {count:>6}");
+    }
     println!("number  entries asked for");
     for (number, count) in &entries_by_number {
         println!("{number:>6}  {count:>6}");
@@ -151,6 +161,18 @@ fn main() -> ExitCode {
     let mut enough = true;
     if cases.len() < SHEETS_REQUIRED || inputs.len() < INPUTS_REQUIRED {
         println!("too few sheets or inputs were compared");
+        enough = false;
+    }
+    let about_long_links: Vec<&Case> = cases.iter().filter(|case| case.name.starts_with(ABOUT_LONG_LINKS)).collect();
+    let on_long_links = about_long_links.iter().filter(|case| sheets_long::is_on_long_links(&case.words)).count();
+    println!("{} sheets about long links, {on_long_links} on long ones", about_long_links.len());
+    if about_long_links.len() < sheets_long::REQUIRED || on_long_links < sheets_long::REQUIRED_ON_LONG_LINKS {
+        println!("too few sheets about long links were compared");
+        enough = false;
+    }
+    // A right route in time, one too late, and wrong ones between any two nodes.
+    if [0, 9, 10].iter().any(|&number| on_long_links_by_number[number] < PAIRS_OF_NODES) {
+        println!("too few routes on long links agree");
         enough = false;
     }
     if pairs != PAIRS_OF_NODES || verdicts != PAIRS_OF_NODES * ROUTES_TRIED as usize {
@@ -186,20 +208,32 @@ fn pairs_of_nodes(nodes: u32) -> impl Iterator<Item = (u32, u32)> {
     (0..nodes).flat_map(move |from| (0..nodes).map(move |to| (from, to))).filter(|(from, to)| from != to)
 }
 
+fn add_to(all: &mut [usize; 12], numbers: [usize; 12]) {
+    for (all, found) in all.iter_mut().zip(numbers) {
+        *all += found;
+    }
+}
+
+/// A sheet of one circuit and one entry, without its route and its offset.
+fn plan_of_one_entry(columns: u32, rows: u32, source: u32, destination: u32, period: u32) -> Plan {
+    let circuit = Circuit { source, destination, read_offset: 0, read_length: 1, receive_offset: 0, receive_length: 1 };
+    let entry = Entry { offset: 0, length: 2, circuit: 0, route: 0 };
+    Plan {
+        columns,
+        rows,
+        long_links: false,
+        memory_words: 1,
+        circuits: vec![circuit],
+        schedules: vec![Schedule { period, entries: vec![entry] }],
+    }
+}
+
 /// Judges a sheet of one circuit and one entry for each route, and counts the verdicts that agree by their number. The entry ends as
 /// late as number 10 allows at the distance that the second checker searches for, so that a distance of ours that were one less would
 /// show as a 9, and one that were more as a 10.
 fn routes_agree(columns: u32, rows: u32, source: u32, destination: u32, differences: &mut Vec<String>) -> [usize; 12] {
     let (period, length) = (12, 2);
-    let circuit =
-        Circuit { source, destination, read_offset: 0, read_length: 1, receive_offset: 0, receive_length: 1 };
-    let mut plan = Plan {
-        columns,
-        rows,
-        memory_words: 1,
-        circuits: vec![circuit],
-        schedules: vec![Schedule { period, entries: vec![Entry { offset: 0, length, circuit: 0, route: 0 }] }],
-    };
+    let mut plan = plan_of_one_entry(columns, rows, source, destination, period);
     let sheet = checker::read(&plan.words()).expect("a sheet of one circuit and one entry");
     let steps = checker::distance(&sheet, source.into(), destination.into()) as u32;
     let mut numbers = [0; 12];
@@ -211,6 +245,39 @@ fn routes_agree(columns: u32, rows: u32, source: u32, destination: u32, differen
             numbers[second as usize] += 1;
         } else {
             differences.push(format!("route {route}: ours {ours}, second checker {second}\n  words {words:?}"));
+        }
+    }
+    numbers
+}
+
+/// The same on long links for each right route and each that differs from one in a bit, in the last offset of the
+/// right one and a cycle later.
+fn routes_on_long_links(
+    columns: u32,
+    rows: u32,
+    source: u32,
+    destination: u32,
+    differences: &mut Vec<String>,
+) -> [usize; 12] {
+    let period = 16;
+    let mut plan = plan_of_one_entry(columns, rows, source, destination, period);
+    plan.long_links = true;
+    let mut numbers = [0; 12];
+    for path in all_shortest_paths(&plan, source, destination) {
+        let right = route_of(&path);
+        let last = last_offset(period, 2, plan.delay_of(&path)).expect("a long period");
+        for route in (0..ROUTE_BITS).map(|bit| right ^ 1 << bit).chain([right]) {
+            for offset in [last, last + 1] {
+                plan.schedules[0].entries[0] = Entry { offset, length: 2, circuit: 0, route };
+                let words = plan.words();
+                let (ours, second) = (our_verdict(&words), checker::verdict(&words));
+                if ours == second {
+                    numbers[second as usize] += 1;
+                } else {
+                    let verdicts = format!("ours {ours}, second checker {second}");
+                    differences.push(format!("long links, route {route}: {verdicts}\n  words {words:?}"));
+                }
+            }
         }
     }
     numbers
@@ -326,6 +393,17 @@ fn inputs(cases: &[Case], numbers: &[u32]) -> Vec<(&'static str, Vec<u8>)> {
         }
     }
 
+    // Of the sheets about long links some of every name.
+    let mut by_name: BTreeMap<&str, Vec<&Case>> = BTreeMap::new();
+    for case in cases.iter().filter(|case| case.name.starts_with(ABOUT_LONG_LINKS)) {
+        by_name.entry(case.name).or_default().push(case);
+    }
+    for of_name in by_name.values() {
+        for case in of_name.iter().step_by(of_name.len().div_ceil(3)) {
+            list.push(("sheet about long links", input_of(case.words.len() as u32, &case.words)));
+        }
+    }
+
     // No words stated, whatever is behind, and what is less than that statement.
     let none = input_of(0, &[]);
     for tail in [vec![], vec![0], vec![255; 3], vec![1; 4], vec![0; 28], vec![255; 1_000]] {
@@ -372,8 +450,7 @@ fn inputs(cases: &[Case], numbers: &[u32]) -> Vec<(&'static str, Vec<u8>)> {
     for stated in [18, 19, 100, 8_596, 8_597] {
         list.push(("more words stated", input_of(stated, &small)));
     }
-    for stated in [8_598, 8_599, 1 << 16, 1 << 30, (1 << 30) + 17, 1 << 31, u32::MAX - 1, u32::MAX]
-    {
+    for stated in [8_598, 8_599, 1 << 16, 1 << 30, (1 << 30) + 17, 1 << 31, u32::MAX - 1, u32::MAX] {
         list.push(("too many words stated, none there", input_of(stated, &[])));
         list.push(("too many words stated, sheet A there", input_of(stated, &small)));
         let mut cut = input_of(stated, &small);

@@ -8,13 +8,17 @@ use second::inputs::{
 };
 use second::listing::listing;
 use second::near_misses::{all_cases, GRIDS};
-use second::sheets::{passing_plan, sheet_a, sixty_four_circuits, Circuit, Plan, Random, Schedule, Wish};
+use second::sheets::{
+    largest_on, passing_plan, route_of, sheet_a, sixty_four_circuits, Circuit, Entry, Plan, Random, Schedule, Wish,
+    NORTH, SOUTH,
+};
 use std::collections::BTreeMap;
 use std::io::Write;
 use std::process::{Command, ExitCode, Stdio};
 use std::thread;
 
 const INPUTS_REQUIRED: usize = 200;
+const INPUTS_REQUIRED_ON_LONG_LINKS: usize = 60;
 const DIFFERENCES_SHOWN: usize = 10;
 
 const LISTING_OF_SHEET_A: &str = "cycle node address word kind
@@ -65,6 +69,10 @@ fn main() -> ExitCode {
     cycle_limit(&mut cases);
     cut_inputs(&mut cases);
     no_words(&mut cases);
+    let before = cases.list.len();
+    long_links(&mut cases);
+    let on_long_links = cases.list.len() - before;
+    println!("{on_long_links} inputs about long links");
 
     let mut differences = Vec::new();
     let mut kinds: BTreeMap<String, usize> = BTreeMap::new();
@@ -73,7 +81,8 @@ fn main() -> ExitCode {
         *kinds.entry(kind_of_output(&wanted)).or_default() += 1;
         differences.extend(difference(case, &wanted, run(&program, &case.input)));
     }
-    let enough = cases.list.len() >= INPUTS_REQUIRED && is_complete(&kinds);
+    let enough =
+        cases.list.len() >= INPUTS_REQUIRED && on_long_links >= INPUTS_REQUIRED_ON_LONG_LINKS && is_complete(&kinds);
     for difference in differences.iter().take(DIFFERENCES_SHOWN) {
         println!("{difference}");
     }
@@ -196,6 +205,7 @@ fn generated(cases: &mut Cases) {
             let wish = Wish {
                 columns,
                 rows,
+                long_links: false,
                 memory_words,
                 circuits: random.choose(&[1, 6, 14, 64]),
                 longest_region: memory_words.div_ceil(8),
@@ -215,6 +225,77 @@ fn generated(cases: &mut Cases) {
         let memory = some_memory(&mut random, &plan);
         let transfers = all_transfers(&plan);
         cases.open("all circuits send", bytes_of(&input_words(&plan.words(), &memory, &transfers, 5_000)));
+    }
+}
+
+/// Sheets with long vertical links (L7): sheet A, whose words go east, words that go south and north with the cycles
+/// of their landings, heads that are refused, and generated sheets of all grids.
+fn long_links(cases: &mut Cases) {
+    let mut on_long = input_a(&[TRANSFER_A], 20);
+    on_long[2] = 258;
+    cases.settled("sheet A on long links", bytes_of(&on_long), LISTING_OF_SHEET_A);
+    for rows in [256, 257, 261, 512, 514, (1 << 16) + 258, (1 << 31) + 258] {
+        on_long[2] = rows;
+        cases.settled("no such rows", bytes_of(&on_long), "refused 2\n");
+    }
+    on_long[2] = 258;
+    on_long[1] = 258;
+    cases.settled("columns do not carry 256", bytes_of(&on_long), "refused 2\n");
+
+    vertical_hops(cases);
+    let mut random = Random::new(78);
+    for (columns, rows) in GRIDS {
+        for turn in 0..6 {
+            let most = 4_096 / (columns * rows);
+            let memory_words = if turn == 0 { most } else { random.between(12, most) };
+            let wish = Wish {
+                columns,
+                rows,
+                long_links: true,
+                memory_words,
+                circuits: random.choose(&[3, 8, 20, 64]),
+                longest_region: memory_words.div_ceil(10),
+                schedules: random.between(1, 2),
+                period: Some(random.choose(&[12, 16, 24, 40])),
+                entries: random.between(8, 50),
+                length: random.choose(&[None, Some(2), Some(4)]),
+            };
+            let plan = passing_plan(&mut random, &wish);
+            let memory = some_memory(&mut random, &plan);
+            let transfers = some_transfers(&mut random, &plan);
+            let cycles = random.choose(&[20, 60, 200, 600]);
+            let words = input_words(&plan.words(), &memory, &transfers, cycles);
+            cases.open("generated on long links", bytes_of(&words));
+        }
+    }
+    let largest = largest_on(4, true).words();
+    let words = [&[largest.len() as u32], &largest[..]].concat();
+    cases.settled("largest sheet on long links, memory too large", bytes_of(&words), TOO_LARGE);
+}
+
+/// One hop south in a grid of 2 by 2, and two hops either way in one of 2 by 4, by the cycles of document 02, L7.
+fn vertical_hops(cases: &mut Cases) {
+    let plan = |rows: u32, path: &[u32], period: u32, offset: u32, length: u32, long_links: bool| {
+        let circuits = vec![Circuit { destination: 2 * path.len() as u32, ..sheet_a().circuits[0] }];
+        let entry = Entry { offset, length, circuit: 0, route: route_of(path) };
+        Plan { rows, long_links, circuits, schedules: vec![Schedule { period, entries: vec![entry] }], ..sheet_a() }
+    };
+    let mut add = |plan: Plan, landings: &[&str]| {
+        let mut memory = vec![0; (plan.nodes() * plan.memory_words) as usize];
+        memory[..3].copy_from_slice(&[11, 22, 33]);
+        let words = input_words(&plan.words(), &memory, &[TRANSFER_A], 40);
+        let lines: String = landings.iter().map(|line| format!("{line}\n")).collect();
+        cases.settled("vertical hops", bytes_of(&words), &lines);
+    };
+    let head = NO_LANDING.trim_end();
+    for side in [NORTH, SOUTH] {
+        add(plan(2, &[side], 9, 5, 3, false), &[head, "12 2 0 11 0", "13 2 1 22 0", "21 2 2 33 0"]);
+        add(plan(2, &[side], 9, 5, 3, true), &[head, "13 2 0 11 0", "14 2 1 22 0", "22 2 2 33 0"]);
+        add(plan(2, &[side], 9, 6, 3, false), &[head, "13 2 0 11 0", "14 2 1 22 0", "22 2 2 33 0"]);
+        add(plan(2, &[side], 9, 6, 3, true), &["refused 10"]);
+        add(plan(4, &[side; 2], 12, 4, 3, false), &[head, "14 4 0 11 0", "15 4 1 22 0", "26 4 2 33 0"]);
+        add(plan(4, &[side; 2], 12, 4, 3, true), &[head, "16 4 0 11 0", "17 4 1 22 0", "28 4 2 33 0"]);
+        add(plan(4, &[side; 2], 12, 5, 3, true), &["refused 10"]);
     }
 }
 
@@ -373,6 +454,7 @@ fn memory_limit(cases: &mut Cases) {
             let plan = Plan {
                 columns,
                 rows,
+                long_links: false,
                 memory_words,
                 circuits: Vec::new(),
                 schedules: vec![Schedule { period: 9, entries: Vec::new() }],

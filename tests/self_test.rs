@@ -5,6 +5,8 @@
 mod linear;
 
 use second::checker::{Schedule, Sheet};
+use second::planted_checkers::unnoticed_checkers;
+use second::sheets_long::{self, ABOUT_LONG_LINKS};
 use second::{checker, near_misses, sheets};
 use std::collections::BTreeMap;
 use std::ops::Range;
@@ -142,6 +144,19 @@ fn main() -> ExitCode {
     println!("{noticed} of {} checkers that are wrong about 26 noticed", WRONG_ABOUT_26.len());
     passed += noticed;
 
+    let (planted, unnoticed) = unnoticed_checkers(&cases);
+    for name in &unnoticed {
+        failed += 1;
+        println!("not as planted: a checker that {name}");
+    }
+    println!("{} of {planted} checkers that are wrong about long links noticed", planted - unnoticed.len());
+    passed += planted - unnoticed.len();
+    let about_long_links: Vec<_> = cases.iter().filter(|case| case.name.starts_with(ABOUT_LONG_LINKS)).collect();
+    let on_long_links = about_long_links.iter().filter(|case| sheets_long::is_on_long_links(&case.words)).count();
+    println!("{} sheets about long links, {on_long_links} on long ones", about_long_links.len());
+    let enough_on_long_links =
+        about_long_links.len() >= sheets_long::REQUIRED && on_long_links >= sheets_long::REQUIRED_ON_LONG_LINKS;
+
     // The entries of sheet A, of a sheet with three circuits and four schedules, whose first
     // and third are without entries, of one that ends where its entries would begin, and of two
     // whose second circuit has no entry and has one; and the sheets that are timed, which have to
@@ -213,6 +228,7 @@ fn main() -> ExitCode {
         WRONG_CHECKERS.iter().all(|wrong| is_noticed(&cases, *wrong)),
         largest.len() == 8_597,
         checker::verdict(&largest) == 0,
+        enough_on_long_links,
         middle_is_right,
         checker::verdict(&middle.words()) == 0,
     ] {

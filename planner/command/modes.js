@@ -1,7 +1,7 @@
 // The commands modes and compare: what each circuit gets, and whom a switch of modes or a change of the sheet disturbs.
 import { cut } from '../lib/document.js';
 import { explain } from '../lib/explain.js';
-import { COMPARE_PREMISE, PREMISE, answerText, circuitsOf, compareDocuments, modePairs, slotsText } from '../lib/isolation.js';
+import { COMPARE_PREMISE, PREMISE, answerText, circuitsOf, compareDocuments, hopsText, modePairs, slotsText } from '../lib/isolation.js';
 import { verdictText } from '../lib/paper.js';
 import { MOST_NAME, nameOf } from '../lib/plan.js';
 import { holdCount } from './arguments.js';
@@ -70,8 +70,8 @@ function modesLines(document, circuits, pairs) {
 }
 
 function circuitLines(circuit) {
-  const { name, source, destination, hops, flight } = circuit;
-  const way = `${named(name)}: node ${source} to node ${destination}, ${hops} ${hops === 1 ? 'hop' : 'hops'}`;
+  const { name, source, destination, flight } = circuit;
+  const way = `${named(name)}: node ${source} to node ${destination}, ${hopsText(circuit)}`;
   const shares = circuit.modes.map((mode) => {
     return [named(mode.name), mode.period, slotsText(mode.slots), mode.wordsAPeriod, mode.wordsACycle.toFixed(4)];
   });

@@ -57,13 +57,14 @@ ${STATUS}`,
   compare: `usage: calqetum compare OLD NEW [--exam] [--json]
 
 For each circuit and mode that both sheets have: undisturbed, silent in both, or what differs. Circuits and modes are matched by name;
-where a file has words and no names, circuits by their six words and modes by number.
+where a file has words and no names, circuits by their six words and modes by number. Both sheets have as many columns and rows, and
+vertical links of one kind, long or not.
 ${EXAM}
 ${JSON_OPTION}
 
 exit status
   0  compared
-  1  a sheet is refused, or the grids differ, so that nothing can be said
+  1  a sheet is refused, or the grids or their kinds differ, so that nothing can be said
   2  a file cannot be read (its cells are named), or wrong use`,
   hours: `usage: calqetum hours FILE [MINUTE] [--exam] [--json]
 

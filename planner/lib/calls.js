@@ -2,7 +2,7 @@
 // words, that of transfers in records. The numbers, the answers and the lent words are theirs; this file only lends words and unpacks answers.
 
 // Rows of the lent state that are read for pictures (docs/STATE.md).
-export const ROWS = { clock: 0, linkMark: 1, linkWord: 2, outMark: 7, outWord: 8, landingMark: 12, left: 16 };
+export const ROWS = { clock: 0, linkMark: 1, linkWord: 2, outMark: 7, outWord: 8, landingMark: 12, left: 16, extraMark: 21, extraWord: 22 };
 const ROW_WORDS = 80;
 const MOST_MEMORY_WORDS = 16 * 16384;
 const PAGE_BYTES = 65536;

@@ -1,5 +1,5 @@
 // The certificate of a sheet: what was judged, the verdict, what each circuit gets, what it rests on, and how to check it again.
-import { NOT_PROVED, STATEMENTS, STYLE } from './certificate_texts.js';
+import { LONG_LINKS_NOTE, NOT_PROVED, STATEMENTS, STYLE } from './certificate_texts.js';
 import { cut } from './document.js';
 import { helpLine } from './explain.js';
 import { PREMISE, answerText, circuitsOf, modePairs, slotsText } from './isolation.js';
@@ -96,11 +96,13 @@ function sheetPart(document) {
   return [rows ? rowsTable(rows, document.kind === 'plan' ? ofPlan : 'The sheet as the rows of a plan') : null, wordsText(document.words)];
 }
 
-// What each circuit gets: a row for each mode.
-function circuitsTable(circuits) {
+// What each circuit gets: a row for each mode. Where vertical links are long, the vertical hops have a column of their own.
+function circuitsTable(circuits, long) {
   const shared = ['mode', 'period', 'slots (offset+length)', 'words a period', 'words a cycle'];
-  return table(['circuit', 'from node', 'to node', 'hops', 'a word lands after', ...shared], circuits.flatMap((circuit) => {
-    const own = [named(circuit.name), circuit.source, circuit.destination, circuit.hops, `${circuit.flight} cycles`];
+  const hops = long ? ['hops', 'vertical'] : ['hops'];
+  return table(['circuit', 'from node', 'to node', ...hops, 'a word lands after', ...shared], circuits.flatMap((circuit) => {
+    const counts = long ? [circuit.hops, circuit.verticalHops] : [circuit.hops];
+    const own = [named(circuit.name), circuit.source, circuit.destination, ...counts, `${circuit.flight} cycles`];
     return circuit.modes.map((mode) => {
       const share = [named(mode.name), mode.period, slotsText(mode.slots), mode.wordsAPeriod, mode.wordsACycle.toFixed(4)];
       return [...own, ...share];
@@ -121,11 +123,12 @@ export function isolationTable(document, pairs) {
 
 function isolationPart(document) {
   const circuits = circuitsOf(document);
+  const { long } = partsOf(document.words);
   if (circuits.length === 0) return section('Circuits', element('p', {}, 'The sheet has no circuits.'));
   const pairs = modePairs(document);
   const alone = element('p', {}, 'The sheet has one mode, so there is no switch.');
   return [
-    section('Circuits', circuitsTable(circuits)),
+    section('Circuits', circuitsTable(circuits, long), long ? element('p', {}, LONG_LINKS_NOTE) : null),
     section('Whom a switch of modes disturbs', pairs.length > 0 ? isolationTable(document, pairs) : alone, element('p', {}, PREMISE)),
   ];
 }

@@ -15,9 +15,17 @@ export const STATEMENTS = [
   ['Demand3', 'crates/isolation/specs/Demand.antt', 'what it states, one claim about lists of calls on a sheet that passes; of its parts:'],
   ['undisturbed', 'crates/isolation/specs/Demand.antt', 'two runs that are alike for a circuit are the same in all that it delivers'],
   ['as-reckoned', 'crates/isolation/specs/Demand.antt', 'what the calls answer for a circuit is reckoned from the sheet and its own calls'],
-  ['lands', 'crates/isolation/specs/Demand.antt', 'a word that leaves in cycle t has landed after cycle t + 3 × (hops + 1)'],
+  [
+    'lands',
+    'crates/isolation/specs/Demand.antt',
+    'a word that leaves in cycle t has landed after cycle t + 3 × (hops + 1), and a cycle more for each vertical hop where vertical links ' +
+      'are long',
+  ],
   ['cycles-carried-out', 'crates/isolation/specs/Demand.antt', 'no cycle is refused: words never meet on a wire'],
 ];
+
+export const LONG_LINKS_NOTE =
+  "The grid's vertical links are long: a word takes 3 × (hops + 1) cycles and one more for each vertical hop, to the north or the south.";
 
 export const NOT_PROVED = [
   'The proofs are of the calls in Rattle. This certificate was worked out by the same calls compiled to WebAssembly; that translation is ' +

@@ -31,6 +31,17 @@ export function lineAt(x1, y1, x2, y2, attributes = {}) {
   return element('line', { x1, y1, x2, y2, stroke: 'currentColor', ...attributes });
 }
 
+const CLOCK = 4;
+
+// The mark of a register around a place: a box with the notch of its clock.
+export function registerMark({ x, y }, width, height) {
+  const left = x - width / 2;
+  return [
+    element('rect', { x: left, y: y - height / 2, width, height, fill: 'currentColor', 'fill-opacity': 0.08, stroke: 'currentColor' }),
+    element('path', { d: `M${left},${y - CLOCK} l${CLOCK},${CLOCK} l${-CLOCK},${CLOCK}`, fill: 'none', stroke: 'currentColor' }),
+  ];
+}
+
 // A part that tells what it is when it is pointed at, focused or read aloud.
 export function toldPart(text, attributes, ...children) {
   return element('g', { tabindex: 0, role: 'img', 'aria-label': text, ...attributes }, element('title', {}, text), ...children);

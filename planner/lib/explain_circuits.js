@@ -1,6 +1,7 @@
 // Why a sheet is refused by the numbers 4 and 5: its circuits and their order.
 import { placeOfWord } from './document.js';
 import { DESTINATION, READ_OFFSET, RECEIVE_OFFSET, REGION_NAMES, SOURCE, freeReceiveOffsets, recordIn } from './explain_regions.js';
+import { rowsOfWord } from './grid.js';
 import { HARMLESS_RECORD } from './limits.js';
 import { capital, circuitName, circuitWithRow, counted, valueAt } from './naming.js';
 import { keepsRules1To11 } from './served.js';
@@ -25,7 +26,8 @@ export function explainCircuit(context) {
 function nodeFaults(document, circuit, record, isFault) {
   const [source, destination] = record;
   if (!isFault({ [SOURCE]: source, [DESTINATION]: destination })) return { marks: [], lines: [], help: [] };
-  const [columns, rows] = document.words;
+  const [columns, rowsWord] = document.words;
+  const { rows } = rowsOfWord(rowsWord);
   const name = capital(circuitName(document, circuit.number));
   const outside = [SOURCE, DESTINATION].filter((at) => isFault({ [at]: record[at], [1 - at]: record[at] === 0 ? 1 : 0 }));
   const grid = `the grid of ${columns} columns and ${rows} rows, whose nodes are 0 to ${columns * rows - 1}`;

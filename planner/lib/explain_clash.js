@@ -1,6 +1,7 @@
 // Why a sheet is refused by number 11: the wire and the cycle that two slots share.
+import { ROUTER_CYCLES } from './flight.js';
 import { freeSlotOffsets } from './free_offsets.js';
-import { capital, circuitName, modeName, slotName, valueAt } from './naming.js';
+import { capital, circuitName, counted, longLinksLine, modeName, slotName, valueAt } from './naming.js';
 import { routeChange, routesOf } from './explain_routes.js';
 import { SIDES, routeOfLetters } from './route.js';
 import { MEMORY_WIRE, SOURCE_WIRE } from './run.js';
@@ -18,12 +19,14 @@ export function explainClash(context) {
   const pair = [packets[first.number], packets[second.number]];
   const { wire, cycle, uses } = firstShared(pair);
   const described = found.entries.map((entry, at) => packetLine(document, entry, pair[at], uses[at]));
+  const isLonger = pair.some((packet, at) => verticalBefore(packet, uses[at]) > 0);
   const others = [second, first];
   return {
     marks: found.entries.flatMap(({ at }) => [at, at + LENGTH].map((place) => ({ at: place, text: `${wireText(wire)}, cycle ${cycle}` }))),
     lines: [
       `Two slots of ${modeName(document, first.schedule)} use ${wireText(wire)} in cycle ${cycle} of the period (counted from 0).`,
       ...described,
+      ...(isLonger ? [longLinksLine(document)] : []),
     ],
     help: [...others.flatMap((entry) => freeSlotOffsets(context, entry)), ...others.flatMap((entry) => otherRoutes(context, entry))],
   };
@@ -45,9 +48,14 @@ function wireText({ node, wire }) {
   return wire === MEMORY_WIRE ? `the wire to the memory of node ${node}` : `the link from node ${node} to the ${SIDES[wire]}`;
 }
 
+// The vertical hops before a wire of a packet that cost it a cycle each.
+const verticalBefore = (packet, use) => use.from - packet.offset - ROUTER_CYCLES * packet.wires.indexOf(use);
+
 function packetLine(document, entry, packet, use) {
   const cells = `offset ${valueAt(document, entry.at)} and length ${valueAt(document, entry.at + LENGTH)}`;
-  return `${capital(slotName(document, entry, packet.circuit))} has ${cells}; it is on that wire in cycles ${use.from} to ${use.to}.`;
+  const before = verticalBefore(packet, use);
+  const cycles = `cycles ${use.from} to ${use.to}${before > 0 ? `, behind ${counted(before, 'vertical hop')}` : ''}`;
+  return `${capital(slotName(document, entry, packet.circuit))} has ${cells}; it is on that wire in ${cycles}.`;
 }
 
 // Another shortest route for a slot, where the sheet passes with it.

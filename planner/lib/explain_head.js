@@ -1,14 +1,17 @@
 // Why a sheet is refused by the numbers 1 to 3: its head, and how its words divide.
 import { placeOfWord } from './document.js';
+import { LONG_LINKS, rowsOfWord, rowsText, wordOfRows } from './grid.js';
 import { HEAD_LIMITS } from './limits.js';
-import { capital, circuitName, counted, limitsText, modeName, valueAt } from './naming.js';
+import { capital, circuitName, counted, limitsText, modeName, typedAt } from './naming.js';
 import { keepsRules1To11 } from './served.js';
 import { CIRCUIT_WORDS, ENTRY_WORDS, MOST_ENTRIES, divide } from './sheet.js';
 import { headFaults } from './shrink.js';
 import { nearest, tried } from './trials.js';
 
 const HEAD_NAMES = ['columns', 'rows', 'memory words of a node', 'number of circuits', 'number of schedules'];
-const [MEMORY, CIRCUITS, SCHEDULES] = [2, 3, 4];
+const [COLUMNS, ROWS, MEMORY, CIRCUITS, SCHEDULES] = [0, 1, 2, 3, 4];
+const SIZES = [2, 3, 4];
+const LONG_SIZES = SIZES.map((rows) => wordOfRows({ rows, long: true }));
 
 // Number 1: the head is not whole.
 export function explainShort({ document }) {
@@ -27,7 +30,7 @@ export function explainHead(context) {
   const { document, verdict } = context;
   const faults = headFaults(document.words, verdict);
   return {
-    marks: faults.map((at) => ({ at, text: `${headName(document, at)}: ${limitsText(HEAD_LIMITS[at])}` })),
+    marks: faults.map((at) => ({ at, text: `${headName(document, at)}: ${rangeText(document, at)}` })),
     lines: faults.map((at) => headLine(document, at)),
     help: headHelp(context, faults),
   };
@@ -35,6 +38,14 @@ export function explainHead(context) {
 
 function headName(document, at) {
   return document.kind === 'plan' && at === SCHEDULES ? 'number of modes' : HEAD_NAMES[at];
+}
+
+// The limits of a head word; rows have two ranges, the second as it is written in a plan or in words.
+function rangeText(document, at) {
+  const limits = limitsText(HEAD_LIMITS[at]);
+  if (at !== ROWS) return limits;
+  const long = document.kind === 'plan' ? ['2 long', '4 long'] : [LONG_SIZES[0], LONG_SIZES.at(-1)];
+  return `${limits}, or ${long.join(' to ')} for long vertical links`;
 }
 
 function headLine(document, at) {
@@ -48,7 +59,18 @@ function headLine(document, at) {
     const first = document.plan[what][most];
     return `The plan has ${value} ${what}, and there may be at most ${most}: row ${first.row + 1} is the first ${name} row too many.`;
   }
-  return `${capital(headName(document, at))}: ${valueAt(document, at)} is out of range; it may be ${limitsText(HEAD_LIMITS[at])}.`;
+  const typed = typedAt(document, at);
+  const reason = sizeReason(value, at, typed);
+  return `${capital(headName(document, at))}: ${typed} is out of range${reason}; it may be ${rangeText(document, at)}.`;
+}
+
+// What the 256 for long vertical links has to do with a size that is out of range.
+function sizeReason(value, at, typed) {
+  const { rows, long } = rowsOfWord(value);
+  if (at === COLUMNS && LONG_SIZES.includes(value)) return `: the ${LONG_LINKS} for long vertical links is added to the rows alone`;
+  if (at !== ROWS || !long) return '';
+  if (/long/i.test(typed)) return rows >= LONG_LINKS ? `: long itself adds the ${LONG_LINKS}` : '';
+  return `: without the ${LONG_LINKS} for long vertical links it states ${counted(rows, 'row')}`;
 }
 
 // Columns, rows and memory that are in range, the nearest that pass; the counts are as many as there are.
@@ -57,15 +79,34 @@ function headHelp({ document, verdict }, faults) {
   if (sizes.length === 0 || sizes.length < faults.length) return [];
   let choices = [[]];
   for (const at of sizes) choices = choices.flatMap((choice) => headValues(document, at).map((word) => [...choice, { at, word }]));
-  const text = (choice) => choice.map(({ at, word }) => `put ${word} into ${placeOfWord(document, at)} (${HEAD_NAMES[at]})`).join(' and ');
-  const trials = choices.map((choice) => tried(document, capital(text(choice)), { put: choice }, verdict));
-  return [trials.find((trial) => keepsRules1To11(trial.number)) ?? trials[0]];
+  const trials = choices.map((choice) => triedHead(document, choice, verdict));
+  const best = trials.find((trial) => keepsRules1To11(trial.number)) ?? trials[0];
+  const moved = movedToRows(document, faults).map((choice) => triedHead(document, choice, verdict));
+  return [best, ...moved];
 }
 
-// Values to try: for the memory the least that holds every region, else what is in range.
+// Tries head words that are put in; a plan has its rows with the word long.
+function triedHead(document, choice, verdict) {
+  const typed = ({ at, word }) => (document.kind === 'plan' && at === ROWS ? rowsText(word) : word);
+  const text = choice.map((one) => `put ${typed(one)} into ${placeOfWord(document, one.at)} (${HEAD_NAMES[one.at]})`).join(' and ');
+  return tried(document, capital(text), { put: choice }, verdict);
+}
+
+// Where 256 was added to the columns and belongs to the rows.
+function movedToRows({ words }, faults) {
+  if (faults.join() !== String(COLUMNS) || !LONG_SIZES.includes(words[COLUMNS]) || !SIZES.includes(words[ROWS])) return [];
+  return [[{ at: COLUMNS, word: words[COLUMNS] - LONG_LINKS }, { at: ROWS, word: words[ROWS] + LONG_LINKS }]];
+}
+
+// Values to try: for the memory the least that holds every region, else what is in range, rows of the kind that is stated. Where 256 was
+// added to the columns, or twice, the value without it comes first.
 function headValues(document, at) {
   const [least, most] = HEAD_LIMITS[at];
-  if (at !== MEMORY) return nearest([2, 3, 4], document.words[at]);
+  if (at !== MEMORY) {
+    const values = at === ROWS && rowsOfWord(document.words[at]).long ? LONG_SIZES : SIZES;
+    const less = document.words[at] - LONG_LINKS;
+    return nearest(values, values.includes(less) ? less : document.words[at]);
+  }
   const needed = divide(document.words).circuits.reduce((end, { words }) => Math.max(end, words[2] + words[3], words[4] + words[5]), least);
   return document.words[at] > most || needed > most ? [most] : [needed];
 }

@@ -1,7 +1,8 @@
 // Why a sheet is refused by the numbers 9 and 10: where a slot's route leads, and when its packet ends.
 import { placeOfWord } from './document.js';
+import { ROUTER_CYCLES, verticalHopsOf } from './flight.js';
 import { LENGTH_LIMITS, PERIOD_LIMITS } from './limits.js';
-import { capital, counted, slotName, typedAt, valueAt } from './naming.js';
+import { capital, counted, longLinksLine, slotName, typedAt, valueAt } from './naming.js';
 import { LETTERS, SIDES, distance, routeOfLetters, shortestRoutes, walk } from './route.js';
 import { keepsRules1To11 } from './served.js';
 import { partsOf } from './sheet.js';
@@ -80,12 +81,14 @@ export function explainEnd(context) {
   const parts = partsOf(document.words);
   const [offset, length, circuit, route] = entryAt(parts, entry).words;
   const [source] = parts.circuits[circuit].words;
-  const hops = walk(parts.columns, parts.rows, source, route).steps.length;
+  const { steps } = walk(parts.columns, parts.rows, source, route);
+  const verticalHops = verticalHopsOf(parts, steps);
   const period = found.schedules[0].at;
-  const sum = offset + length - 1 + 3 * hops;
+  const sum = offset + length - 1 + ROUTER_CYCLES * steps.length + verticalHops;
   const most = document.words[period] + 2;
   const [offsetCell, lengthCell] = [OFFSET, LENGTH].map((place) => valueAt(document, entry.at + place));
-  const terms = `offset ${offsetCell} + length ${lengthCell} - 1 + 3 x ${counted(hops, 'hop')} = ${sum}`;
+  const hops = `${ROUTER_CYCLES} x ${counted(steps.length, 'hop')}${verticalHops > 0 ? ` + ${counted(verticalHops, 'vertical hop')}` : ''}`;
+  const terms = `offset ${offsetCell} + length ${lengthCell} - 1 + ${hops} = ${sum}`;
   return {
     marks: [
       { at: entry.at, text: `ends ${counted(sum - most, 'cycle')} too late` },
@@ -95,6 +98,7 @@ export function explainEnd(context) {
     lines: [
       `${capital(slotName(document, entry, circuit))} ends too late, so that its packet could meet those of the next period.`,
       `${capital(terms)}; with period ${valueAt(document, period)} it may be at most ${most} (the period + 2): ${sum - most} too much.`,
+      ...(verticalHops > 0 ? [longLinksLine(document)] : []),
     ],
     help: endHelp(context, entry),
   };

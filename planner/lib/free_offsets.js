@@ -2,8 +2,9 @@
 import { circuitName } from './naming.js';
 import { LENGTH_LIMITS } from './limits.js';
 import { placeOfWord } from './document.js';
+import { ROUTER_CYCLES } from './flight.js';
 import { routeOfLetters, shortestRoutes } from './route.js';
-import { WORD_CYCLES, packetsOf } from './slots.js';
+import { packetsOf } from './slots.js';
 import { MOST_ENTRIES, partsOf } from './sheet.js';
 import { withEntries } from './shrink.js';
 import { bestTrial, nearest, put } from './trials.js';
@@ -46,7 +47,7 @@ function freeOffsets(parts, { schedule, number }) {
   const packets = packetsOf(parts, schedule);
   const own = packets[number];
   const taken = new Set(packets.filter((packet) => packet.entry !== number).flatMap((packet) => [...cellsOf(packet.wires, 0)]));
-  const last = Math.min(period - 1, period + 2 - (own.length - 1) - WORD_CYCLES * own.hops);
+  const last = Math.min(period - 1, period + 2 - (own.length - 1) - ROUTER_CYCLES * own.hops - own.verticalHops);
   const offsets = [];
   for (let offset = 0; offset <= last; offset++) {
     if (![...cellsOf(own.wires, offset - own.offset)].some((cell) => taken.has(cell))) offsets.push(offset);

@@ -1,12 +1,13 @@
 // The picture of the grid in one cycle: what is on each wire and what lands, from a frame of a run; and many frames as an animation.
 import { colourOf, fillOf, patternsOf, tintOf } from './colours.js';
 import { cut } from './document.js';
-import { legend, lineAt, messagePicture, picture, textAt, textOnPattern, toldPart } from './drawing.js';
+import { legend, lineAt, messagePicture, picture, registerMark, textAt, textOnPattern, toldPart } from './drawing.js';
+import { isGrid } from './grid.js';
 import { corner, gridSize, LANDING_BASELINE, placeOf, standing } from './grid_layout.js';
 import { element } from './markup.js';
 import { MARKS } from './run.js';
 import { partsOf } from './sheet.js';
-import { circuitFinder, isGrid, wireName } from './slots.js';
+import { circuitFinder, wireName } from './slots.js';
 
 export const MOST_FRAMES = 400;
 const NO_GRID = 'The file does not divide into circuits and modes on a grid of 2 to 4 columns and 2 to 4 rows.';
@@ -71,6 +72,7 @@ function sceneOf(document, prefix) {
     prefix,
     columns: parts.columns,
     rows: parts.rows,
+    long: parts.long,
     circuits: [...new Set(sending)].filter((circuit) => circuit < parts.circuits.length).sort((a, b) => a - b),
     circuitName: (circuit) => cut(document.circuitNames[circuit] ?? `circuit ${circuit}`, 60),
     modeName: (mode) => cut(document.modeNames[mode] ?? `schedule ${mode}`, 60),
@@ -80,16 +82,17 @@ function sceneOf(document, prefix) {
 
 // The picture around what moves; its size is that of the document, so that frames do not jump.
 function whole(scene, background, title, shown) {
-  const { columns, rows, prefix, circuits } = scene;
-  const size = gridSize(columns, rows);
+  const { columns, rows, long, prefix, circuits } = scene;
+  const size = gridSize(scene);
   const width = Math.max(size.width, 760);
-  const marks = legend(markItems(), 12, size.height, width - 24);
+  const marks = legend(markItems(scene), 12, size.height, width - 24);
   const names = legend(circuits.map((circuit) => circuitItem(scene, circuit)), 12, marks.bottom + 2, width - 24);
-  const description = `A grid of ${columns} columns and ${rows} rows; links lead both ways, and those at the border wrap round.`;
+  const links = `links lead both ways, and those at the border wrap round${long ? '; vertical links have a register' : ''}`;
+  const description = `A grid of ${columns} columns and ${rows} rows; ${links}.`;
   return picture(
     { width, height: names.bottom + 8, prefix, title, description, background },
     element('defs', {}, patternsOf(circuits, prefix)),
-    standing(columns, rows),
+    standing(scene),
     shown,
     marks.drawn,
     names.drawn,
@@ -101,11 +104,13 @@ function circuitItem({ prefix, circuitName }, circuit) {
   return { text: circuitName(circuit), draw };
 }
 
-function markItems() {
-  return [1, 2, 3].map((mark) => ({
+function markItems({ long }) {
+  const words = [1, 2, 3].map((mark) => ({
     text: ['', 'header (at: the address it writes to)', 'payload word', "a packet's last payload word"][mark],
     draw: (x, y) => token(x + 13, y + 6, mark, NEUTRAL),
   }));
+  const drawRegister = (x, y) => registerMark({ x: x + 13, y: y + 6 }, 18, 14);
+  return long ? [...words, { text: 'register of a long vertical link: one cycle more', draw: drawRegister }] : words;
 }
 
 function captionOf(scene, frame) {
@@ -120,19 +125,23 @@ function moving(scene, frame, modeBefore) {
   return [
     caption(captionOf(scene, frame)),
     frame.wires.map((cell) => wordOnWire(scene, cell, scene.circuitOf(frame, cell, modeBefore))),
+    frame.registers.map((cell) => wordOnWire(scene, cell, scene.circuitOf(cycleBefore(frame), cell, modeBefore), true)),
     frame.landings.map((landing) => landingAt(scene, landing)),
   ];
 }
 
-// A word on a wire: its token, the word beside it; a header shows the address that it writes to.
-function wordOnWire(scene, { node, wire, mark, word }, circuit) {
-  const place = placeOf(scene.columns, scene.rows, node, wire);
+// A word in a register was on its link's wire in the cycle before.
+const cycleBefore = (frame) => ({ ...frame, cycle: frame.cycle - 1, cycleInPeriod: frame.cycleInPeriod - 1 });
+
+// A word on a wire, or in the register behind it: its token, the word beside it; a header shows the address that it writes to.
+function wordOnWire(scene, { node, wire, mark, word }, circuit, inRegister = false) {
+  const place = placeOf(scene, node, wire, inRegister);
   const colours = circuit === null ? NEUTRAL : { fill: fillOf(circuit, scene.prefix), stroke: colourOf(circuit), rim: tintOf(circuit) };
   const address = (word >>> 16) & 0x3fff;
   const whose = circuit === null ? '' : ` of ${scene.circuitName(circuit)}`;
   const what = mark === 1 ? `word ${word}: it writes from address ${address} on` : `word ${word}`;
   return toldPart(
-    `${wireName(scene.columns, scene.rows, node, wire)}: ${MARKS[mark]}${whose}, ${what}`,
+    `${wireName(scene.columns, scene.rows, node, wire)}${inRegister ? ', in its register' : ''}: ${MARKS[mark]}${whose}, ${what}`,
     {},
     place.line && lineAt(...place.line, { stroke: colours.stroke, 'stroke-width': 3 }),
     token(place.token.x, place.token.y, mark, colours),
@@ -154,7 +163,7 @@ function token(x, y, mark, { fill, stroke, rim }) {
 
 // What landed, written in the node's box under its memory.
 function landingAt(scene, { node, kind, address, word }) {
-  const { x, y } = corner(scene.columns, node);
+  const { x, y } = corner(scene, node);
   const how = kind === 2 ? 'interrupt' : 'landed';
   return toldPart(
     `node ${node}: the word ${word} ${kind === 2 ? 'of an interrupt ' : ''}landed at address ${address}`,

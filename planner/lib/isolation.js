@@ -1,7 +1,7 @@
 // Which circuits a switch of modes or a change of the sheet leaves undisturbed (demand 3), and what each gets: read from sheets that pass.
 import { cut } from './document.js';
+import { flightBetween } from './flight.js';
 import { COLUMNS, MOST_NAME } from './plan.js';
-import { distance } from './route.js';
 import { partsOf } from './sheet.js';
 
 const MOST_SLOTS_SHOWN = 6;
@@ -51,18 +51,22 @@ export function circuitsOf(document) {
   const parts = partsOf(document.words);
   return parts.circuits.map(({ number, words }) => {
     const [source, destination] = words;
-    const hops = distance(parts.columns, parts.rows, source, destination);
     return {
       number,
       name: document.circuitNames[number],
       source,
       destination,
       record: words,
-      hops,
-      flight: 3 * (hops + 1),
+      ...flightBetween(parts, source, destination),
       modes: parts.schedules.map((schedule) => shareOf(document, schedule, number)),
     };
   });
+}
+
+// A circuit's hops as text; the vertical ones are told where each costs a cycle more.
+export function hopsText({ hops, verticalHops }) {
+  const all = `${hops} ${hops === 1 ? 'hop' : 'hops'}`;
+  return verticalHops === 0 ? all : `${all} (${verticalHops} vertical)`;
 }
 
 // Slots as text, offset+length each.
@@ -138,10 +142,8 @@ function changedRecord(first, second) {
 export function compareDocuments(old, changed, labels = ['the old sheet', 'the new sheet']) {
   const [first, second] = [partsOf(old.words), partsOf(changed.words)];
   const none = { starts: null, circuits: [], circuitsInOldAlone: [], circuitsInNewAlone: [], modesInOldAlone: [], modesInNewAlone: [] };
-  if (first.columns !== second.columns || first.rows !== second.rows) {
-    const grids = `${first.columns} by ${first.rows} and ${second.columns} by ${second.rows} nodes`;
-    return { comparable: false, reason: `Nothing can be said: the grids differ (${grids}).`, ...none };
-  }
+  const reason = gridsReason(first, second, labels);
+  if (reason !== null) return { comparable: false, reason, ...none };
   const named = old.named && changed.named;
   const circuits = matched(circuitsOf(old), circuitsOf(changed), (circuit) => (named ? circuit.name : circuit.record.join(' ')));
   const modesOf = (document, parts) => parts.schedules.map(({ number }) => ({ number, name: document.modeNames[number] }));
@@ -156,6 +158,17 @@ export function compareDocuments(old, changed, labels = ['the old sheet', 'the n
     modesInOldAlone: modes.firstAlone,
     modesInNewAlone: modes.secondAlone,
   };
+}
+
+// Why grids cannot be compared, or null: what is proved is of two runs on one grid, its vertical links of one kind.
+function gridsReason(first, second, [one, other]) {
+  if (first.columns !== second.columns || first.rows !== second.rows) {
+    const grids = `${first.columns} by ${first.rows} and ${second.columns} by ${second.rows} nodes`;
+    return `Nothing can be said: the grids differ (${grids}).`;
+  }
+  if (first.long === second.long) return null;
+  const [long, short] = first.long ? [one, other] : [other, one];
+  return `Nothing can be said: the grids are of two kinds (the vertical links of ${long} are long, those of ${short} are not).`;
 }
 
 // What is to be known where the two sheets begin in modes that are not the same line.

@@ -2,6 +2,8 @@
 import { cut, placeOfWord } from './document.js';
 import { MOST_NAME } from './plan.js';
 
+const ROWS_WORD = 1;
+
 // A word with its cell: 9 (D13).
 export function valueAt(document, at) {
   return `${document.words[at]} (${placeOfWord(document, at)})`;
@@ -12,6 +14,11 @@ export function typedAt(document, at) {
   if (document.kind !== 'plan') return valueAt(document, at);
   const { row, column } = document.places[at];
   return `${cut(document.rows[row][column].trim())} (${placeOfWord(document, at)})`;
+}
+
+// Why vertical hops count, for a sheet whose vertical links are long.
+export function longLinksLine(document) {
+  return `The rows are ${typedAt(document, ROWS_WORD)}, so the vertical links are long: each hop north or south takes one cycle more.`;
 }
 
 export function circuitName(document, number) {

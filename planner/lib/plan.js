@@ -1,4 +1,5 @@
 // A plan: the rows of a table, read by their keywords. Every cell that cannot be read is told at once; ranges and rules are the checker's.
+import { LONG_LINKS } from './grid.js';
 import { routeOfLetters, MOST_LETTERS } from './route.js';
 import { MINUTE_FORMS, minuteOfTime } from './week.js';
 
@@ -23,6 +24,7 @@ export const COLUMNS = {
 const KEYWORD = 'a keyword: network, circuit, mode, slot, window, memory or at (a comment begins with #)';
 const NETWORK = 'a network row: network, columns, rows, memory words a node';
 const NUMBER = `a whole number from 0 to ${LARGEST_WORD}`;
+const LONG_ROWS = /^([0-9]+)\s*long$/i;
 
 // Characters that show nothing or turn the order of others round: two names could look alike.
 const UNSEEN = /[\p{Cf}\p{Cc}\p{Co}\p{Zl}\p{Zp}\u115f\u1160\u3164\uffa0]/u;
@@ -104,6 +106,23 @@ function rowReader(whole, row, problems, names = {}) {
   return { text, problem, number, name, named, end };
 }
 
+// Reads the rows of a grid: a number; where its vertical links are long, with long behind it or 256 added.
+function readRows(reader, column) {
+  const text = reader.text(column);
+  const long = LONG_ROWS.exec(text);
+  const rows = numberOf(long ? long[1] : text);
+  const most = LARGEST_WORD - LONG_LINKS;
+  if (rows !== null && !(long && rows > most)) return long ? rows + LONG_LINKS : rows;
+  if (long) return reader.problem(column, `rows before long: a whole number from 0 to ${most}`);
+  return reader.problem(column, `rows: ${NUMBER}, with long behind it where vertical links are long${formulaNote(text)}`);
+}
+
+// Reads the columns of a grid, which have one kind only.
+function readColumns(reader, column) {
+  if (!LONG_ROWS.test(reader.text(column))) return reader.number(column, 'columns');
+  return reader.problem(column, `columns: ${NUMBER}; long stands behind the rows, since vertical links alone can be long`);
+}
+
 // Reads a route: letters as ES, or its number.
 function readRoute(reader, column) {
   const text = reader.text(column);
@@ -126,10 +145,10 @@ function readKind(reader, column) {
 
 const readers = {
   network(reader, row, plan) {
-    const [columns, rows, memory] = [1, 2, 3].map((at) => reader.number(at, COLUMNS.network[at - 1]));
+    const [columns, rowsWord, memory] = [readColumns(reader, 1), readRows(reader, 2), reader.number(3, 'memory')];
     reader.end(4, 'network');
     if (plan.network) reader.problem(0, `one network row; row ${plan.network.row + 1} is one already`);
-    else plan.network = { row, columns, rows, memory };
+    else plan.network = { row, columns, rowsWord, memory };
   },
   circuit(reader, row, plan) {
     const name = reader.name(1, 'a name for the circuit');

@@ -14,11 +14,14 @@ export function neighbour(columns, rows, node, side) {
   return ((row + steps[side][1]) % rows) * columns + ((column + steps[side][0]) % columns);
 }
 
-// The shorter way round in columns and in rows.
-export function distance(columns, rows, from, to) {
-  const ring = (size, a, b) => Math.min((b + size - a) % size, (a + size - b) % size);
-  return ring(columns, from % columns, to % columns) + ring(rows, Math.floor(from / columns), Math.floor(to / columns));
-}
+export const isVertical = (side) => side === 0 || side === 2;
+
+// The shorter way round a ring of nodes.
+const ring = (size, a, b) => Math.min((b + size - a) % size, (a + size - b) % size);
+
+// The hops north or south of a shortest way, and all of its hops.
+export const verticalDistance = (columns, rows, from, to) => ring(rows, Math.floor(from / columns), Math.floor(to / columns));
+export const distance = (columns, rows, from, to) => ring(columns, from % columns, to % columns) + verticalDistance(columns, rows, from, to);
 
 // The route of letters as ES, closed by the code that leads out to the memory. Null where the text is no such letters, or turns straight
 // back: at a router the code of that side leads out.

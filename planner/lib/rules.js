@@ -1,6 +1,7 @@
 // The numbers of a refusal, 1 to 21, 26, 31 and 32, in a planner's words; and why a call of a run was refused.
 import { cellName } from './cells.js';
 import { ROWS } from './calls.js';
+import { rowsOfWord } from './grid.js';
 import { capital, circuitName, counted, modeName } from './naming.js';
 import { KINDS } from './plan.js';
 import { partsOf } from './sheet.js';
@@ -16,7 +17,8 @@ export const RULES = {
   ),
   2: rule(
     'A number of the head is out of range',
-    'Columns and rows are 2 to 4 each, the memory of a node 1 to 16,384 words; there are 0 to 64 circuits and 1 to 8 modes.',
+    'Columns and rows are 2 to 4 each, the memory of a node 1 to 16,384 words; there are 0 to 64 circuits and 1 to 8 modes. A grid with ' +
+      'long vertical links has 2 long to 4 long as its rows, in words 258 to 260.',
   ),
   3: rule(
     'The words do not divide into circuits and modes',
@@ -48,7 +50,8 @@ export const RULES = {
   ),
   10: rule(
     'A slot ends too late for the next period',
-    'Offset + length - 1 + 3 x hops is at most the period + 2, so that no packet meets those of the next period, whatever its mode.',
+    'Offset + length - 1 + 3 x hops is at most the period + 2, so that no packet meets those of the next period, whatever its mode. Where ' +
+      'vertical links are long, each hop north or south counts one more.',
   ),
   11: rule(
     'Two slots use one wire in one cycle',
@@ -177,8 +180,9 @@ const REASONS = {
 };
 
 function unknownNode(document, node, row, column) {
-  const [columns, rows] = document.words;
-  return node < columns * rows ? [] : [`there is no node ${node}${cellText(row, column)}, nodes are 0 to ${columns * rows - 1}`];
+  const [columns, rowsWord] = document.words;
+  const nodes = columns * rowsOfWord(rowsWord).rows;
+  return node < nodes ? [] : [`there is no node ${node}${cellText(row, column)}, nodes are 0 to ${nodes - 1}`];
 }
 
 function unknownAddress(document, what, address, row, column) {

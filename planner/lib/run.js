@@ -139,7 +139,8 @@ export function openRun(calls, words, { stores = [], acts = [], sending = false 
       if (run.refused) return null;
     }
     const clock = [0, 1, 2].map((place) => calls.register(ROWS.clock, place));
-    const wires = outputs(calls, run.nodes);
+    const wires = outputs(calls, run.nodes, ROWS.outMark, ROWS.outWord);
+    const registers = parts.long ? outputs(calls, run.nodes, ROWS.extraMark, ROWS.extraWord) : [];
     const number = calls.cycle();
     if (number !== 0) {
       refuse(number, { what: 'cycle', row: null, column: null });
@@ -152,6 +153,7 @@ export function openRun(calls, words, { stores = [], acts = [], sending = false 
       period: clock[1],
       mode: clock[2],
       wires: [...sources(calls, run.nodes), ...wires],
+      registers,
       landings: landed,
     };
     run.cycle++;
@@ -160,13 +162,14 @@ export function openRun(calls, words, { stores = [], acts = [], sending = false 
   return run;
 }
 
-// The words on the outputs' wires in the coming cycle (docs/STATE.md, row out).
-function outputs(calls, nodes) {
+// The words on the outputs' wires in the coming cycle, or those in the extra registers of long vertical links (docs/STATE.md, rows out and
+// extra).
+function outputs(calls, nodes, markRow, wordRow) {
   const found = [];
   for (let node = 0; node < nodes; node++) {
     for (let wire = 0; wire < PORTS; wire++) {
-      const mark = calls.register(ROWS.outMark, PORTS * node + wire);
-      if (mark !== 0) found.push({ node, wire, mark, word: calls.register(ROWS.outWord, PORTS * node + wire) });
+      const mark = calls.register(markRow, PORTS * node + wire);
+      if (mark !== 0) found.push({ node, wire, mark, word: calls.register(wordRow, PORTS * node + wire) });
     }
   }
   return found;

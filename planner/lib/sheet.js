@@ -1,4 +1,5 @@
 // Sheets: a plan's words with the cell of each, the parts of a sheet's words, and parts back to words.
+import { rowsOfWord, wordOfRows } from './grid.js';
 
 export const HEAD_WORDS = 5;
 export const CIRCUIT_WORDS = 6;
@@ -29,7 +30,7 @@ export function sheetOfPlan(plan, exam = false) {
   };
   const { network } = plan;
   put(network.columns, network.row, 1);
-  put(network.rows, network.row, 2);
+  put(network.rowsWord, network.row, 2);
   put(network.memory, network.row, 3);
   put(order.length, plan.circuits[64]?.row ?? network.row, 0);
   put(plan.modes.length, plan.modes[8]?.row ?? network.row, 0);
@@ -68,7 +69,7 @@ export function partsOf(words) {
 // Reads the sheet that words stand for, from the front. Where it does not divide, `wrong` says at which place, what was wanted there and how many words.
 export function divide(given) {
   const words = meant(given);
-  const part = { columns: words[0], rows: words[1], memory: words[2], circuits: [], schedules: [] };
+  const part = { columns: words[0], ...rowsOfWord(words[1]), memory: words[2], circuits: [], schedules: [] };
   if (words.length < HEAD_WORDS) return { ...part, wrong: { what: 'head', at: words.length, missing: HEAD_WORDS - words.length } };
   let at = HEAD_WORDS;
   const take = (count, what, detail) => {
@@ -100,7 +101,7 @@ export function divide(given) {
 
 // The words of parts.
 export function wordsOf(parts) {
-  const words = [parts.columns, parts.rows, parts.memory, parts.circuits.length, parts.schedules.length];
+  const words = [parts.columns, wordOfRows(parts), parts.memory, parts.circuits.length, parts.schedules.length];
   for (const circuit of parts.circuits) words.push(...circuit.words);
   for (const schedule of parts.schedules) {
     words.push(schedule.period, schedule.entries.length);

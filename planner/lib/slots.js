@@ -1,31 +1,31 @@
 // The slots of a mode on the wires: which wire each packet uses in which cycles, reckoned from the sheet for display.
 // Whether a sheet may have such slots is the checker's to say; a refused sheet is reckoned as far as its words go.
+import { ROUTER_CYCLES, verticalHopsOf } from './flight.js';
+import { isGrid } from './grid.js';
 import { neighbour, SIDES, walk } from './route.js';
 import { MEMORY_WIRE, SOURCE_WIRE } from './run.js';
 
-export const WORD_CYCLES = 3;
 const DRAWN_HOPS = 8;
 
 // One item an entry of a schedule. Cycles are counted from the period's begin; `to` is the last one. An entry whose circuit, source or
-// grid is not there has no wires; a route that never comes out has `out` null and is followed for eight hops.
+// grid is not there has no wires; a route that never comes out has `out` null and is followed for eight hops. `verticalHops` cost
+// a cycle more each, which is spent behind the hop's own output.
 export function packetsOf(parts, mode) {
   return parts.schedules[mode].entries.map((entry) => {
     const [offset, length, circuit, route] = entry.words;
-    const packet = { schedule: mode, entry: entry.number, circuit, offset, length, hops: 0, out: null, wires: [] };
+    const packet = { schedule: mode, entry: entry.number, circuit, offset, length, hops: 0, verticalHops: 0, out: null, wires: [] };
     const source = parts.circuits[circuit]?.words[0];
     if (!isGrid(parts) || source === undefined || source >= parts.columns * parts.rows) return packet;
     const way = walk(parts.columns, parts.rows, source, route);
     const steps = way.steps.slice(0, DRAWN_HOPS);
     const uses = [{ node: source, wire: SOURCE_WIRE }, ...steps.map((step) => ({ node: step.from, wire: step.side }))];
     if (way.out !== null) uses.push({ node: way.out, wire: MEMORY_WIRE });
-    const wires = uses.map((use, at) => ({ ...use, from: offset + WORD_CYCLES * at, to: offset + WORD_CYCLES * at + length - 1 }));
-    return { ...packet, hops: steps.length, out: way.out, wires };
+    const wires = uses.map((use, at) => {
+      const from = offset + ROUTER_CYCLES * at + verticalHopsOf(parts, steps.slice(0, Math.max(0, at - 1)));
+      return { ...use, from, to: from + length - 1 };
+    });
+    return { ...packet, hops: steps.length, verticalHops: verticalHopsOf(parts, steps), out: way.out, wires };
   });
-}
-
-// Whether the sheet's columns and rows are those of a grid that can be drawn.
-export function isGrid(parts) {
-  return [parts.columns, parts.rows].every((size) => size >= 2 && size <= 4);
 }
 
 // The stretches of cycles in which two or more uses of wires (node, wire, from, to) share a wire, each with those uses.

@@ -1,10 +1,10 @@
 // The picture of a mode's slots: a row for each wire that some slot uses, a column for each cycle of two periods and the tail behind.
 import { colourOf, fillOf, patternsOf, tintOf } from './colours.js';
 import { cut } from './document.js';
-import { INK, legend, lineAt, messagePicture, picture, textAt, textOnPattern, textWidth, toldPart } from './drawing.js';
+import { INK, legend, lineAt, messagePicture, picture, registerMark, textAt, textOnPattern, textWidth, toldPart } from './drawing.js';
 import { element } from './markup.js';
 import { partsOf } from './sheet.js';
-import { isGrid } from './slots.js';
+import { isGrid } from './grid.js';
 import { kindOfWire, lateText, rowKey, sharedText, slotsScene, slotText } from './slots_scene.js';
 
 const LONGEST_PERIOD = 1024;
@@ -16,6 +16,9 @@ const ROW = 22;
 const BOX = 18;
 const RED = '#d00000';
 const PALE = 0.35;
+const LONG_TEXT = 'long link: what comes behind it is one cycle later';
+// The mark before a long link's name, and the room that it takes from all rows of such a picture.
+const LONG_MARK = { at: 19, width: 11, height: 14, room: 24 };
 
 // The picture of mode number `mode`. The prefix keeps its ids apart from those of other pictures; with background it stands on white.
 export function slotsPicture(document, mode, { prefix = `slots-${mode}`, background = false } = {}) {
@@ -31,10 +34,12 @@ export function slotsPicture(document, mode, { prefix = `slots-${mode}`, backgro
   if (period < 1 || period > LONGEST_PERIOD) return message(title, `No period has ${period} cycles: it is 9 to ${LONGEST_PERIOD}.`);
   const scene = slotsScene(document, parts, mode);
   if (scene.uses.length === 0) return message(title, 'No slot can be drawn: its circuit is not there, or it lies beyond the period.');
-  return drawn({ ...scene, prefix, width: Math.max(3, Math.min(24, Math.floor(1200 / scene.cycles))) }, background, title);
+  const gutter = GUTTER + (hasLong(scene) ? LONG_MARK.room : 0);
+  return drawn({ ...scene, prefix, gutter, width: Math.max(3, Math.min(24, Math.floor(1200 / scene.cycles))) }, background, title);
 }
 
-const left = (scene, cycle) => GUTTER + cycle * scene.width;
+const hasLong = ({ rows }) => rows.some(({ long }) => long);
+const left = (scene, cycle) => scene.gutter + cycle * scene.width;
 const top = (scene, use) => ROWS_TOP + scene.rowOf.get(rowKey(use)) * ROW;
 const bottom = (scene) => ROWS_TOP + scene.rows.length * ROW;
 
@@ -66,6 +71,7 @@ function descriptionOf(scene) {
   ];
   if (scene.shared.length > 0) told.push('Slots share a wire in a cycle; these cycles are hatched in red.');
   if (scene.late.length > 0) told.push('Slots are on links later than number 10 allows; these cycles are outlined in red.');
+  if (hasLong(scene)) told.push('Links to the north and the south are long: what comes behind them is one cycle later.');
   return told.join(' ');
 }
 
@@ -77,7 +83,8 @@ function wireRows(scene) {
     return [
       at % 2 === 0 && element('rect', { x: 12, y, width: right - 12, height: ROW, fill: 'currentColor', opacity: 0.05 }),
       at > 0 && kindOfWire(row) !== kindOfWire(scene.rows[at - 1]) && lineAt(12, y, right, y, { opacity: 0.5 }),
-      textAt(GUTTER - 8, y + 15, 12, scene.wireName(row), { 'text-anchor': 'end' }),
+      row.long && registerMark({ x: LONG_MARK.at, y: y + ROW / 2 }, LONG_MARK.width, LONG_MARK.height),
+      textAt(scene.gutter - 8, y + 15, 12, scene.wireName(row), { 'text-anchor': 'end' }),
     ];
   });
 }
@@ -90,8 +97,8 @@ function timeAxis(scene) {
   const names = [['period 0', 0, period], ['period 1', period, 2 * period], ['the tail behind', 2 * period, cycles]];
   const number = (cycle, y, text, opacity) => textAt(left(scene, cycle) + width / 2, y, 10, text, { 'text-anchor': 'middle', opacity });
   const parts = [
-    textAt(GUTTER - 8, PERIODS_TOP + 32, 10, 'cycle', { 'text-anchor': 'end' }),
-    textAt(GUTTER - 8, PERIODS_TOP + 48, 10, 'cycle of the period', { 'text-anchor': 'end', opacity: 0.75 }),
+    textAt(scene.gutter - 8, PERIODS_TOP + 32, 10, 'cycle', { 'text-anchor': 'end' }),
+    textAt(scene.gutter - 8, PERIODS_TOP + 48, 10, 'cycle of the period', { 'text-anchor': 'end', opacity: 0.75 }),
   ];
   for (const [text, begin, end] of names) {
     if (textWidth(text, 11) > (end - begin) * width) continue;
@@ -172,17 +179,20 @@ function circuitItems({ circuits, circuitName, prefix }) {
   return circuits.map((circuit) => ({ text: circuitName(circuit), draw: box(lookOf(circuit, prefix)) }));
 }
 
-function markItems({ circuits, uses, shared, late, missing, prefix }) {
+function markItems({ circuits, rows, uses, shared, late, missing, prefix }) {
   const upright = (attributes) => (x, y) => lineAt(x + 13, y - 2, x + 13, y + 14, attributes);
   const pale = { ...lookOf(circuits[0], prefix), opacity: PALE };
   const red = { fill: 'none', stroke: RED, 'stroke-width': 2 };
+  const isLong = hasLong({ rows });
+  const onLinks = `on links${isLong ? ' and in their registers' : ''}`;
   return [
     { text: 'cycle of the header', draw: (x, y) => element('path', { d: `M${x + 9},${y} l8,6 l-8,6 Z`, fill: 'currentColor' }) },
     uses.some((use) => use.period < 0) && { text: 'paler: slots of the period before', draw: box(pale) },
     { text: 'end of a period', draw: upright(PERIOD_LINE) },
-    { text: "number 10: up to here the period's slots may be on links", draw: upright(LIMIT_LINE) },
+    { text: `number 10: up to here the period's slots may be ${onLinks}`, draw: upright(LIMIT_LINE) },
+    isLong && { text: LONG_TEXT, draw: (x, y) => registerMark({ x: x + 13, y: y + 6 }, LONG_MARK.width, LONG_MARK.height) },
     shared.length > 0 && { text: 'slots that share a wire in a cycle', draw: box({ ...red, fill: `url(#${prefix}-shared)` }) },
-    late.length > 0 && { text: 'on a link later than number 10 allows', draw: box(red) },
+    late.length > 0 && { text: `on a link${isLong ? ' or in its register' : ''} later than number 10 allows`, draw: box(red) },
     missing > 0 && { text: `slots not drawn (no such circuit or node, no length, or beyond these cycles): ${missing}`, draw: questionMark },
   ].filter((item) => item);
 }

@@ -1,5 +1,6 @@
 // What the picture of a mode's slots shows, before it is drawn: slots on wires in cycles, the rows, shared and late cycles, and the texts.
 import { cut } from './document.js';
+import { isVertical } from './route.js';
 import { MEMORY_WIRE, SOURCE_WIRE } from './run.js';
 import { packetsOf, sharedCycles, wireName } from './slots.js';
 
@@ -13,10 +14,11 @@ export function slotsScene(document, parts, mode) {
   const { period } = parts.schedules[mode];
   const packets = packetsOf(parts, mode);
   const cycles = 2 * period + TAIL_CYCLES;
-  const usesIn = (number) => packets.flatMap((packet) => packet.wires.map((wire) => placed(packet, wire, number, period)));
+  const isLong = ({ wire }) => Boolean(parts.long) && isVertical(wire);
+  const usesIn = (number) => packets.flatMap((packet) => packet.wires.map((wire) => placed(packet, wire, number, period, isLong(wire))));
   const uses = [-1, 0, 1].flatMap(usesIn);
   const drawn = uses.filter((use) => use.begin <= use.end).flatMap((use) => clipped(use, cycles));
-  const rows = new Map(drawn.map((use) => [rowKey(use), { node: use.node, wire: use.wire }]));
+  const rows = new Map(drawn.map((use) => [rowKey(use), { node: use.node, wire: use.wire, long: use.long }]));
   const order = [...rows.keys()].sort((a, b) => a - b);
   return {
     period,
@@ -35,11 +37,13 @@ export function slotsScene(document, parts, mode) {
 
 const isLink = (use) => use.wire < MEMORY_WIRE;
 
-// A packet's wire in a period; `limit` is the first cycle in which number 10 does not let it be on a link.
-function placed(packet, wire, number, period) {
+// A packet's wire in a period; `limit` is the first cycle in which number 10 does not let it be on a link. On a long one that is a cycle
+// earlier, since the link's register comes behind.
+function placed(packet, wire, number, period, long) {
   const begin = wire.from + number * period;
   const end = wire.to + number * period;
-  return { ...wire, packet, period: number, begin, end, from: begin, to: end, limit: (number + 1) * period + LINK_TAIL };
+  const limit = (number + 1) * period + LINK_TAIL - (long ? 1 : 0);
+  return { ...wire, packet, long, period: number, begin, end, from: begin, to: end, limit };
 }
 
 function clipped(use, cycles) {
@@ -74,8 +78,9 @@ export function sharedText(scene, stretch) {
 }
 
 export function lateText(scene, use) {
+  const [link, register] = use.long ? ['long link', ', and in their registers one more'] : ['link', ''];
   return (
-    `Late: ${scene.circuitName(use.packet.circuit)} (slot ${ownerText(use)}) is on a link, ${scene.wireName(use)}, in ` +
-    `${cyclesText(use.from, use.to)}; number 10 lets slots ${ownerText(use)} be on links up to cycle ${use.limit - 1}`
+    `Late: ${scene.circuitName(use.packet.circuit)} (slot ${ownerText(use)}) is on a ${link}, ${scene.wireName(use)}, in ` +
+    `${cyclesText(use.from, use.to)}; number 10 lets slots ${ownerText(use)} be on ${link}s up to cycle ${use.limit - 1}${register}`
   );
 }

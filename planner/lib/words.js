@@ -1,4 +1,5 @@
 // Files of words (.sheet): decimal numbers separated by blanks or tabs, a # before a comment, as examples/words.sh reads them.
+import { rowsText, wordOfRows } from './grid.js';
 import { LARGEST_WORD, MOST_PROBLEMS, numberOf } from './plan.js';
 import { partsOf } from './sheet.js';
 import { lettersOfRoute } from './route.js';
@@ -42,7 +43,7 @@ export const placeName = (place) => `line ${place.row + 1}, word ${place.column 
 export function rowsOfWords(words) {
   const parts = partsOf(words);
   if (!parts) return null;
-  const rows = [['network', parts.columns, parts.rows, parts.memory]];
+  const rows = [['network', parts.columns, rowsText(wordOfRows(parts)), parts.memory]];
   for (const circuit of parts.circuits) rows.push(['circuit', `circuit ${circuit.number}`, ...circuit.words]);
   for (const schedule of parts.schedules) {
     rows.push(['mode', `schedule ${schedule.number}`, schedule.period]);

@@ -20,6 +20,7 @@ export function showRowHelp() {
   fill(
     'row-help',
     element('p', {}, 'The first cell is a keyword; a row that begins with # is a comment. Circuits and modes are called by their names.'),
+    element('p', {}, 'Rows are 2 to 4; 2 long is a grid whose vertical links are long, so that each hop north or south takes a cycle more.'),
     element('p', {}, 'A route is letters N, E, S, W in the order of the way, as ES for east, then south.'),
     element('p', {}, 'A window starts at a day and a time, as Mo 08:30, or at a minute of the week; its length is in minutes.'),
     element('ul', {}, Object.entries(COLUMNS).map(rowHelp)),

@@ -1,5 +1,5 @@
 // The planner's question: what each circuit has in each mode, and whether one mode disturbs it against another.
-import { COMPARE_PREMISE, PREMISE, circuitsOf, compareDocuments, modePairs, slotsText } from '../lib/isolation.js';
+import { COMPARE_PREMISE, PREMISE, circuitsOf, compareDocuments, hopsText, modePairs, slotsText } from '../lib/isolation.js';
 import { element } from '../lib/markup.js';
 import { byId, choices, fill } from './dom.js';
 
@@ -38,6 +38,12 @@ function pairTable(opened, pairs) {
   return scrolled('Pairs of modes', ['Circuit', 'In mode', 'and in mode', 'it is', 'because'], rows, 'pairs');
 }
 
+// Hops are told where they alone do not say the flight time.
+function wayText(circuit) {
+  const way = `node ${circuit.source} to node ${circuit.destination}`;
+  return circuit.verticalHops > 0 ? `${way}, ${hopsText(circuit)}` : way;
+}
+
 function figureTable(opened, circuits) {
   const rows = circuits.flatMap((circuit) =>
     circuit.modes.map((mode, at) =>
@@ -45,7 +51,7 @@ function figureTable(opened, circuits) {
         'tr',
         {},
         rowHead(circuit.name),
-        element('td', {}, `node ${circuit.source} to node ${circuit.destination}`),
+        element('td', {}, wayText(circuit)),
         element('td', { class: 'figure' }, `${circuit.flight} cycles`),
         element('td', {}, opened.modeNames[at]),
         element('td', {}, slotsText(mode.slots)),

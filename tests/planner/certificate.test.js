@@ -5,7 +5,7 @@ import { createHash } from 'node:crypto';
 import { existsSync, readFileSync } from 'node:fs';
 import { about, openProved } from '../../planner/command/proved.js';
 import { certificate, certificateFile, wordBytes } from '../../planner/lib/certificate.js';
-import { NOT_PROVED, STATEMENTS, STYLE } from '../../planner/lib/certificate_texts.js';
+import { LONG_LINKS_NOTE, NOT_PROVED, STATEMENTS, STYLE } from '../../planner/lib/certificate_texts.js';
 import { documentOfText, readFile } from '../../planner/lib/document.js';
 import { explain } from '../../planner/lib/explain.js';
 import { PREMISE } from '../../planner/lib/isolation.js';
@@ -49,6 +49,14 @@ test('a passing sheet: verdict, hashes, circuits, isolation, statements', () => 
   for (const part of wanted) assert.ok(text.includes(part), part);
   assert.ok(!/<script|style=| on\w+=|javascript:|https?:/i.test(text));
   assert.equal(text, fileOf('cable-car.csv'));
+});
+
+test('on a grid with long vertical links the vertical hops have a column, and what they cost is said', () => {
+  const text = fileOf('long.sheet');
+  const heads = '<th scope="col">hops</th><th scope="col">vertical</th><th scope="col">a word lands after</th>';
+  const row = '<td>circuit 1</td><td>0</td><td>3</td><td>2</td><td>1</td><td>10 cycles</td>';
+  for (const part of [heads, row, escaped(LONG_LINKS_NOTE), '<td>2 long</td>', '2 258 8 3 1\n']) assert.ok(text.includes(part), part);
+  assert.ok(!/<th scope="col">vertical</.test(fileOf('cable-car.csv')) && !fileOf('cable-car.csv').includes(escaped(LONG_LINKS_NOTE)));
 });
 
 test('a refused sheet gets a certificate of refusal, with its explanation and without claims of isolation', () => {

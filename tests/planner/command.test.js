@@ -85,6 +85,9 @@ test('modes: all circuits, one circuit, one that is not there, a refused sheet',
     ['normal', 'high wind', 'undisturbed'], ['normal', 'evacuation', 'undisturbed'], ['high wind', 'evacuation', 'undisturbed'],
   ]);
   assert.deepEqual([found.circuits.length, found.circuits[0].flight], [1, 6]);
+  gives(['modes', example('long.sheet'), 'circuit 1'], 0, /^circuit 1: node 0 to node 3, 2 hops \(1 vertical\); a word lands 10 cycles/);
+  const { circuits } = json(['modes', example('long.sheet')], 0);
+  assert.deepEqual(circuits.map(({ verticalHops, flight }) => [verticalHops, flight]), [[1, 7], [1, 10], [0, 6]]);
 });
 
 test('compare', () => {
@@ -100,6 +103,11 @@ test('compare', () => {
   const wide = written('wide.csv', 'network;3;2;8\nmode;m;9');
   gives(['compare', example('cable-car.csv'), wide], 1, 'Nothing can be said: the grids differ (2 by 2 and 3 by 2 nodes).\n');
   assert.equal(json(['compare', example('cable-car.csv'), wide], 1).answer, 'grids differ');
+  const long = written('long.csv', text('key.csv').replace('network;2;2;', 'network;2;2 long;'));
+  const kinds = 'the grids are of two kinds (the vertical links of the new sheet are long, those of the old sheet are not)';
+  gives(['compare', example('key.csv'), long], 1, `Nothing can be said: ${kinds}.\n`);
+  assert.equal(json(['compare', long, example('key.csv')], 1).answer, 'grids differ');
+  gives(['compare', long, long], 0, /^first\n {2}only: {2}undisturbed\n/);
   const swapped = text('cable-car.csv').replace('mode;normal;12\n', '').replace('mode;high wind;12\n', 'mode;high wind;12\nmode;normal;12\n');
   const order = gives(['compare', example('cable-car.csv'), written('swapped.csv', swapped)], 0, /./).stdout;
   assert.match(order.replace(/\n/g, ' '), /begin in different modes: the old sheet in normal, the new sheet in high wind/);

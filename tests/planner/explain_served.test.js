@@ -46,7 +46,8 @@ function hasRoom(words, number) {
     const schedules = sheet.schedules.map((one) => (one === schedule ? { ...one, entries } : one));
     return [0, UNSERVED].includes(verdict(write({ ...sheet, schedules })));
   };
-  const routes = shortestRoutes(words[0], words[1], source, destination).map(routeOfLetters);
+  // Without the 256 of long vertical links, which routes do not depend on.
+  const routes = shortestRoutes(words[0], words[1] % 256, source, destination).map(routeOfLetters);
   const offsets = (schedule) => Array.from({ length: schedule.period }, (_, offset) => offset);
   return sheet.schedules.some((schedule) => routes.some((route) => offsets(schedule).some((offset) => fits(schedule, offset, route))));
 }

@@ -40,7 +40,8 @@ export function holdHelp(document, found) {
     for (const { at, word } of change.put ?? []) {
       const cell = placeOfWord(document, at);
       const letters = lettersOfRoute(word);
-      const typed = [word, letters, `${word} (${letters})`];
+      const rows = at === 1 && document.kind === 'plan' && word > 256 ? `${word - 256} long` : word;
+      const typed = at === 1 ? [rows] : [word, letters, `${word} (${letters})`];
       assert.ok(typed.some((value) => new RegExp(`[Pp]ut ${value}`.replace(/[()]/g, '\\$&') + ` into ${cell}\\b`).test(text)), text);
     }
     for (const entry of change.add ?? []) assert.ok(text.startsWith(`Add ${addedText(document, entry)}`), text);

@@ -39,6 +39,12 @@ function routeCell(random, route) {
   return letters !== null && random.chance(0.7) ? anyCase(random, letters) : String(route);
 }
 
+// The rows of a grid; where vertical links are long, in words or with what is added for them.
+function rowsCell(random, { rows, long }) {
+  if (!long) return String(rows);
+  return random.choose([String(rows + 256), `${rows} ${anyCase(random, 'long')}`, `${rows}  long`, `${rows}long`]);
+}
+
 // The rows of the sheet itself: circuits and slots in any order, the modes in theirs.
 function sheetRows(random, parts, circuitNames, modeNames) {
   const circuits = parts.circuits.map(({ words }, number) => ['circuit', circuitNames[number], ...words.map(String)]);
@@ -48,7 +54,7 @@ function sheetRows(random, parts, circuitNames, modeNames) {
       ['slot', modeNames[mode], circuitNames[circuit], String(offset), String(length), routeCell(random, route)],
     ),
   );
-  const network = ['network', String(parts.columns), String(parts.rows), String(parts.memory)];
+  const network = ['network', String(parts.columns), rowsCell(random, parts), String(parts.memory)];
   const rows = [network, ...shuffled(random, circuits), ...modes, ...shuffled(random, slots)];
   return random.chance(0.3) ? [...shuffled(random, [...circuits, ...slots]), ...modes, network] : rows;
 }

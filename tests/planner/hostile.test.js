@@ -35,13 +35,19 @@ function read(text, name = 'a.csv') {
 const wanted = (text, name) => read(text, name).problems.map((problem) => `${problem.place}: ${problem.wanted}`);
 const places = (text) => read(text).problems.map((problem) => problem.place).join(' ');
 const NUMBER = 'a whole number from 0 to 4294967295';
+const LONG = 'with long behind it where vertical links are long';
 const END = 'nothing: a network row ends before this cell (a comment begins with #)';
 
 const HEAD = 'network;2;2;8\ncircuit;a;0;1;0;4;0;4\nmode;m;9\n';
 
 test('every kind of cell that cannot be read, each alone', () => {
   const cases = [
-    ['network;2;x;8\n', ['C1: rows: ' + NUMBER]],
+    ...['x', 'long', 'long 2', '2 longer', '-2 long', '2 2 long'].map((rows) => [`network;2;${rows};8\n`, [`C1: rows: ${NUMBER}, ${LONG}`]]),
+    ['network;2;=2;8\n', [`C1: rows: ${NUMBER}, ${LONG}; a formula is not worked out, write its value`]],
+    ['network;2;4294967040 long;8\n', ['C1: rows before long: a whole number from 0 to 4294967039']],
+    [`network;2;${'9'.repeat(30)} long;8\n`, ['C1: rows before long: a whole number from 0 to 4294967039']],
+    ['network;2 long;2;8\n', [`B1: columns: ${NUMBER}; long stands behind the rows, since vertical links alone can be long`]],
+    ['network;2;2;8 long\n', ['D1: memory: ' + NUMBER]],
     ['network;2;2\n', ['D1: memory: ' + NUMBER]],
     ['network;2;2;8;9;;7\n', ['E1: ' + END, 'G1: ' + END]],
     ['network;2;2;8\n\nnetwork;3;3;8\n', ['A3: one network row; row 1 is one already']],

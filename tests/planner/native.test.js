@@ -40,14 +40,17 @@ function* sheets(random) {
 test('20,000 verdicts, and where entries lie', () => {
   const random = seeded(1);
   const record = recordOf(calls);
-  const [numbers, found] = [counter(), counter()];
+  const [numbers, found, long] = [counter(), counter(), counter()];
   for (const words of sheets(random)) {
-    numbers.add(record.verdict(words));
+    const number = record.verdict(words);
+    numbers.add(number);
+    if (words[1] >= 256) long.add(number);
     if (random.chance(0.2)) found.add(record.entries(words, random.choose([0, 0, 1, 2, 7, 8, 0xffffffff])));
     if (numbers.sum() === VERDICTS) break;
   }
   assert.equal(record.difference(), null);
   for (const number of [0, ...SHEET_NUMBERS]) assert.ok(numbers.counts[number] >= 100, `number ${number}: ${numbers.counts[number]} sheets`);
+  for (const number of [0, 2, 9, 10, 11, 26]) assert.ok(long.counts[number] >= 50, `number ${number}: ${long.counts[number]} long grids`);
   for (const number of [0, 2, 7, 11, 15]) assert.ok(found.counts[number] > 0, `entries: number ${number}`);
   assert.equal(found.counts[26], 0, 'entries are handed back by 1 to 11 alone');
 });
@@ -55,7 +58,8 @@ test('20,000 verdicts, and where entries lie', () => {
 test('100,000 calls on sessions, with words of the state poked', () => {
   const random = seeded(2);
   const record = recordOf(calls);
-  const [numbers, seen] = [counter(), { landed: 0, switched: 0, crowded: 0, none: 0, underWay: 0, listedUnderWay: 0, listed: counter() }];
+  const numbers = counter();
+  const seen = { landed: 0, inRegisters: 0, switched: 0, crowded: 0, none: 0, underWay: 0, listedUnderWay: 0, listed: counter() };
   while (numbers.sum() < SESSION_CALLS) playSession(random, record, passes, numbers, seen);
   assert.equal(record.difference(), null);
   const { counts } = numbers;
@@ -66,6 +70,7 @@ test('100,000 calls on sessions, with words of the state poked', () => {
   assert.ok(seen.underWay >= 100, `${seen.underWay} starts got 17 by words under way`);
   assert.ok(seen.listedUnderWay >= 100, `${seen.listedUnderWay} transfers of lists got 17 by words under way`);
   assert.ok(seen.landed >= 1000, `${seen.landed} landings were seen`);
+  assert.ok(seen.inRegisters >= 1000, `${seen.inRegisters} words were seen in registers of long vertical links`);
   assert.ok(seen.switched >= 100, `${seen.switched} switches were seen`);
   assert.ok(seen.crowded >= 20, `${seen.crowded} sessions had 16 circuits or more`);
   assert.ok(seen.none >= 10, `${seen.none} sessions were loaded by no words`);
@@ -157,7 +162,7 @@ test('states that are too short, and longer ones', async () => {
   ];
   const record = recordOf(await callsOfLength());
   const published = calls.stateWords;
-  for (const length of [published, 0, 1, 1679, 1680, 1681, published - 1, published, published + 1, 16000]) {
+  for (const length of [published, 0, 1, 1839, 1840, 1841, published - 1, published, published + 1, 16000]) {
     record.lendState(length);
     for (const [name, ...words] of [['load', sheetA, new Array(32).fill(7)], ...list]) {
       const { number } = record.call(name, ...words);

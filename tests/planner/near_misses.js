@@ -1,6 +1,6 @@
 // Near misses: sheets that pass but for one fault of a given number, planted in known cells.
 import { LETTERS, routeOfLetters } from '../../planner/lib/route.js';
-import { copyOf, documentOf, inOrder, labelledWords, slotsInOrder, swap, wordsOfSheet } from './passing_sheets.js';
+import { copyOf, documentOf, inOrder, labelledWords, nodesOf, slotsInOrder, swap, wordsOfSheet } from './passing_sheets.js';
 
 const LARGEST = 4294967295;
 const RECORD = { source: 0, destination: 1, readOffset: 2, readLength: 3, receiveOffset: 4, receiveLength: 5 };
@@ -64,7 +64,7 @@ function someSlot(random, sheet) {
 
 function headSize(random, sheet) {
   const fields = random.chance(0.2) ? [0, 1, 2].filter(() => random.chance(0.6)) : [random.below(3)];
-  const values = [[0, 1, 5, 7, LARGEST], [0, 1, 5, 6, 100], [0, 16385, LARGEST]];
+  const values = [[0, 1, 5, 7, 258, 260, LARGEST], [0, 1, 5, 6, 100, 256, 257, 261, 512, 514], [0, 16385, LARGEST]];
   for (const field of fields) sheet.head[field] = random.choose(values[field]);
   return { cells: fields.map((field) => ({ of: sheet, field })) };
 }
@@ -126,7 +126,7 @@ const recordCell = (of, name) => ({ of, field: RECORD[name] });
 function outsideNode(random, sheet) {
   const circuit = random.choose(sheet.circuits);
   const name = random.choose(['source', 'destination']);
-  circuit.record[RECORD[name]] = sheet.head[0] * sheet.head[1] + random.choose([0, 1, 50, 4294967000]);
+  circuit.record[RECORD[name]] = nodesOf(sheet) + random.choose([0, 1, 50, 4294967000]);
   return { cells: [recordCell(circuit, name)] };
 }
 
@@ -248,7 +248,7 @@ const circuitCell = (of) => ({ of, field: RECORD.source, column: 1 });
 
 // A circuit without a slot, its regions behind all others in a memory that is made larger.
 export function addedCircuit(random, sheet) {
-  const nodes = sheet.head[0] * sheet.head[1];
+  const nodes = nodesOf(sheet);
   const [source, offset] = [random.below(nodes), sheet.head[2]];
   const length = random.between(1, 4);
   const destination = (source + random.between(1, nodes - 1)) % nodes;

@@ -4,8 +4,9 @@ import assert from 'node:assert/strict';
 import { readFileSync, readdirSync, rmSync } from 'node:fs';
 import { join } from 'node:path';
 import { browser, cell, drawn, example, isMarked, paste, rowsOf, says, select, textOf, type, upload, written } from './open_page.js';
-// The tests of the week need no browser of their own.
+// The tests of the week and of long vertical links need no browser of their own.
 import './page_week.js';
+import './page_long.js';
 
 const focusedId = async () => browser.property(await browser.focused(), 'id');
 // What the browser would print now.

@@ -4,10 +4,17 @@ import { lettersOfRoute, routeOfLetters, shortestRoutes } from '../../planner/li
 
 const ENTRY_FIELDS = ['offset', 'length', 'circuit', 'route'];
 
+const LONG = 256;
+
+// Columns and rows of a sheet; where vertical links are long, 256 is added to its word for the rows.
+export const gridOf = ({ head: [columns, rows] }) => [columns, rows >= LONG ? rows - LONG : rows];
+export const nodesOf = (sheet) => gridOf(sheet)[0] * gridOf(sheet)[1];
+
 // A sheet as objects: circuits with a record, modes with slots that point at their circuit. It passes by `verdict`.
 export function passingSheet(random, verdict) {
-  const sheet = { head: [random.between(2, 4), random.between(2, 4), 0], circuits: [], modes: [] };
-  const nodes = sheet.head[0] * sheet.head[1];
+  const rows = random.between(2, 4) + (random.chance(0.4) ? LONG : 0);
+  const sheet = { head: [random.between(2, 4), rows, 0], circuits: [], modes: [] };
+  const nodes = nodesOf(sheet);
   const used = new Array(nodes).fill(0);
   const count = random.between(3, 14);
   for (let number = 0; number < count; number++) {
@@ -35,7 +42,7 @@ function addSlots(random, verdict, sheet, mode) {
   for (const circuit of sheet.circuits) {
     const [source, destination] = circuit.record;
     for (let turn = random.between(1, 2); turn > 0; turn--) {
-      const route = routeOfLetters(random.choose(shortestRoutes(sheet.head[0], sheet.head[1], source, destination)));
+      const route = routeOfLetters(random.choose(shortestRoutes(...gridOf(sheet), source, destination)));
       const slot = { circuit, length: random.between(2, 6), route, offset: 0 };
       for (let tries = 0; tries < 8; tries++) {
         slot.offset = random.below(mode.period);
@@ -52,7 +59,7 @@ function addSlots(random, verdict, sheet, mode) {
 
 function firstRoute(sheet) {
   const [source, destination] = sheet.circuits[0].record;
-  return routeOfLetters(shortestRoutes(sheet.head[0], sheet.head[1], source, destination)[0]);
+  return routeOfLetters(shortestRoutes(...gridOf(sheet), source, destination)[0]);
 }
 
 export function copyOf(sheet) {
@@ -104,7 +111,8 @@ function tableOf(random, sheet, exam) {
     rows.push(cells.map(String));
   };
   rows.push(['# a plan']);
-  add(sheet, ['network', ...head]);
+  const [, rowsOfGrid] = gridOf(sheet);
+  add(sheet, ['network', head[0], head[1] >= LONG && random.chance(0.5) ? `${rowsOfGrid} long` : head[1], head[2]]);
   for (const circuit of circuits) add(circuit, ['circuit', circuit.name, ...circuit.record]);
   for (const mode of modes) add(mode.twin ?? mode, ['mode', mode.name, mode.period]);
   const slots = modes.flatMap((mode) => mode.slots.map((slot) => ({ mode, slot })));

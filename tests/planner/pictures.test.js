@@ -19,7 +19,7 @@ const calls = await openProved();
 
 test('any words give a picture, and soon', () => {
   const draw = random(6);
-  const odd = [0, 1, 2, 4, 5, 9, 16, 256, 1024, 1025, 65535, 65536, 4294967295];
+  const odd = [0, 1, 2, 4, 5, 9, 16, 256, 258, 261, 514, 1024, 1025, 65535, 65536, 4294967295];
   for (let sheet = 0; sheet < 150; sheet++) {
     const parts = gridOf(draw, draw.between(1, 5), true);
     parts.schedules = [anySchedule(draw, parts, draw.between(9, 40), draw.between(1, 5), false)];
@@ -111,20 +111,25 @@ test('hostile names are escaped in every picture', () => {
 
 test('a grid of frames: one size, each word and each landing told, a node and a cycle in words', () => {
   const draw = random(8);
-  for (const [columns, rows] of [[2, 2], [3, 2], [4, 4]]) {
-    const parts = { columns, rows, memory: 2048, circuits: circuitsOn(draw, columns, rows, 8, true), schedules: [] };
+  for (const [columns, rows, long] of [[2, 2, false], [3, 2, false], [4, 4, false], [2, 3, true], [3, 4, true]]) {
+    const parts = { columns, rows, long, memory: 2048, circuits: circuitsOn(draw, columns, rows, 8, true), schedules: [] };
     parts.schedules = [passingSchedule(draw, calls, parts, 20, 20)];
     const document = documentOf(wordsOf(served(parts)), (number) => `c${number}`, () => 'only');
     const frames = sendingFrames(calls, document.words, 45);
     const sizes = new Set();
+    assert.equal(frames.some(({ registers }) => registers.length > 0), long);
     for (const frame of frames) {
       const root = checkedPicture(svgFile(gridPicture(document, frame, { background: true })));
       sizes.add(root.attributes.viewBox);
-      assert.equal(toldParts(root).length, frame.wires.length + frame.landings.length);
+      assert.equal(toldParts(root).length, frame.wires.length + frame.registers.length + frame.landings.length);
       assert.equal(textIn(root.children[0]), `cycle ${frame.cycle} (cycle ${frame.cycleInPeriod} of period ${frame.period}, mode only)`);
       const texts = toldParts(root).map((part) => part.attributes['aria-label']);
       for (const { node, wire, word } of frame.wires) {
         const begin = `${wireName(columns, rows, node, wire)}: `;
+        assert.ok(texts.some((text) => text.startsWith(begin) && / of c\d/.test(text) && text.includes(`word ${word}`)), begin);
+      }
+      for (const { node, wire, word } of frame.registers) {
+        const begin = `${wireName(columns, rows, node, wire)}, in its register: `;
         assert.ok(texts.some((text) => text.startsWith(begin) && / of c\d/.test(text) && text.includes(`word ${word}`)), begin);
       }
       for (const { node, address, word } of frame.landings) {
@@ -135,8 +140,19 @@ test('a grid of frames: one size, each word and each landing told, a node and a 
     const alone = everyItem(checkedPicture(svgFile(gridPicture(document, null))));
     const stubs = alone.filter((item) => item.name === 'text' && /^to node \d+$/.test(textIn(item)));
     assert.equal(stubs.length, 2 * (columns + rows), 'each link that wraps round says where it leads');
+    holdRegisters(alone, columns, rows, long);
   }
 });
+
+// Each vertical link of a grid whose vertical links are long has a register, told by its title; a legend says what it is.
+function holdRegisters(items, columns, rows, long) {
+  const titles = items.filter((item) => item.name === 'title').map(textIn).filter((title) => title.startsWith('register of the link '));
+  const nodes = Array.from({ length: columns * rows }, (_, node) => node);
+  const wanted = nodes.flatMap((node) => [0, 2].map((side) => `register of the link from ${wireName(columns, rows, node, side)}`));
+  assert.deepEqual(titles.sort(), long ? wanted.sort() : []);
+  const texts = items.filter((item) => item.name === 'text').map(textIn);
+  assert.equal(texts.includes('register of a long vertical link: one cycle more'), long);
+}
 
 test('an animation shows each frame in its turn, and no more than it may', () => {
   const document = documentOfText('key.csv', 'network;2;2;8\ncircuit;first;0;1;0;4;0;4\nmode;only;9\nslot;only;first;0;3;E\n');

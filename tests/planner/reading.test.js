@@ -137,6 +137,7 @@ function wordOfCell(document, parts, at) {
   if (keyword === 'mode' && column === 0) return parts.schedules.find((schedule) => schedule.at + 1 === at).entries.length;
   if (keyword === 'slot' && column === 2) return document.circuitNames.indexOf(nameOf(text));
   if (keyword === 'slot' && column === 5 && /^[a-z]/i.test(text)) return routeOfText(text);
+  if (keyword === 'network' && column === 2 && /long$/i.test(text)) return 256 + Number(text.slice(0, -4));
   return Number(text);
 }
 

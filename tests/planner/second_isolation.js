@@ -1,8 +1,10 @@
-// A table of isolation for circuit sheets, from 01-scope.md alone ('The sheet', 'The lists of
-// demand 3'). Every sheet handed in is taken to pass rules 1 to 11; they are not tested here.
+// A table of isolation for circuit sheets, from 01-scope.md ('The sheet', 'The lists of demand 3')
+// and 02-change-requests.md (L7, the kinds of grid) alone. Every sheet handed in is taken to pass
+// rules 1 to 11; they are not tested here.
 
 const HEAD_WORDS = 5;
 const RECORD_WORDS = 6;
+const LONG_MARK = 256; // added to the rows of a grid with long vertical links
 
 // Walks over the words from the front, as the paper lays them out.
 function readSheet(words) {
@@ -13,7 +15,9 @@ function readSheet(words) {
   };
   const nextFew = (count) => Array.from({ length: count }, next);
 
-  const [columns, rows, memoryWords, circuitCount, scheduleCount] = nextFew(HEAD_WORDS);
+  const [columns, rowsWord, memoryWords, circuitCount, scheduleCount] = nextFew(HEAD_WORDS);
+  const kind = rowsWord > LONG_MARK ? 'long' : 'short';
+  const rows = kind === 'long' ? rowsWord - LONG_MARK : rowsWord;
 
   // A record: source, destination, read offset, read length, receive offset, receive length.
   const circuits = [];
@@ -31,7 +35,7 @@ function readSheet(words) {
     schedules.push({ period, entries });
   }
   if (place !== words.length) throw new RangeError('the sheet has words left over');
-  return { columns, rows, memoryWords, circuits, schedules };
+  return { columns, rows, kind, memoryWords, circuits, schedules };
 }
 
 // The circuit's slots in a schedule: offset and length of each of its entries, without the route.
@@ -89,7 +93,7 @@ function pick(list, number, what) {
 export function comparisonTable(oldWords, newWords, pairs, schedulePairs) {
   const old = readSheet(oldWords);
   const fresh = readSheet(newWords);
-  const sameGrid = old.columns === fresh.columns && old.rows === fresh.rows;
+  const sameGrid = old.columns === fresh.columns && old.rows === fresh.rows && old.kind === fresh.kind;
   const table = [];
   for (const [c, d] of pairs) {
     const record = pick(old.circuits, c, 'circuit in the old sheet');
@@ -116,31 +120,34 @@ function neighbours(node, columns, rows) {
   return [at(row - 1, column), at(row, column + 1), at(row + 1, column), at(row, column - 1)];
 }
 
-// Fewest steps from source to destination, by a breadth-first search.
-function distance(source, destination, columns, rows) {
-  const steps = new Map([[source, 0]]);
+// Fewest steps from source to destination, and how many of them are vertical, by a breadth-first
+// search. All shortest ways have as many vertical steps: each step changes the row or the column.
+function shortestWay(source, destination, columns, rows) {
+  const ways = new Map([[source, { hops: 0, vertical: 0 }]]);
   const queue = [source];
   for (const node of queue) { // the queue grows as it is walked
-    if (node === destination) return steps.get(node);
-    for (const neighbour of neighbours(node, columns, rows)) {
-      if (steps.has(neighbour)) continue;
-      steps.set(neighbour, steps.get(node) + 1);
+    const { hops, vertical } = ways.get(node);
+    if (node === destination) return { hops, vertical };
+    neighbours(node, columns, rows).forEach((neighbour, side) => {
+      if (ways.has(neighbour)) return;
+      ways.set(neighbour, { hops: hops + 1, vertical: vertical + (side === 0 || side === 2 ? 1 : 0) });
       queue.push(neighbour);
-    }
+    });
   }
   throw new RangeError(`node ${destination} is outside the grid`);
 }
 
 export function figures(words) {
-  const { columns, rows, circuits, schedules } = readSheet(words);
+  const { columns, rows, kind, circuits, schedules } = readSheet(words);
   return circuits.flatMap(([source, destination], c) => {
-    const hops = distance(source, destination, columns, rows);
-    const flight = 3 * (hops + 1); // left in cycle t, landed in t + 3 × (hops + 1)
+    const { hops, vertical } = shortestWay(source, destination, columns, rows);
+    const v = kind === 'long' ? vertical : 0;
+    const flight = 3 * (hops + 1) + v; // left in cycle t, landed in t + 3 × (hops + 1) + v
     return schedules.map((schedule, j) => {
       // One word of each slot is its header. Slots of a circuit share the source's wire, so they
       // do not overlap (rule 11), and by rule 10 their last word leaves before the period ends.
       const wordsAPeriod = slotsOf(schedule, c).reduce((sum, [, length]) => sum + length - 1, 0);
-      return { circuit: c, schedule: j, hops, flight, wordsAPeriod, period: schedule.period };
+      return { circuit: c, schedule: j, hops, verticalHops: v, flight, wordsAPeriod, period: schedule.period };
     });
   });
 }

@@ -1,4 +1,4 @@
-// The isolation table, the comparison and the figures against a second table that was written from document 01 alone.
+// The isolation table, the comparison and the figures against a second table that was written from the documents alone.
 import test from 'node:test';
 import assert from 'node:assert/strict';
 import { openProved } from '../../planner/command/proved.js';
@@ -60,7 +60,7 @@ function changedSheet(seeded, parts) {
 
 // The rows of parts as a plan, the circuits named by what they were.
 function planOf(parts, names) {
-  const rows = [['network', parts.columns, parts.rows, parts.memory]];
+  const rows = [['network', parts.columns, parts.long ? `${parts.rows} long` : parts.rows, parts.memory]];
   parts.circuits.forEach(({ words }, number) => rows.push(['circuit', names[number], ...words]));
   parts.schedules.forEach(({ period, entries }, mode) => {
     rows.push(['mode', `m${mode}`, period]);
@@ -71,6 +71,7 @@ function planOf(parts, names) {
 
 test('pairs of modes and figures of 600 sheets', () => {
   const seeded = random(41);
+  const kinds = { 0: 0, 1: 0, 2: 0 };
   const seen = { undisturbed: 0, silent: 0, differs: 0 };
   for (let sheet = 0; sheet < 600; sheet++) {
     const words = wordsOf(withLikeModes(seeded));
@@ -78,11 +79,13 @@ test('pairs of modes and figures of 600 sheets', () => {
     const ours = modePairs(document).map(({ circuit, first, second, answer }) => ({ circuit, first, second, answer }));
     assert.deepEqual(ours, isolationTable(words));
     for (const { answer } of ours) seen[answer]++;
-    const flat = circuitsOf(document).flatMap(({ number, hops, flight, modes }) =>
-      modes.map(({ mode, wordsAPeriod, period }) => ({ circuit: number, schedule: mode, hops, flight, wordsAPeriod, period })),
+    const flat = circuitsOf(document).flatMap(({ number, hops, verticalHops, flight, modes }) =>
+      modes.map(({ mode, wordsAPeriod, period }) => ({ circuit: number, schedule: mode, hops, verticalHops, flight, wordsAPeriod, period })),
     );
     assert.deepEqual(flat, figures(words));
+    for (const { verticalHops } of flat) kinds[verticalHops]++;
   }
+  for (const [hops, count] of Object.entries(kinds)) assert.ok(count > 200, `${hops} vertical hops are met ${count} times`);
   for (const [answer, count] of Object.entries(seen)) assert.ok(count > 200, `${answer} is met ${count} times`);
 });
 
@@ -142,10 +145,21 @@ test('comparisons of 600 pairs of sheets, by name and by record', () => {
   for (const [answer, count] of Object.entries(seen)) assert.ok(count > 200, `${answer} is met ${count} times`);
 });
 
-test('grids that differ', () => {
-  const first = [2, 3, 8, 0, 1, 9, 0];
-  const second = [3, 2, 8, 0, 1, 9, 0];
-  const ours = compareDocuments(documentOfWords('a.sheet', first.join(' ')), documentOfWords('b.sheet', second.join(' ')));
-  assert.equal(ours.comparable, false);
-  assert.match(ours.reason, /grids differ/);
+test('grids that differ, in size or in kind', () => {
+  const circuit = [0, 1, 0, 1, 0, 1];
+  const sheet = (columns, rows) => [columns, rows, 8, 1, 1, ...circuit, 9, 1, 0, 2, 0, 13];
+  const sizes = [[[2, 3], [3, 2]], [[2, 258], [2, 3]]].map((pair) => [...pair, /grids differ/]);
+  const kinds = [[[2, 3], [2, 259]], [[2, 258], [2, 2]]].map((pair) => [...pair, /two kinds/]);
+  for (const [one, other, reason] of [...sizes, ...kinds]) {
+    const [first, second] = [sheet(...one), sheet(...other)];
+    const ours = compareDocuments(documentOfWords('a.sheet', first.join(' ')), documentOfWords('b.sheet', second.join(' ')));
+    assert.deepEqual([ours.comparable, ours.circuits], [false, []]);
+    assert.match(ours.reason, reason);
+    assert.deepEqual(comparisonTable(first, second, [[0, 0]], [[0, 0]]).map(({ answer }) => answer), ['grids differ']);
+  }
+  for (const grid of [[2, 2], [2, 258]]) {
+    const [document, words] = [documentOfWords('a.sheet', sheet(...grid).join(' ')), sheet(...grid)];
+    assert.equal(compareDocuments(document, document).comparable, true);
+    assert.deepEqual(comparisonTable(words, words, [[0, 0]], [[0, 0]]).map(({ answer }) => answer), ['undisturbed']);
+  }
 });

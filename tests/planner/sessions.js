@@ -4,12 +4,17 @@ import { nearMiss, sheetParts } from './sheets.js';
 
 const STRANGE = [64, 65, 0x7fffffff, 0x80000000, 0xffffffff];
 const ROW_WORDS = 80;
-const SHEET_PLACE = 1680;
+const SHEET_PLACE = 1840;
 const LANDING_MARK_ROW = 12;
+const EXTRA_MARK_ROW = 21;
 const LEFT_ROW = 16;
 const BUSY = 17;
 // The rows that hold marks, choices or kinds (docs/STATE.md); the others hold words, addresses and counts.
-const SMALL_ROWS = new Set([1, 3, 5, 6, 7, 9, 10, 12, 13, 19, 20]);
+const SMALL_ROWS = new Set([1, 3, 5, 6, 7, 9, 10, 12, 13, 19, 20, EXTRA_MARK_ROW]);
+const LAST_ROW = 22;
+// Rows with a place for each input or output, and those with a place for each node; the others have one for each circuit.
+const ofPorts = (row) => row < 9 || row > 20;
+const ofNodes = (row) => row >= 9 && row < 16;
 
 // A number below a limit, or now and then one that is not.
 const near = (random, limit) => (random.chance(0.9) && limit > 0 ? random.below(limit) : random.choose([limit, limit + 1, ...STRANGE]));
@@ -69,8 +74,9 @@ function pokeOf(random, { parts, words }) {
   const kind = random.below(10);
   if (kind === 0) return [random.below(6), random.choose([0, 1, 2, 3, random.below(30), 0xfffffffd, 0xffffffff])];
   if (kind === 1) return [SHEET_PLACE + random.below(words.length + 3), random.choose([random.below(20), random.word()])];
-  const row = random.between(1, 20);
-  const place = random.below(row < 9 ? 5 * parts.columns * parts.rows : row < 16 ? parts.columns * parts.rows : parts.circuits.length + 1);
+  const row = random.between(1, LAST_ROW);
+  const nodes = parts.columns * parts.rows;
+  const place = random.below(ofPorts(row) ? 5 * nodes : ofNodes(row) ? nodes : parts.circuits.length + 1);
   const header = random.choose([0, 2, 2, 1, 3]) * 0x40000000 + random.below(40) * 65536 + random.below(1024);
   const word = SMALL_ROWS.has(row) ? random.below(5) : random.choose([random.below(parts.memory), header, random.word()]);
   return [row * ROW_WORDS + place, word];
@@ -122,7 +128,8 @@ function countUnderWay(session, [name, ...list], answer, seen) {
   if (answer.number === 0) seen.listedUnderWay += circuits.filter((circuit, at) => isUnderWay(circuit, answer.answers[at])).length;
 }
 
-// Makes a call and counts it by its number. A switch is counted; where a word landed, every field of it is asked for.
+// Makes a call and counts it by its number. A switch and words in registers of long vertical links are counted; where a word landed, every
+// field of it is asked for.
 function maker(session, numbers, seen) {
   return function make([name, ...list]) {
     const before = session.register(0, 2);
@@ -133,6 +140,7 @@ function maker(session, numbers, seen) {
     if (name !== 'cycle' || answer.number !== 0) return answer;
     if (session.register(0, 2) !== before) seen.switched++;
     for (let node = 0; node < session.nodes; node++) {
+      if (session.parts.long) for (const side of [0, 2]) if (session.register(EXTRA_MARK_ROW, 5 * node + side) !== 0) seen.inRegisters++;
       if (session.register(LANDING_MARK_ROW, node) === 0) continue;
       seen.landed++;
       for (let field = 0; field <= 4; field++) make(['landedField', node, field]);

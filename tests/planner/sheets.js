@@ -3,6 +3,14 @@ import { routeOfLetters, shortestRoutes } from '../../planner/lib/route.js';
 import { compareCircuits, partsOf, wordsOf } from '../../planner/lib/sheet.js';
 
 const LARGE = [0x7fffffff, 0x80000000, 0xfffffffe, 0xffffffff];
+// What is added to the rows where vertical links are long.
+const LONG = 256;
+
+// The last offset that number 10 lets a slot have: each hop takes three cycles, and one north or south a fourth where links there are long.
+export function lastOffset({ long }, period, length, letters) {
+  const vertical = long ? letters.replace(/[EW]/g, '').length : 0;
+  return Math.min(period - 1, period + 2 - (length - 1) - 3 * letters.length - vertical);
+}
 
 // A place for a region at a node, behind those that lie there already; null where there is no room.
 function region(random, free, node, memory, most) {
@@ -51,7 +59,7 @@ function withSlot(random, parts, passes, schedule, { number, words }, longest) {
   const { period } = schedule;
   const letters = random.choose(shortestRoutes(parts.columns, parts.rows, words[0], words[1]));
   const length = random.between(2, longest);
-  const last = Math.min(period - 1, period + 2 - (length - 1) - 3 * letters.length);
+  const last = lastOffset(parts, period, length, letters);
   if (last < 0) return schedule;
   const offset = random.chance(0.2) ? last : random.between(0, last);
   const entries = [...schedule.entries, { words: [offset, length, number, routeOfLetters(letters)] }].sort(byOffset);
@@ -86,8 +94,8 @@ function withAllServed(random, parts, passes) {
 // left out.
 export function sheetParts(random, passes, most = {}) {
   const { circuits = 6, modes = 3, slots = 6, period = 30, memory = 32, length = 6, region: words = 6 } = most;
-  const [columns, rows] = [random.between(2, 4), random.between(2, 4)];
-  const parts = { columns, rows, memory: random.between(Math.min(8, memory), memory), schedules: [] };
+  const grid = { columns: random.between(2, 4), rows: random.between(2, 4), long: random.chance(0.4) };
+  const parts = { ...grid, memory: random.between(Math.min(8, memory), memory), schedules: [] };
   parts.circuits = circuitsOf(random, parts, random.below(circuits + 1), words);
   const count = random.between(1, modes);
   for (let mode = 0; mode < count; mode++) {
@@ -100,7 +108,7 @@ export function sheetParts(random, passes, most = {}) {
 
 // The words of a sheet that is as large as sheets can be; among 2,048 slots every circuit has some.
 export function largestSheet(random, passes) {
-  const parts = { columns: 4, rows: 4, memory: 16384, schedules: [] };
+  const parts = { columns: 4, rows: 4, long: random.chance(0.5), memory: 16384, schedules: [] };
   parts.circuits = circuitsOf(random, parts, 64, 100);
   for (let mode = 0; mode < 8; mode++) {
     const schedule = { period: 1024, entries: [] };
@@ -120,7 +128,7 @@ function withOneMore(random, parts, passes, { period, entries }) {
 
 // A word near to another, or at a limit, or anything.
 function otherWord(random, word) {
-  const small = [0, 1, 2, 3, 4, 5, 8, 9, 15, 16, 17, 64, 65, 256, 257, 1024, 1025, 16384, 16385, 65535, 65536];
+  const small = [0, 1, 2, 3, 4, 5, 8, 9, 15, 16, 17, 64, 65, 256, 257, 258, 260, 261, 514, 1024, 1025, 16384, 16385, 65535, 65536];
   return random.choose([word + 1, word - 1, random.choose(small), random.choose(LARGE), random.below(40), random.word()]) >>> 0;
 }
 
@@ -149,6 +157,9 @@ function anyEntry(random, parts) {
 const EDITS = [
   (random, words) => words.slice(0, random.below(5)),
   (random, words) => set(words, random.below(5), otherWord(random, words[random.below(5)])),
+  // The same rows with vertical links of the other kind, and 256 where it does not belong.
+  (random, words) => set(words, 1, words[1] < LONG ? words[1] + LONG : words[1] - LONG),
+  (random, words) => set(words, random.below(2), random.choose([words[0] + LONG, words[1] + LONG, LONG, LONG + 1, LONG + 5, 2 * LONG])),
   (random, words) => words.slice(0, words.length - random.between(1, 4)),
   (random, words) => [...words, random.below(3)],
   (random, words, parts) => {
@@ -201,8 +212,8 @@ const EDITS = [
     const entry = entries[entries.length - 1];
     if (!entry) return undefined;
     const [source, destination] = parts.circuits[entry.words[2]].words;
-    const hops = shortestRoutes(parts.columns, parts.rows, source, destination)[0].length;
-    return set(words, entry.at, period + 2 - (entry.words[1] - 1) - 3 * hops + random.below(2));
+    const [letters] = shortestRoutes(parts.columns, parts.rows, source, destination);
+    return set(words, entry.at, lastOffset(parts, period, entry.words[1], letters) + random.below(2));
   },
   // An entry at another offset, or longer, with the order kept.
   (random, words, parts) => {
@@ -235,5 +246,6 @@ export function randomWords(random) {
   const length = random.below(random.chance(0.1) ? 400 : 40);
   const words = Array.from({ length }, () => (random.chance(0.8) ? random.below(20) : random.word()));
   if (random.chance(0.3)) return words;
-  return [random.between(2, 4), random.between(2, 4), random.between(1, 64), random.below(4), random.between(1, 2), ...words.slice(5)];
+  const rows = random.between(2, 4) + (random.chance(0.4) ? LONG : 0);
+  return [random.between(2, 4), rows, random.between(1, 64), random.below(4), random.between(1, 2), ...words.slice(5)];
 }

@@ -3,7 +3,7 @@ import assert from 'node:assert/strict';
 import { routeOfLetters, shortestRoutes } from '../../planner/lib/route.js';
 import { openRun } from '../../planner/lib/run.js';
 import { wordsOf } from '../../planner/lib/sheet.js';
-import { served } from './sheets.js';
+import { lastOffset, served } from './sheets.js';
 
 const MEMORY = 2048;
 // As many words as a source can send in three periods of 30 cycles.
@@ -29,14 +29,15 @@ export function circuitsOn(random, columns, rows, count, full) {
 
 export function gridOf(random, count, full) {
   const [columns, rows] = [random.between(2, 4), random.between(2, 4)];
-  return { columns, rows, memory: MEMORY, circuits: circuitsOn(random, columns, rows, count, full), schedules: [] };
+  const grid = { columns, rows, long: random.chance(0.5), memory: MEMORY };
+  return { ...grid, circuits: circuitsOn(random, columns, rows, count, full), schedules: [] };
 }
 
 // An entry of a circuit by some shortest route; `late` allows offsets that number 10 does not.
 function entryOf(random, parts, period, late) {
   const { number, length, words } = random.choose(parts.circuits);
   const letters = random.choose(shortestRoutes(parts.columns, parts.rows, words[0], words[1]));
-  const last = late ? period - 1 : Math.min(period - 1, period + 3 - length - 3 * letters.length);
+  const last = late ? period - 1 : lastOffset(parts, period, length, letters);
   return last < 0 ? null : { words: [random.between(0, last), length, number, routeOfLetters(letters)] };
 }
 

@@ -24,12 +24,12 @@ function sentWords(parts, period) {
     let [left, free] = [0, 0];
     const own = packetsOf(parts, 0).filter((packet) => packet.circuit === number).sort((a, b) => a.offset - b.offset);
     for (let turn = 0; turn < PERIODS; turn++) {
-      for (const { entry, offset, length, hops } of own) {
+      for (const { entry, offset, length, hops, verticalHops } of own) {
         const begin = turn * period + offset;
         if (left === 0 && begin >= free) left = Math.min(readLength, receiveLength);
         const words = Math.min(length - 1, left);
         left -= words;
-        if (words > 0 && left === 0) free = begin + words + 3 * (hops + 1) + 1;
+        if (words > 0 && left === 0) free = begin + words + 3 * (hops + 1) + verticalHops + 1;
         sent.set(`${turn}.${entry}`, words);
       }
     }
@@ -58,17 +58,28 @@ function reckoned(parts, period, sent) {
 }
 
 const circuitOfPayload = (word) => Math.floor(word / 100) - 1;
+const isVertical = (wire) => wire === 0 || wire === 2;
+
+// The registers of long vertical links have what was on their wires in the cycle before; other grids have none.
+function holdRegisters(long, before, frame) {
+  const wires = long && before ? before.wires.filter(({ wire }) => isVertical(wire)) : [];
+  assert.deepEqual(frame.registers, wires, `cycle ${frame.cycle}`);
+  return wires.length;
+}
 
 // Holds a run of a mode in which every circuit sends to what is reckoned, wire by wire and landing by landing: how many cells were compared,
-// and how many slots were full, shorter and empty.
+// how many words were in registers, and how many slots were full, shorter and empty.
 function heldRun(whole, mode) {
   const parts = partsOf(sheetOfMode(whole, mode));
   const { period } = parts.schedules[0];
   const sent = sentWords(parts, period);
   const cells = reckoned(parts, period, sent);
   const [found, landed] = [new Map(), new Set()];
+  let [before, registers] = [null, 0];
   for (const frame of sendingFrames(calls, sheetBeginningIn(whole, mode), PERIODS * period)) {
     assert.equal(frame.mode, 0);
+    registers += holdRegisters(parts.long, before, frame);
+    before = frame;
     for (const { node, wire, mark, word } of frame.wires) {
       const key = `cycle ${frame.cycle}, node ${node}, wire ${wire}`;
       const cell = cells.get(key);
@@ -81,7 +92,7 @@ function heldRun(whole, mode) {
   assert.deepEqual([...found].sort(byKey), [...cells].sort(byKey));
   const landing = [...cells.keys()].filter((key) => key.endsWith(`wire ${MEMORY_WIRE}`) && cells.get(key).mark !== 1);
   assert.deepEqual([...landed].sort(), landing.sort());
-  return { cells: cells.size, ...slotCounts(parts, sent) };
+  return { cells: cells.size, registers, ...slotCounts(parts, sent) };
 }
 
 // How many slots of a run are full, shorter and empty.
@@ -98,7 +109,7 @@ function slotCounts(parts, sent) {
 
 test('full slots: a run shows on the wires exactly what is reckoned, and lands it', () => {
   const draw = random(1);
-  let [seen, silent] = [0, 0];
+  let [seen, inRegisters, silent] = [0, 0, 0];
   for (let sheet = 0; sheet < 300; sheet++) {
     const parts = gridOf(draw, draw.between(1, 8), true);
     const modes = draw.between(1, 3);
@@ -106,11 +117,13 @@ test('full slots: a run shows on the wires exactly what is reckoned, and lands i
     const mode = draw.below(modes);
     const whole = wordsOf(served(parts));
     if (calls.verdict(sheetOfMode(whole, mode)) === 26) silent++;
-    const { cells, shorter, empty } = heldRun(whole, mode);
+    const { cells, registers, shorter, empty } = heldRun(whole, mode);
     assert.deepEqual([shorter, empty], [0, 0], 'the regions hold all words of the run');
     seen += cells;
+    inRegisters += registers;
   }
   assert.ok(seen > 50000, `only ${seen} cells were compared`);
+  assert.ok(inRegisters > 5000, `only ${inRegisters} words were seen in registers`);
   assert.ok(silent > 50, `only ${silent} modes have no slot for some circuit, and would not be loaded alone`);
 });
 
@@ -147,27 +160,30 @@ test('two packets share a wire in a cycle exactly where the verdict is 11, and t
   assert.ok(count[0] > 200 && count[11] > 200, JSON.stringify(count));
 });
 
-test('a packet is on a link behind cycle P + 2 exactly where the verdict is 10, and the picture marks it', () => {
+test('a packet is on a link, or in its register, behind cycle P + 2 exactly where the verdict is 10, and the picture marks it', () => {
   const draw = random(4);
-  const count = { early: 0, late: 0 };
+  const count = { early: 0, late: 0, lateInRegister: 0 };
   for (let sheet = 0; sheet < 1500; sheet++) {
     const parts = gridOf(draw, draw.between(1, 6), true);
     parts.schedules = [anySchedule(draw, parts, draw.between(9, 40), draw.between(1, 3), true)];
     const words = wordsOf(parts);
     const { period } = parts.schedules[0];
-    const links = packetsOf(parts, 0).flatMap((packet) => packet.wires.filter((use) => use.wire < MEMORY_WIRE));
-    const late = links.some((use) => use.to > period + 2);
+    const lastOn = ({ wire, to }) => to + (parts.long && isVertical(wire) ? 1 : 0);
+    const linksOf = (packet) => packet.wires.filter((use) => use.wire < MEMORY_WIRE);
+    const links = packetsOf(parts, 0).flatMap(linksOf);
+    const late = links.some((use) => lastOn(use) > period + 2);
     for (const packet of packetsOf(parts, 0)) {
-      const end = packet.offset + packet.length - 1 + 3 * packet.hops;
-      assert.equal(Math.max(...packet.wires.filter((use) => use.wire < MEMORY_WIRE).map((use) => use.to)), end);
+      const end = packet.offset + packet.length - 1 + 3 * packet.hops + packet.verticalHops;
+      assert.equal(Math.max(...linksOf(packet).map(lastOn)), end);
     }
     assert.equal(calls.verdict(words) === 10, late);
     count[late ? 'late' : 'early']++;
+    if (late && !links.some((use) => use.to > period + 2)) count.lateInRegister++;
     if (sheet % 10 > 0) continue;
     const told = toldParts(checkedPicture(svgFile(slotsPicture(documentOf(words, String, String), 0))));
     assert.equal(late, told.some((part) => part.attributes['aria-label'].startsWith('Late: ')));
   }
-  assert.ok(count.early > 200 && count.late > 200, JSON.stringify(count));
+  assert.ok(count.early > 200 && count.late > 200 && count.lateInRegister > 20, JSON.stringify(count));
 });
 
 // A run through all modes of a sheet, each for three periods.

@@ -96,11 +96,16 @@ test(`${PLANS} plans: the cycle that is said to be the earliest is, and nothing 
   for (const [what, plans] of Object.entries(seen)) assert.ok(plans >= 20, `${what}: ${plans} plans`);
 });
 
-test('the longest flight, over four hops, is told from its first cycle on', () => {
-  const rows = ['network;4;4;8', 'circuit;far;0;10;0;1;0;1', 'mode;only;20', 'slot;only;far;0;2;EESS'];
-  const document = documentOfText('far.csv', [...rows, 'at;0;start;far;0;0;1;data', 'at;2;start;far;0;0;1;data'].join('\n'));
-  const { refused } = landingsOf(calls, document, 20);
-  assert.match(callLine(document, refused, calls), /1 word of it has not landed; it lands in cycle 16, .* for this start is 17\.$/);
+test('the longest flights, over four hops, are told from their first cycle on', () => {
+  for (const [grid, landing] of [['4', 16], ['4 long', 18]]) {
+    const rows = [`network;4;${grid};8`, 'circuit;far;0;10;0;1;0;1', 'mode;only;20', 'slot;only;far;0;2;EESS'];
+    const plan = (cycle) => documentOfText('far.csv', [...rows, 'at;0;start;far;0;0;1;data', `at;${cycle};start;far;0;0;1;data`].join('\n'));
+    const { refused } = landingsOf(calls, plan(2), 20);
+    const said = new RegExp(`1 word of it has not landed; it lands in cycle ${landing}, .* for this start is ${landing + 1}\\.$`);
+    assert.match(callLine(plan(2), refused, calls), said);
+    assert.equal(landingsOf(calls, plan(landing), 30).refused.number, 17);
+    assert.deepEqual(cyclesOf(landingsOf(calls, plan(landing + 1), 40)), [landing, landing + 20].map((cycle) => `${cycle}:0`));
+  }
 });
 
 test('where the calls tell no cycle, none is said', () => {

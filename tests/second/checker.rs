@@ -1,6 +1,6 @@
-//! A second checker of circuit sheets, coded from document 01 alone. One function a
-//! number and no speed sought: it has to be seen to be right. All sums are of 64 bits,
-//! so none of them wraps.
+//! A second checker of circuit sheets, coded from document 01 and the requests of document 02 alone. One
+//! function a number and no speed sought: it has to be seen to be right. All sums are of 64 bits, so none of
+//! them wraps.
 
 use std::collections::{HashSet, VecDeque};
 
@@ -28,6 +28,8 @@ pub struct Schedule {
 pub struct Sheet {
     pub columns: u64,
     pub rows: u64,
+    /// Whether a vertical hop takes a cycle more (document 02, L7).
+    pub long_links: bool,
     pub memory_words: u64,
     pub circuits: Vec<Circuit>,
     pub schedules: Vec<Schedule>,
@@ -59,6 +61,18 @@ pub fn meant(words: &[u32]) -> &[u32] {
         &IDLE_NETWORK
     } else {
         words
+    }
+}
+
+/// What the second head word carries besides the rows where vertical links are long (document 02, L7).
+const LONG_LINKS: u64 = 256;
+
+/// The rows that the second head word states, and whether vertical links are long.
+fn rows_stated(word: u64) -> (u64, bool) {
+    if word >= LONG_LINKS {
+        (word - LONG_LINKS, true)
+    } else {
+        (word, false)
     }
 }
 
@@ -146,6 +160,7 @@ fn rule1(words: &[u32]) -> bool {
 fn rule2(words: &[u32]) -> bool {
     let [columns, rows, memory_words, circuits, schedules] =
         [words[0], words[1], words[2], words[3], words[4]];
+    let (rows, _) = rows_stated(u64::from(rows));
     !(2..=4).contains(&columns)
         || !(2..=4).contains(&rows)
         || !(1..=16_384).contains(&memory_words)
@@ -246,7 +261,8 @@ fn rule10(sheet: &Sheet) -> bool {
             let source = sheet.circuits[entry.circuit as usize].source;
             let path = walk(sheet, source, entry.route).expect("number 9 does not apply");
             let hops = path.side_outputs.len() as u64;
-            entry.offset + entry.length - 1 + 3 * hops > schedule.period + 2
+            let vertical_hops = extra_cycles(sheet, &path.side_outputs);
+            entry.offset + entry.length - 1 + 3 * hops + vertical_hops > schedule.period + 2
         })
     })
 }
@@ -285,7 +301,7 @@ pub fn rule26(sheet: &Sheet) -> bool {
 pub fn read(words: &[u32]) -> Option<Sheet> {
     let mut rest = words.iter().map(|&word| u64::from(word));
     let columns = rest.next()?;
-    let rows = rest.next()?;
+    let (rows, long_links) = rows_stated(rest.next()?);
     let memory_words = rest.next()?;
     let circuit_count = rest.next()?;
     let schedule_count = rest.next()?;
@@ -324,7 +340,7 @@ pub fn read(words: &[u32]) -> Option<Sheet> {
     if rest.next().is_some() {
         return None;
     }
-    Some(Sheet { columns, rows, memory_words, circuits, schedules })
+    Some(Sheet { columns, rows, long_links, memory_words, circuits, schedules })
 }
 
 fn regions_share_a_word(first: (u64, u64), second: (u64, u64)) -> bool {
@@ -333,7 +349,7 @@ fn regions_share_a_word(first: (u64, u64), second: (u64, u64)) -> bool {
     first_offset < second_offset + second_length && second_offset < first_offset + first_length
 }
 
-fn side_of_code(code: u64) -> Side {
+pub fn side_of_code(code: u64) -> Side {
     match code {
         0 => Side::North,
         1 => Side::East,
@@ -413,15 +429,28 @@ fn walk(sheet: &Sheet, source: u64, route: u64) -> Option<Path> {
     None
 }
 
-/// Each wire of an entry, with the cycles between source and wire.
+/// The cycles that links add behind these hops: one a vertical hop where vertical links are long, else none.
+fn extra_cycles(sheet: &Sheet, hops: &[(u64, u64)]) -> u64 {
+    let is_vertical = |&&(_, code): &&(u64, u64)| matches!(side_of_code(code), Side::North | Side::South);
+    if sheet.long_links {
+        hops.iter().filter(is_vertical).count() as u64
+    } else {
+        0
+    }
+}
+
+/// Each wire of an entry, with the cycles between source and wire. A link's extra register is no wire, and only
+/// what lies behind it is later.
 fn wires(sheet: &Sheet, entry: &Entry) -> Vec<(Wire, u64)> {
     let source = sheet.circuits[entry.circuit as usize].source;
     let path = walk(sheet, source, entry.route).expect("number 9 does not apply");
     let hops = path.side_outputs.len() as u64;
     let mut list = vec![(Wire::SourceIntoRouter { node: source }, 0)];
     for (position, &(node, side)) in path.side_outputs.iter().enumerate() {
-        list.push((Wire::SideOutput { node, side }, 3 * (position as u64 + 1)));
+        let before = extra_cycles(sheet, &path.side_outputs[..position]);
+        list.push((Wire::SideOutput { node, side }, 3 * (position as u64 + 1) + before));
     }
-    list.push((Wire::OutputToMemory { node: path.last_node }, 3 * (hops + 1)));
+    let vertical_hops = extra_cycles(sheet, &path.side_outputs);
+    list.push((Wire::OutputToMemory { node: path.last_node }, 3 * (hops + 1) + vertical_hops));
     list
 }

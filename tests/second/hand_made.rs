@@ -265,6 +265,8 @@ fn free_words(all: &mut Collection) {
         Row::Latch,
         Row::OutMark,
         Row::OutWord,
+        Row::ExtraMark,
+        Row::ExtraWord,
     ];
     let nodes = [
         Row::ReceiveMark,

@@ -3,6 +3,7 @@
 //! way each state is made, whatever the second machine says; every other circuit is free.
 
 use super::hand_made::rest_in;
+use super::hand_made_long::{busy_on_long_links, flights_on_long_links};
 use super::lent::{Row, ROW_WORDS};
 use super::machine::{DATA, EMPTY, HEADER, INTERRUPT, LAST, MEMORY, MOST_NODES, PAYLOAD, PORTS, SOURCE};
 use super::sheets::{
@@ -41,11 +42,11 @@ const UNITS: &str = "receive unit";
 const OTHERS: &str = "other registers";
 
 /// The first address of two regions, at node 1 and at the last node.
-const FIRST: u32 = 5;
+pub const FIRST: u32 = 5;
 
 /// Circuit 0 comes to node 1 and receives at 5 to 7, circuits 1 and 2 come to the last node and receive at 5 to 8
 /// and at 9 and 10; nobody receives at 4 and at 11, the last address.
-fn plan_of_grid(columns: u32, rows: u32) -> Plan {
+pub fn plan_of_grid(columns: u32, rows: u32, long_links: bool) -> Plan {
     let last = columns * rows - 1;
     let circuit = |source, destination, receive_offset, receive_length| Circuit {
         source,
@@ -58,6 +59,7 @@ fn plan_of_grid(columns: u32, rows: u32) -> Plan {
     let mut plan = Plan {
         columns,
         rows,
+        long_links,
         memory_words: 12,
         circuits: vec![circuit(last, 1, FIRST, 3), circuit(0, last, FIRST, 4), circuit(1, last, 9, 2)],
         schedules: vec![Schedule { period: 9, entries: Vec::new() }],
@@ -77,13 +79,13 @@ fn receiver_at(plan: &Plan, node: u32, address: u32) -> Vec<usize> {
 
 /// A header in a register, without kind and address.
 #[derive(Clone, Copy)]
-struct Station {
-    place: Place,
-    node: usize,
-    port: usize,
+pub struct Station {
+    pub place: Place,
+    pub node: usize,
+    pub port: usize,
     /// In a head register.
-    choice: u32,
-    route: u32,
+    pub choice: u32,
+    pub route: u32,
 }
 
 fn name_of(place: Place) -> &'static str {
@@ -91,12 +93,13 @@ fn name_of(place: Place) -> &'static str {
         Place::Link => "link",
         Place::Head => "head",
         Place::Out => "out",
+        Place::Extra => "extra",
         Place::Receiver => UNITS,
     }
 }
 
 impl Station {
-    fn name(&self) -> &'static str {
+    pub fn name(&self) -> &'static str {
         name_of(self.place)
     }
 
@@ -104,6 +107,7 @@ impl Station {
         let rows = match self.place {
             Place::Link => [Row::LinkMark, Row::LinkWord],
             Place::Head => [Row::HeadMark, Row::HeadWord],
+            Place::Extra => [Row::ExtraMark, Row::ExtraWord],
             _ => [Row::OutMark, Row::OutWord],
         };
         let [mark_place, word_place] = rows.map(|row| row.of_port(self.node, self.port));
@@ -114,14 +118,14 @@ impl Station {
         pokes
     }
 
-    fn with(&self, address: u32) -> Pokes {
+    pub fn with(&self, address: u32) -> Pokes {
         self.with_mark(HEADER, DATA, address)
     }
 }
 
 /// The stations of a way that starts at a node's source and takes these outputs one behind the other, with as many
 /// codes and zeros behind them; those whose codes do not fit are left out.
-fn stations(plan: &Plan, source: u32, outputs: &[u32]) -> Vec<Station> {
+pub fn stations(plan: &Plan, source: u32, outputs: &[u32]) -> Vec<Station> {
     let mut routers = Vec::new();
     let (mut node, mut input) = (source, SOURCE as u32);
     for &output in outputs {
@@ -145,28 +149,28 @@ fn stations(plan: &Plan, source: u32, outputs: &[u32]) -> Vec<Station> {
 }
 
 /// The same to a node's memory by the sides of a path, from where that path begins.
-fn stations_to(plan: &Plan, destination: u32, path: &[u32]) -> Vec<Station> {
+pub fn stations_to(plan: &Plan, destination: u32, path: &[u32]) -> Vec<Station> {
     let source = path.iter().rev().fold(destination, |node, &side| neighbour(plan, node, opposite(side)));
     stations(plan, source, &[path, &[MEMORY as u32]].concat())
 }
 
 /// Collects states of one plan.
-struct Collection {
-    plan: Rc<Plan>,
-    states: Vec<HandMadeBusy>,
+pub struct Collection {
+    pub plan: Rc<Plan>,
+    pub states: Vec<HandMadeBusy>,
 }
 
 impl Collection {
-    fn new(plan: Plan) -> Collection {
+    pub fn new(plan: Plan) -> Collection {
         Collection { plan: Rc::new(plan), states: Vec::new() }
     }
 
-    fn add(&mut self, place: &'static str, name: &'static str, pokes: Pokes, busy: Vec<usize>) {
+    pub fn add(&mut self, place: &'static str, name: &'static str, pokes: Pokes, busy: Vec<usize>) {
         self.states.push(HandMadeBusy { place, name, plan: Rc::clone(&self.plan), pokes, busy });
     }
 
     /// What comes to an address of a node.
-    fn add_arriving(&mut self, name: &'static str, station: &Station, node: u32, address: u32) {
+    pub fn add_arriving(&mut self, name: &'static str, station: &Station, node: u32, address: u32) {
         let busy = receiver_at(&self.plan, node, address);
         self.add(station.name(), name, station.with(address), busy);
     }
@@ -175,7 +179,7 @@ impl Collection {
 pub fn hand_made_busy() -> Vec<HandMadeBusy> {
     let mut states = Vec::new();
     for (columns, rows) in [(2, 2), (3, 2), (2, 4), (4, 4)] {
-        let mut all = Collection::new(plan_of_grid(columns, rows));
+        let mut all = Collection::new(plan_of_grid(columns, rows, false));
         ways(&mut all);
         units(&mut all);
         other_registers(&mut all);
@@ -187,12 +191,20 @@ pub fn hand_made_busy() -> Vec<HandMadeBusy> {
         states.extend(all.states);
     }
     states.extend(end_of_memory());
+    // The other registers on long links, and their own.
+    let mut all = Collection::new(plan_of_grid(3, 2, true));
+    ways(&mut all);
+    units(&mut all);
+    other_registers(&mut all);
+    long_ways(&mut all);
+    states.extend(all.states);
+    states.extend(busy_on_long_links());
     states
 }
 
 /// A region at the end of a memory of 16,384 words: the address behind it has no place in a header.
 fn end_of_memory() -> Vec<HandMadeBusy> {
-    let mut plan = Plan { memory_words: 1 << 14, ..plan_of_grid(2, 2) };
+    let mut plan = Plan { memory_words: 1 << 14, ..plan_of_grid(2, 2, false) };
     let last = plan.memory_words - 1;
     (plan.circuits[2].receive_offset, plan.circuits[2].receive_length) = (last - 1, 2);
     let mut all = Collection::new(plan);
@@ -224,7 +236,7 @@ fn ways(all: &mut Collection) {
     }
 }
 
-fn addresses(all: &mut Collection, number: usize, station: &Station) {
+pub fn addresses(all: &mut Collection, number: usize, station: &Station) {
     let Circuit { destination, receive_offset, receive_length, .. } = all.plan.circuits[number];
     let behind = receive_offset + receive_length;
     all.add(station.name(), "first address", station.with(receive_offset), vec![number]);
@@ -237,7 +249,7 @@ fn addresses(all: &mut Collection, number: usize, station: &Station) {
 }
 
 /// Only a header says where it goes.
-fn marks(all: &mut Collection, number: usize, station: &Station) {
+pub fn marks(all: &mut Collection, number: usize, station: &Station) {
     let offset = all.plan.circuits[number].receive_offset;
     for (mark, name) in [(EMPTY, "empty"), (PAYLOAD, "payload"), (LAST, "last payload")] {
         all.add(station.name(), name, station.with_mark(mark, DATA, offset), Vec::new());
@@ -463,7 +475,7 @@ pub fn hand_made_flights() -> Vec<HandMadeFlight> {
         count,
         last_landing,
     };
-    vec![
+    let mut flights = vec![
         flight("sheet A, one word", sheet_a(), None, 0, 1, 7),
         flight("sheet A, two words", sheet_a(), None, 0, 2, 8),
         flight("sheet A, three words in two packets", sheet_a(), None, 0, 3, 16),
@@ -474,21 +486,23 @@ pub fn hand_made_flights() -> Vec<HandMadeFlight> {
         flight("four hops over a period's end", four_hops(), None, 0, 1, 16),
         flight("four hops over a switch", four_hops(), Some((1, 3)), 22, 1, 38),
         flight("four hops, two packets over a switch", four_hops(), Some((1, 3)), 21, 2, 59),
-    ]
+    ];
+    flights.extend(flights_on_long_links());
+    flights
 }
 
 /// One circuit of four hops, with a slot of one word in the first cycle; the second schedule's begins in the tenth.
 fn four_hops() -> Plan {
     let circuit = Circuit { source: 0, destination: 10, ..sheet_a().circuits[0] };
-    let entry = |offset| Entry { offset, length: 2, circuit: 0, route: EAST | EAST << 2 | SOUTH << 4 | SOUTH << 6 };
-    Plan {
-        columns: 4,
-        rows: 4,
-        circuits: vec![circuit],
-        schedules: vec![
-            Schedule { period: 11, entries: vec![entry(0)] },
-            Schedule { period: 24, entries: vec![entry(10)] },
-        ],
-        ..sheet_a()
-    }
+    let route = EAST | EAST << 2 | SOUTH << 4 | SOUTH << 6;
+    landing_plan(vec![circuit], route, [(11, 0), (24, 10)], false)
+}
+
+/// Circuit 0 of a grid of 4 by 4 with a slot of one word in each of two schedules, stated as period and offset.
+pub fn landing_plan(circuits: Vec<Circuit>, route: u32, schedules: [(u32, u32); 2], long_links: bool) -> Plan {
+    let schedule = |(period, offset)| {
+        let entry = Entry { offset, length: 2, circuit: 0, route };
+        Schedule { period, entries: vec![entry] }
+    };
+    Plan { columns: 4, rows: 4, long_links, circuits, schedules: schedules.map(schedule).to_vec(), ..sheet_a() }
 }

@@ -54,6 +54,7 @@ pub fn middle_in_small_memory(seed: u64) -> Plan {
         let wish = Wish {
             columns: 3,
             rows: 3,
+            long_links: false,
             memory_words: 256,
             circuits: 16,
             longest_region: 60,

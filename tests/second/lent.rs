@@ -4,11 +4,12 @@
 use super::checker;
 use super::machine::{
     kind_of, lies_within, Cell, CheckedSheet, Machine, Node, Sender, DATA, EMPTY, HEADER, INTERRUPT, LAST, PORTS,
+    VERTICAL_SIDES,
 };
 use std::rc::Rc;
 
-pub const STATE_WORDS: usize = 10_278;
-pub const MOVING_WORDS: usize = 1_680;
+pub const STATE_WORDS: usize = 10_438;
+pub const MOVING_WORDS: usize = 1_840;
 pub const SHEET_LENGTH: usize = MOVING_WORDS;
 pub const SHEET: usize = SHEET_LENGTH + 1;
 pub const MOST_SHEET_WORDS: usize = 8_597;
@@ -38,6 +39,8 @@ pub enum Row {
     Write,
     Kind,
     ToGo,
+    ExtraMark,
+    ExtraWord,
 }
 
 // The places of the clock's row.
@@ -80,6 +83,8 @@ pub enum Clause {
     HeadKind,
     OutMark,
     OutKind,
+    ExtraMark,
+    ExtraKind,
     Choice,
     Latch,
     ReceiveMark,
@@ -90,6 +95,7 @@ pub enum Clause {
 impl Machine {
     /// Every register with its place in the lent words, for reading and for writing.
     fn each_register(&mut self, mut visit: impl FnMut(usize, &mut u32)) {
+        let has_long_links = self.sheet.has_long_links();
         let clock = &mut self.clock;
         visit(Row::Clock.at(CYCLE), &mut clock.cycle);
         visit(Row::Clock.at(PERIOD_NUMBER), &mut clock.period_number);
@@ -109,6 +115,12 @@ impl Machine {
             for (port, output) in node.outputs.iter_mut().enumerate() {
                 visit(Row::OutMark.of_port(number, port), &mut output.mark);
                 visit(Row::OutWord.of_port(number, port), &mut output.word);
+            }
+            if has_long_links {
+                for (side, extra) in VERTICAL_SIDES.into_iter().zip(&mut node.extras) {
+                    visit(Row::ExtraMark.of_port(number, side), &mut extra.mark);
+                    visit(Row::ExtraWord.of_port(number, side), &mut extra.word);
+                }
             }
             visit(Row::ReceiveMark.at(number), &mut node.receiver.mark);
             visit(Row::ReceiveKind.at(number), &mut node.receiver.kind);
@@ -204,6 +216,9 @@ fn add_broken_by_node(node: &Node, broken: &mut Vec<Clause>) {
     }
     for output in node.outputs {
         add_broken_by_cell(output, Clause::OutMark, Clause::OutKind, broken);
+    }
+    for extra in node.extras {
+        add_broken_by_cell(extra, Clause::ExtraMark, Clause::ExtraKind, broken);
     }
     match node.receiver.mark {
         0 => {}

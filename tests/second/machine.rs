@@ -2,6 +2,7 @@
 //! three stages, senders, receive units, the clock and the order, and the ten calls upon them. What the papers leave free and
 //! the causes of number 20 are as docs/STATE.md lists them. Every register there is a field here. A machine's sheet has
 //! passed the second checker once, when the machine was made: by 1 to 11 and 26 for a load, by 1 to 11 for a state.
+//! Where its vertical links are long, each of them has a register more.
 //! Which circuits have words travelling (17) is counted since the load; travelling.rs reads it off registers instead.
 
 use super::checker::{self, Circuit, Entry, Schedule, Sheet, Side};
@@ -14,6 +15,8 @@ pub const MOST_NODES: usize = 16;
 pub const PORTS: usize = 5;
 pub const SOURCE: usize = 4;
 pub const MEMORY: usize = 4;
+/// The sides whose links may be long: north and south.
+pub const VERTICAL_SIDES: [usize; 2] = [Side::North as usize, Side::South as usize];
 
 // The marks of a wire.
 pub const EMPTY: u32 = 0;
@@ -85,6 +88,8 @@ pub struct Landing {
 pub struct Node {
     pub inputs: [Input; PORTS],
     pub outputs: [Cell; PORTS],
+    /// By `VERTICAL_SIDES`, what is in the extra registers of long links; nothing elsewhere.
+    pub extras: [Cell; 2],
     pub receiver: Receiver,
     pub landing: Landing,
 }
@@ -153,6 +158,10 @@ impl CheckedSheet {
 
     pub fn nodes(&self) -> usize {
         self.neighbours.len()
+    }
+
+    pub fn has_long_links(&self) -> bool {
+        self.sheet.long_links
     }
 
     /// The words of one node's memory.
@@ -512,9 +521,16 @@ impl Machine {
     }
 
     fn advance_nodes(&mut self, memory: &mut [u32], put_by_sources: &[Cell; MOST_NODES]) {
+        let has_long_links = self.sheet.has_long_links();
         let mut put_by_routers = [[Cell::default(); PORTS]; MOST_NODES];
-        for (node, outputs) in self.nodes.iter().zip(&mut put_by_routers) {
+        for (node, outputs) in self.nodes.iter_mut().zip(&mut put_by_routers) {
             *outputs = node.outputs;
+            if has_long_links {
+                // What was put on a long link before comes to its end; what is on the output follows.
+                for (side, extra) in VERTICAL_SIDES.into_iter().zip(&mut node.extras) {
+                    outputs[side] = std::mem::replace(extra, node.outputs[side]);
+                }
+            }
         }
         let memories = memory.chunks_mut(self.sheet.memory_words());
         for (number, (node, own_memory)) in self.nodes.iter_mut().zip(memories).enumerate() {

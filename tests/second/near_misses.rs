@@ -1,6 +1,6 @@
 //! Sheets that just fail or just pass, each made from a passing sheet by a small change,
 //! for every number of document 01 from 1 to 11 and for 26; sheets with several faults; sheets
-//! of random words.
+//! of random words. Those about long vertical links are in sheets_long.rs.
 
 use std::collections::HashSet;
 
@@ -10,6 +10,7 @@ use super::sheets::{
     sixty_four_circuits, uses, wished_plan, Case, Circuit, Entry, Occupied, Plan, Random, Schedule,
     WireKind, Wish, EAST, NORTH, SOUTH, WEST,
 };
+use super::sheets_long;
 
 pub const GRIDS: [(u32, u32); 9] =
     [(2, 2), (3, 2), (4, 2), (2, 3), (3, 3), (4, 3), (2, 4), (3, 4), (4, 4)];
@@ -46,6 +47,7 @@ pub fn all_cases() -> Vec<Case> {
     faults_in_largest(&mut cases);
     random_words(&mut cases);
     altered_words(&mut cases);
+    cases.extend(sheets_long::cases());
     // Different changes may give the same sheet; it is judged once.
     let mut seen = HashSet::new();
     cases.retain(|case| seen.insert(case.words.clone()));
@@ -63,6 +65,7 @@ fn subjects(seed: u64, count: usize) -> Vec<Plan> {
         let wish = Wish {
             columns,
             rows,
+            long_links: false,
             memory_words,
             circuits: random.between(3, 14),
             longest_region: memory_words.div_ceil(12),
@@ -143,8 +146,11 @@ fn number2(cases: &mut Vec<Case>) {
             };
             wrong.extend([TWO_TO_16 + value, TWO_TO_30, TWO_TO_30 + value, TWO_TO_31 + value]);
             wrong.extend([LARGEST_WORD, LARGEST_WORD - 1]);
-            if position != 2 {
-                wrong.push(256 + value);
+            // The rows alone may carry 256.
+            match position {
+                1 => wrong.extend([256, 257, 261, 512 + value]),
+                2 => {}
+                _ => wrong.push(256 + value),
             }
             for number in wrong {
                 let mut changed = words.clone();
@@ -166,7 +172,7 @@ fn number2(cases: &mut Vec<Case>) {
             for schedules in [1, 8] {
                 let schedule = Schedule { period: 9, entries: Vec::new() };
                 let schedules = vec![schedule; schedules];
-                let plan = Plan { columns, rows, memory_words, circuits: Vec::new(), schedules };
+                let plan = Plan { columns, rows, memory_words, schedules, circuits: Vec::new(), ..idle_network() };
                 cases.push(plan.case("2: bounds", 0));
                 push_words(cases, "2: bounds, head alone", plan.words()[..5].to_vec(), 3);
             }
@@ -190,6 +196,7 @@ fn plan_of_256_entries(random: &mut Random) -> Plan {
         let wish = Wish {
             columns: 4,
             rows: 4,
+            long_links: false,
             memory_words: 16_384,
             circuits: 40,
             longest_region: 100,
@@ -444,6 +451,7 @@ fn number5(cases: &mut Vec<Case>) {
         Plan {
             columns: 4,
             rows: 2,
+            long_links: false,
             memory_words,
             circuits: vec![circuit(first), circuit(second)],
             schedules: vec![Schedule { period: 9, entries: Vec::new() }],
@@ -555,6 +563,7 @@ fn number6(cases: &mut Vec<Case>) {
     let plan_of = |circuits: Vec<Circuit>| Plan {
         columns: 3,
         rows: 2,
+        long_links: false,
         memory_words: 20,
         circuits,
         schedules: vec![Schedule { period: 9, entries: Vec::new() }],
@@ -868,7 +877,7 @@ fn number10(cases: &mut Vec<Case>) {
                         vec![Entry { offset, length, circuit: 0, route: route_of(path) }];
                     plan.clone()
                 };
-                match last_offset(period, length, hops) {
+                match last_offset(period, length, 3 * hops) {
                     None => cases.push(schedule(0).case("10: no room at all", 10)),
                     Some(last) => {
                         cases.push(schedule(last).case("10: last offset", 0));
@@ -886,14 +895,14 @@ fn number10(cases: &mut Vec<Case>) {
             let Schedule { period, entries } = &plan.schedules[schedule];
             let last = entries.len() - 1;
             let entry = entries[last];
-            let limit = last_offset(*period, entry.length, plan.hops(&entry)).expect("it passes");
+            let limit = last_offset(*period, entry.length, plan.delay(&entry)).expect("it passes");
             for offset in [limit + 1, period - 1] {
                 let mut later = plan.clone();
                 later.schedules[schedule].entries[last].offset = offset;
                 cases.push(later.case("10: last entry later", 10));
             }
             for (position, entry) in entries.iter().enumerate() {
-                let length = period + 4 - 3 * plan.hops(entry) - entry.offset;
+                let length = period + 4 - plan.delay(entry) - entry.offset;
                 if length <= 16 {
                     let mut longer = plan.clone();
                     longer.schedules[schedule].entries[position].length = length;
@@ -1003,7 +1012,7 @@ fn number11(cases: &mut Vec<Case>) {
                 continue;
             }
             let (cycle, delay) = random.choose(&common);
-            let Some(last) = last_offset(*period, length, path.len() as u32) else {
+            let Some(last) = last_offset(*period, length, plan.delay_of(&path)) else {
                 continue;
             };
             let before = i64::from(cycle) - i64::from(delay) - i64::from(length);
@@ -1256,6 +1265,7 @@ fn left_unserved(cases: &mut Vec<Case>) {
         let wish = Wish {
             columns,
             rows,
+            long_links: false,
             memory_words,
             circuits: random.choose(&[1, 2, 8, 20, 64]),
             longest_region: memory_words.div_ceil(12),
@@ -1300,7 +1310,7 @@ fn earlier_number_and_unserved(cases: &mut Vec<Case>) {
 fn add_clash(plan: &mut Plan, schedule: usize) -> bool {
     let period = plan.schedules[schedule].period;
     for entry in plan.schedules[schedule].entries.clone() {
-        let last = last_offset(period, entry.length, plan.hops(&entry)).expect("it passes");
+        let last = last_offset(period, entry.length, plan.delay(&entry)).expect("it passes");
         let offset = if entry.offset < last {
             entry.offset + 1
         } else if entry.offset > 0 {
@@ -1321,7 +1331,7 @@ pub fn add_fault(random: &mut Random, plan: &mut Plan, number: u32, schedule: us
     let last_circuit = plan.circuits.len() - 1;
     let entries = plan.schedules[schedule].entries.len();
     match number {
-        2 => plan.rows = random.choose(&[0, 1, 5, LARGEST_WORD]),
+        2 => plan.rows = random.choose(&[0, 1, 5, 512 + plan.rows, LARGEST_WORD]),
         3 => {
             let spare = plan.schedules[schedule].entries[0];
             plan.schedules[schedule].entries.resize(257, spare);
@@ -1461,7 +1471,7 @@ fn random_words(cases: &mut Vec<Case>) {
         let memory_words = random.between(1, 30);
         let nodes = columns * rows;
         let mut plan =
-            Plan { columns, rows, memory_words, circuits: Vec::new(), schedules: Vec::new() };
+            Plan { columns, rows, memory_words, schedules: Vec::new(), ..idle_network() };
         for _ in 0..random.between(0, 4) {
             let source = random.between(0, nodes - u32::from(level > 0));
             let read_offset = random.between(0, memory_words - 1);

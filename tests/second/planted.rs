@@ -1,11 +1,13 @@
 //! Machines that are wrong about sheets of no words, about circuits that no schedule serves, about
-//! lists of transfers or about words that travel, planted for the self tests: each of them has to be noticed.
+//! lists of transfers, about words that travel or about long links, planted for the self tests: each of them has to
+//! be noticed.
 
 use super::calls::{number_of, Calls, Second, FIELDS};
 use super::checker;
 use super::lent::{MOVING_WORDS, SHEET, SHEET_LENGTH, STATE_WORDS};
 use super::machine::Transfer;
 use super::planted_lists::WrongList;
+use super::planted_long::WrongLinks;
 use super::planted_travelling::{Remembered, WrongTravelling};
 use super::sheets::idle_network;
 
@@ -41,6 +43,7 @@ pub enum Wrong {
     RefusesUnservedStarts,
     List(WrongList),
     Travelling(WrongTravelling),
+    Links(WrongLinks),
 }
 
 /// What a load can have wrong, and so a session can show.
@@ -84,13 +87,19 @@ impl Planted {
         if self.wrong == Wrong::RefusesUnservedStates && stored_sheet(state).is_some_and(has_26) {
             taken[SHEET_LENGTH] = 0;
         }
+        if let Wrong::Links(wrong) = self.wrong {
+            if state.len() >= STATE_WORDS {
+                wrong.take(&mut taken);
+            }
+        }
         taken
     }
 
     /// A load of a sheet whose number is 26.
     fn load_unserved(&self, sheet: &[u32], state: &mut [u32], memory: &[u32]) -> u32 {
         let short_state = state.len() < STATE_WORDS;
-        let wrong_memory = memory.len() != (sheet[0] * sheet[1] * sheet[2]) as usize;
+        let read = checker::read(sheet).expect("number 3 does not apply");
+        let wrong_memory = memory.len() as u64 != read.columns * read.rows * read.memory_words;
         match self.wrong {
             Wrong::Answers11For26 => 11,
             Wrong::StateBefore26 | Wrong::LoadsUnserved if short_state => 12,
@@ -155,6 +164,9 @@ impl Calls for Planted {
         if number == 0 && matches!(self.wrong, Wrong::Travelling(_)) {
             self.remembered.note_load(&before, &mut self.second);
         }
+        if let (0, Wrong::Links(wrong)) = (number, self.wrong) {
+            wrong.after_load(&before, state);
+        }
         if number == 26 {
             return self.load_unserved(sheet, state, memory);
         }
@@ -173,6 +185,10 @@ impl Calls for Planted {
         if let Wrong::Travelling(wrong) = self.wrong {
             let transfer = Transfer { circuit, read, write, count, kind };
             return wrong.start(&mut self.remembered, &mut self.second, state, transfer);
+        }
+        if let Wrong::Links(wrong) = self.wrong {
+            let transfer = Transfer { circuit, read, write, count, kind };
+            return self.change(state, |second, state| wrong.start(second, state, transfer));
         }
         if self.wrong == Wrong::RefusesUnservedStarts {
             let number = self.second.start(&mut state.to_vec(), circuit, read, write, count, kind);
@@ -224,7 +240,10 @@ impl Calls for Planted {
     }
 
     fn cycle(&mut self, state: &mut [u32], memory: &mut [u32]) -> u32 {
-        let number = self.change(state, |second, state| second.cycle(state, memory));
+        let number = match self.wrong {
+            Wrong::Links(wrong) => self.change(state, |second, state| wrong.cycle(second, state, memory)),
+            _ => self.change(state, |second, state| second.cycle(state, memory)),
+        };
         if number == 0 {
             self.remembered.forget();
         }
@@ -237,6 +256,9 @@ impl Calls for Planted {
             Wrong::Travelling(wrong) => {
                 wrong.start_all(&mut self.remembered, &mut self.second, state, transfers, answers)
             }
+            Wrong::Links(wrong) => {
+                self.change(state, |second, state| wrong.start_all(second, state, transfers, answers))
+            }
             _ => self.change(state, |second, state| second.start_all(state, transfers, answers)),
         }
     }
@@ -247,6 +269,7 @@ impl Calls for Planted {
             Wrong::Travelling(wrong) => {
                 wrong.start_lists(&mut self.remembered, &mut self.second, state, lists, answers)
             }
+            Wrong::Links(wrong) => self.change(state, |second, state| wrong.start_lists(second, state, lists, answers)),
             _ => self.change(state, |second, state| second.start_lists(state, lists, answers)),
         }
     }

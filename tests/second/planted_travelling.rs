@@ -4,7 +4,7 @@
 use super::calls::{number_of, transfers_of, Calls, Second, FIELDS};
 use super::checker::{self, Circuit, Sheet};
 use super::lent::{Reader, Row, ROW_WORDS};
-use super::machine::{Transfer, EMPTY, HEADER, INTERRUPT, LAST, MEMORY, MOST_NODES, PORTS};
+use super::machine::{Transfer, EMPTY, HEADER, INTERRUPT, LAST, MEMORY, MOST_NODES, PORTS, VERTICAL_SIDES};
 use super::planted::stored_sheet;
 use super::travelling::Place;
 
@@ -133,8 +133,8 @@ pub const WRONG_TRAVELLING_ON_STATES: [WrongTravelling; 7] = [
 
 /// More than a header goes: one by its output, eight by its codes.
 const MOST_STEPS: u32 = 12;
-/// A router takes three.
-const MOST_CYCLES: u32 = 3 * MOST_STEPS;
+/// A router takes three, and a long link one more.
+const MOST_CYCLES: u32 = 4 * MOST_STEPS;
 
 /// What a planted machine remembers up to the next cycle.
 #[derive(Default)]
@@ -241,7 +241,7 @@ impl WrongTravelling {
         }
         // With nothing on the wires, 15, 16 and words left decide.
         let mut quiet = state.to_vec();
-        clear(&mut quiet, &[Row::LinkMark, Row::HeadMark, Row::OutMark, Row::ReceiveMark]);
+        clear(&mut quiet, &[Row::LinkMark, Row::HeadMark, Row::OutMark, Row::ExtraMark, Row::ReceiveMark]);
         let Transfer { read, write, count, kind, .. } = transfer;
         let number = second.start(&mut quiet, transfer.circuit, read, write, count, kind);
         if number != 0 {
@@ -260,6 +260,16 @@ impl WrongTravelling {
     fn travels(self, reader: &mut Reader, state: &[u32], sheet: &Sheet, circuit: usize) -> bool {
         let reading = Reading { wrong: self, state, sheet, circuit: &sheet.circuits[circuit] };
         reading.travels(reader)
+    }
+}
+
+/// The marks of the registers in which headers are.
+fn mark_row(place: Place) -> Row {
+    match place {
+        Place::Link => Row::LinkMark,
+        Place::Head => Row::HeadMark,
+        Place::Extra => Row::ExtraMark,
+        _ => Row::OutMark,
     }
 }
 
@@ -301,6 +311,9 @@ impl Reading<'_> {
                 for place in [Place::Link, Place::Head, Place::Out] {
                     found = found || self.comes(reader, place, node, port);
                 }
+                if self.sheet.long_links && VERTICAL_SIDES.contains(&port) {
+                    found = found || self.comes(reader, Place::Extra, node, port);
+                }
             }
         }
         let destination = self.circuit.destination as usize;
@@ -331,12 +344,7 @@ impl Reading<'_> {
 
     /// Whether a register holds a header that comes to the circuit's region.
     fn comes(&self, reader: &mut Reader, place: Place, node: usize, port: usize) -> bool {
-        let mark = match place {
-            Place::Link => Row::LinkMark,
-            Place::Head => Row::HeadMark,
-            _ => Row::OutMark,
-        };
-        let is_read = match self.at(mark, PORTS * node + port) {
+        let is_read = match self.at(mark_row(place), PORTS * node + port) {
             HEADER => true,
             EMPTY => self.is(WrongTravelling::ReadsEmptyWires),
             _ => self.is(WrongTravelling::ReadsPayload),
@@ -386,7 +394,7 @@ impl Reading<'_> {
                 Some(Leaving { word, output, route: word & 0xFFFF })
             }
             _ => {
-                let word = at(Row::OutWord);
+                let word = at(if place == Place::Extra { Row::ExtraWord } else { Row::OutWord });
                 let taken_off = if self.is(WrongTravelling::TakesCodeOffOut) { 2 } else { 0 };
                 Some(Leaving { word, output: port as u32, route: (word & 0xFFFF) >> taken_off })
             }
@@ -430,13 +438,9 @@ impl Reading<'_> {
     /// The header alone on all wires, until a receive unit takes it.
     fn runs_to_destination(&self, reader: &mut Reader, place: Place, node: usize, port: usize) -> bool {
         let mut alone = self.state.to_vec();
-        clear(&mut alone, &[Row::LinkMark, Row::HeadMark, Row::OutMark, Row::ReceiveMark, Row::Left, Row::ToGo]);
-        let mark = match place {
-            Place::Link => Row::LinkMark,
-            Place::Head => Row::HeadMark,
-            _ => Row::OutMark,
-        };
-        alone[mark.of_port(node, port)] = HEADER;
+        let marks = [Row::LinkMark, Row::HeadMark, Row::OutMark, Row::ExtraMark, Row::ReceiveMark];
+        clear(&mut alone, &[&marks[..], &[Row::Left, Row::ToGo]].concat());
+        alone[mark_row(place).of_port(node, port)] = HEADER;
         let mut machine = reader.machine(&alone).expect("a sound state");
         let mut memory = vec![0; machine.sheet.all_memory_words()];
         for _ in 0..MOST_CYCLES {

@@ -7,18 +7,23 @@ use super::calls::{lists_of, number_of, Call, Calls, Second};
 use super::coverage::Coverage;
 use super::lent::{Row, PERIOD_NUMBER, STATE_WORDS};
 use super::machine::{Machine, Transfer, INTERRUPT};
+use super::play_long;
 use super::play_names::{
     answer_name, idle_name, made_name, record_name, wanted, wanted_often, LIST, LOADS_NO_WORDS, LOAD_OF_NO_WORDS,
 };
 use super::play_travelling::{compare_ways, Flights};
 use super::reckoning::{Calendar, Reckoning, Word};
-use super::sessions::{Generator, Made, FURTHER_FROM, LISTS_FROM, NO_WORDS_FROM, SESSIONS, TRAVELLING_FROM};
+use super::sessions::{
+    Generator, Made, FURTHER_FROM, LISTS_FROM, LONG_LINKS_FROM, NO_WORDS_FROM, SESSIONS, TRAVELLING_FROM,
+};
 use super::sheets::idle_network;
 use super::words::{Lent, Words};
 use std::ops::Range;
 use std::process::ExitCode;
 
 const DIFFERENCES_SHOWN: usize = 5;
+/// Sessions on long links for who is only to be noticed or not.
+const SESSIONS_FOR_NOTICING: u64 = 100;
 
 /// Cycles between two rounds of questions about every circuit and node.
 const QUESTIONS_EVERY: u32 = 9;
@@ -83,6 +88,11 @@ pub fn is_noticed(tested: &mut impl Calls) -> bool {
 /// Whether a session with lists does.
 pub fn is_noticed_by_lists(tested: &mut impl Calls) -> bool {
     is_noticed_in(tested, LISTS_FROM..TRAVELLING_FROM)
+}
+
+/// Whether a session on long vertical links does.
+pub fn is_noticed_on_long_links(tested: &mut impl Calls) -> bool {
+    is_noticed_in(tested, LONG_LINKS_FROM..LONG_LINKS_FROM + SESSIONS_FOR_NOTICING)
 }
 
 /// Whether a session does in which circuits are started while their words travel.
@@ -323,6 +333,7 @@ impl<C: Calls> Player<'_, C> {
                 names.push("refused call on a state with words travelling".to_string());
             }
         } else {
+            names.extend(play_long::names(before, self.second.view(), &self.reckonings, made));
             match made.call {
                 Call::Load { ref sheet } => self.note_load(before, sheet, travelling, &mut names),
                 Call::Start { circuit, .. } => self.note_start(before, circuit as usize, &mut names),

@@ -1,6 +1,7 @@
 //! The names of what the sessions have to meet, and how often.
 
 use super::lists::{LIST_WAYS, ONE_OF_OTHER_LENGTH};
+use super::play_long;
 use super::play_travelling;
 use super::sessions::UNSERVED_LOADS;
 
@@ -28,6 +29,7 @@ pub fn wanted_often() -> Vec<(u64, String)> {
     }
     names.extend([0, 15, 16, 17].map(|answer| (RECORD_ANSWERS_REQUIRED, record_name(answer))));
     names.extend(play_travelling::wanted_often());
+    names.extend(play_long::wanted_often());
     names
 }
 

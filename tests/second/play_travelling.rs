@@ -229,6 +229,7 @@ impl Circumstances<'_> {
             (self.is_found_only_in(Place::Link), "start refused by a header in a link register alone"),
             (self.is_found_only_in(Place::Head), "start refused by a header in a head register alone"),
             (self.is_found_only_in(Place::Out), "start refused by a header in an out register alone"),
+            (self.is_found_only_in(Place::Extra), "start refused by a header in an extra register alone"),
             (self.is_found_only_in(Place::Receiver), "start refused by an arriving packet alone"),
             (reckoning.kind() == INTERRUPT, "start refused, an interrupt travels"),
             (reckoning.first_of_packets_landed(), "start refused, the first of several packets has landed"),

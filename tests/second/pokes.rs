@@ -3,7 +3,8 @@
 //! dropped from their sheet. The second machine says each answer and every lent word afterwards,
 //! refused calls included. What a load of no words leaves, and what is then answered, stands here
 //! besides, and that a transfer on a circuit that no schedule serves is taken and never sends. Lists of
-//! transfers are asked of every hand-made state, and of some others. pokes_travelling.rs has those about words that travel.
+//! transfers are asked of every hand-made state, and of some others. pokes_travelling.rs has those about words that travel,
+//! pokes_long.rs those about long vertical links.
 
 use super::calls::{lists_of, number_of, Call, Calls, Second};
 use super::coverage::Coverage;
@@ -12,12 +13,14 @@ use super::hand_made::{
     HandMade, HandMadeCycle, Unserved,
 };
 use super::hand_made_lists::{both_forms, hand_made_lists, HandMadeList, ListsOfState};
+use super::hand_made_travelling::hand_made_busy;
 use super::lent::{
     Clause, Reader, Row, CYCLE, MOVING_WORDS, ORDER_MARK, ORDER_PERIOD, ORDER_SCHEDULE, PERIOD_NUMBER, ROW_WORDS,
     SCHEDULE, SHEET, SHEET_LENGTH, STATE_WORDS,
 };
 use super::lists::unanswered;
 use super::machine::{Cell, Fault, Machine, Transfer, DATA, EMPTY, HEADER, INTERRUPT, LAST, PORTS};
+use super::pokes_long;
 use super::pokes_travelling::are_met;
 use super::sessions::{Generator, NO_WORDS_FROM, SPARE_WORDS};
 use super::sheets::{idle_network, sheet_a, Plan, Random};
@@ -45,7 +48,7 @@ const DIFFERENCES_SHOWN: usize = 10;
 pub struct Runner<'a, C> {
     pub tested: &'a mut C,
     second: Second,
-    reader: Reader,
+    pub reader: Reader,
     pub coverage: Coverage,
     passed: usize,
     differences: Vec<String>,
@@ -60,11 +63,12 @@ pub fn run_all(tested: &mut impl Calls) -> ExitCode {
     runner.run_loads_of_no_words();
     unserved_states().iter().for_each(|state| runner.run_unserved(state));
     unserved_plans().iter().for_each(|plan| runner.run_unserved_transfers(plan));
-    runner.run_hand_made_cycles();
+    runner.run_cycles(&hand_made_cycles());
     runner.run_hand_made_lists();
     runner.run_example_m();
-    runner.run_hand_made_busy(false);
+    runner.run_busy(&hand_made_busy(), false);
     runner.run_flights();
+    runner.run_long_links();
     let poked = runner.run_poked();
     runner.coverage.print();
     for difference in runner.differences.iter().take(DIFFERENCES_SHOWN) {
@@ -73,6 +77,7 @@ pub fn run_all(tested: &mut impl Calls) -> ExitCode {
     let complete = runner.coverage.has_all(wanted().iter().map(String::as_str))
         & runner.coverage.has_at_least(UNSERVED_SOUND_REQUIRED, UNSERVED_SOUND)
         & are_met(&runner.coverage)
+        & pokes_long::are_met(&runner.coverage)
         && poked >= POKED_STATES_REQUIRED;
     let failed = runner.differences.len() + usize::from(!complete);
     println!("{} passed, {failed} failed", runner.passed);
@@ -202,9 +207,9 @@ fn answer_name(group: &str, call: &Call, number: u32) -> String {
     format!("{group}: {}, {number}", call.name())
 }
 
-fn calls_of_hand_made() -> Vec<Call> {
+fn calls_of_hand_made(plan: &Plan) -> Vec<Call> {
     let mut calls = vec![
-        Call::Load { sheet: hand_made_plan().words() },
+        Call::Load { sheet: plan.words() },
         Call::Start { circuit: 0, read: 0, write: 0, count: 1, kind: INTERRUPT },
         Call::Store { node: 1, address: 7, word: 5 },
         Call::Fetch { node: 1, address: 7 },
@@ -297,16 +302,21 @@ impl<C: Calls> Runner<'_, C> {
     }
 
     fn run_hand_made(&mut self, states: &[HandMade]) {
-        let loaded = self.loaded(&hand_made_plan());
-        let calls = calls_of_hand_made();
-        let lists = ListsOfState::new(&hand_made_plan());
+        self.run_hand_made_on("hand-made", &hand_made_plan(), states);
+    }
+
+    /// States of a plan that has the circuits of `hand_made_plan`.
+    pub fn run_hand_made_on(&mut self, group: &str, plan: &Plan, states: &[HandMade]) {
+        let loaded = self.loaded(plan);
+        let calls = calls_of_hand_made(plan);
+        let lists = ListsOfState::new(plan);
         for (turn, made) in states.iter().enumerate() {
             let words = written_over(&loaded, &made.pokes);
             let result = self
-                .judge("hand-made", made, &words)
-                .and_then(|()| self.call_all("hand-made", made, &words, &calls))
+                .judge(group, made, &words)
+                .and_then(|()| self.call_all(group, made, &words, &calls))
                 .and_then(|()| self.call_on_short_slices(made, &words))
-                .and_then(|()| self.call_lists("hand-made", made, &words, &lists, turn))
+                .and_then(|()| self.call_lists(group, made, &words, &lists, turn))
                 .and_then(|()| self.call_without_sheet(made, &words));
             self.count(result, || format!("{} {:?}", made.name, &made.pokes[..made.pokes.len().min(20)]));
         }
@@ -528,9 +538,9 @@ impl<C: Calls> Runner<'_, C> {
         Ok(())
     }
 
-    fn run_hand_made_cycles(&mut self) {
-        for made in hand_made_cycles() {
-            let result = self.run_hand_made_cycle(&made);
+    pub fn run_cycles(&mut self, cycles: &[HandMadeCycle]) {
+        for made in cycles {
+            let result = self.run_hand_made_cycle(made);
             self.count(result, || format!("{} {:?}", made.name, made.pokes));
         }
     }
@@ -822,7 +832,7 @@ fn unloaded_for(plan: &Plan) -> Words {
 }
 
 /// What a state meets in a cycle.
-fn met_name(read: &Result<Machine, Vec<Clause>>) -> String {
+pub fn met_name(read: &Result<Machine, Vec<Clause>>) -> String {
     match read {
         Err(broken) if broken.len() == 1 => format!("13 by {:?} alone", broken[0]),
         Err(_) => "13 by several clauses".to_string(),
@@ -851,7 +861,7 @@ pub fn snapshot(session: u64) -> (Words, Machine, Plan) {
 
 /// A register written over, or some that stand beside each other, with values that are mostly
 /// near the bounds of what is sound.
-fn some_pokes(random: &mut Random, machine: &Machine) -> Vec<(usize, u32)> {
+pub fn some_pokes(random: &mut Random, machine: &Machine) -> Vec<(usize, u32)> {
     let circuits = machine.senders.len();
     match random.between(0, 19) {
         0..=7 => some_cell_pokes(random, machine),
@@ -931,7 +941,7 @@ fn some_sheet_pokes(random: &mut Random, machine: &Machine) -> Vec<(usize, u32)>
 
 /// A sound value for every register, with as many words on their way as there can be: each
 /// input of a router has an output of its own, a payload word has its choice or its packet.
-fn filled_registers(random: &mut Random, machine: &Machine) -> Vec<(usize, u32)> {
+pub fn filled_registers(random: &mut Random, machine: &Machine) -> Vec<(usize, u32)> {
     let memory_words = machine.sheet.memory_words() as u32;
     let mut pokes = Vec::new();
     for node in 0..machine.nodes.len() {
@@ -966,7 +976,7 @@ fn filled_registers(random: &mut Random, machine: &Machine) -> Vec<(usize, u32)>
 }
 
 /// A cell with any mark; a header has a kind that travels.
-fn some_cell(random: &mut Random) -> Cell {
+pub fn some_cell(random: &mut Random) -> Cell {
     let mark = random.between(EMPTY, LAST);
     let word = match mark {
         HEADER => random.choose(&[DATA, INTERRUPT]) << 30 | random.word() >> 2,

@@ -9,7 +9,7 @@ use super::hand_made_travelling::{hand_made_busy, hand_made_flights, HandMadeBus
 use super::lent::Row;
 use super::machine::{Machine, Transfer, DATA, HEADER, INTERRUPT, MEMORY, PORTS, SOURCE};
 use super::pokes::{snapshot, written_over, Runner};
-use super::sheets::{route_of, shortest_path, Plan, Random};
+use super::sheets::{is_vertical, route_of, shortest_path, Plan, Random};
 use super::travelling::Place;
 use super::words::Words;
 use std::ops::Range;
@@ -44,13 +44,15 @@ const OF_HEADERS: [(&str, &str); 16] = [
 ];
 
 /// The others, by what is varied.
-const OF_OTHERS: [(&str, &str, &str); 29] = [
+const OF_OTHERS: [(&str, &str, &str); 31] = [
     ("head", "no choice", FREE),
     ("head", "no choice, one is held", FREE),
     ("head", "choice, another is held", BUSY),
     ("head", "eight codes taken off, then zeros", BUSY),
     ("out", "eight codes taken off, then zeros", BUSY),
     ("link", "zeros among the codes", BUSY),
+    ("extra", "of another output", FREE),
+    ("extra", "on short links", FREE),
     ("receive unit", "next address before the region", FREE),
     ("receive unit", "next address is the first", BUSY),
     ("receive unit", "next address is the last", BUSY),
@@ -88,7 +90,7 @@ fn aimed_name(form: &str, answer: &str) -> String {
 pub fn are_met(coverage: &Coverage) -> bool {
     let mut names = Vec::new();
     for form in ["start", "start all", "start lists"] {
-        for place in ["link", "head", "out"] {
+        for place in ["link", "head", "out", "extra"] {
             names.extend(OF_HEADERS.map(|(name, answer)| name_of(form, place, name, answer)));
         }
         names.extend(OF_OTHERS.map(|(place, name, answer)| name_of(form, place, name, answer)));
@@ -119,7 +121,7 @@ fn text_of(number: u32) -> &'static str {
 /// about it from the second machine.
 pub fn is_noticed_by_starts(tested: &mut impl Calls) -> bool {
     let mut runner = Runner::new(tested);
-    runner.run_hand_made_busy(true);
+    runner.run_busy(&hand_made_busy(), true);
     if !runner.is_noticed() {
         runner.run_flights();
     }
@@ -141,8 +143,7 @@ fn one_word(plan: &Plan, circuit: usize) -> Transfer {
 
 impl<C: Calls> Runner<'_, C> {
     /// All of them, or up to the first that is not as it was made for.
-    pub fn run_hand_made_busy(&mut self, until_noticed: bool) {
-        let states = hand_made_busy();
+    pub fn run_busy(&mut self, states: &[HandMadeBusy], until_noticed: bool) {
         let mut loaded = self.loaded(&states[0].plan);
         for (turn, made) in states.iter().enumerate() {
             if turn > 0 && !Rc::ptr_eq(&made.plan, &states[turn - 1].plan) {
@@ -338,6 +339,11 @@ fn some_arrival(random: &mut Random, plan: &Plan) -> Vec<(usize, u32)> {
         let path = shortest_path(random, plan, node, circuit.destination);
         (path[0], route_of(&path) >> 2)
     };
+    if plan.long_links && is_vertical(output) && random.once_in(3) {
+        let header = random.choose(&[DATA, INTERRUPT]) << 30 | (address & 0x3FFF) << 16 | behind;
+        let at = |row: Row| row.of_port(node as usize, output as usize);
+        return vec![(at(Row::ExtraMark), HEADER), (at(Row::ExtraWord), header)];
+    }
     some_header(random, node as usize, output, behind, address & 0x3FFF)
 }
 

@@ -99,6 +99,8 @@ pub struct Word {
 
 pub struct Reckoning {
     pub hops: u64,
+    /// Hops over long vertical links; 0 on a grid without them.
+    pub vertical_hops: u64,
     slots: Vec<Vec<Slot>>,
     calendar: Calendar,
     /// Cycles carried out since the load.
@@ -118,6 +120,12 @@ pub struct Reckoning {
     receive_region: Region,
 }
 
+/// The shorter way round in rows: as many vertical hops has a route that takes no more hops than the distance.
+fn row_steps(sheet: &Sheet, source: u64, destination: u64) -> u64 {
+    let apart = (source / sheet.columns).abs_diff(destination / sheet.columns);
+    apart.min(sheet.rows - apart)
+}
+
 impl Reckoning {
     /// The circuit directly after a load of the sheet on the lent memory.
     pub fn new(sheet: &Sheet, circuit: usize, memory: &[u32]) -> Reckoning {
@@ -129,6 +137,7 @@ impl Reckoning {
         let region = |node, offset, length| Region::new(node, offset, length, memory, sheet.memory_words);
         Reckoning {
             hops: distance(sheet, record.source, record.destination),
+            vertical_hops: if sheet.long_links { row_steps(sheet, record.source, record.destination) } else { 0 },
             slots: (0..sheet.schedules.len()).map(slots_in).collect(),
             calendar: Calendar::new(sheet),
             cycles: 0,
@@ -231,7 +240,7 @@ impl Reckoning {
 
     /// The cycles from a word's leaving to its landing.
     fn flight(&self) -> u64 {
-        3 * (self.hops + 1)
+        3 * (self.hops + 1) + self.vertical_hops
     }
 
     /// Cycle calls until the last word that left has landed, 0 or fewer where it has; nothing where none left.

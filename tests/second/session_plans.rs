@@ -1,12 +1,13 @@
 //! The sheets of the sessions, by style.
 
-use super::sheets::{all_shortest_paths, serve_unserved, some_schedule, wished_plan, Plan, Random, Wish};
+use super::sheets::{all_shortest_paths, serve_unserved, some_schedule, wished_plan, Grid, Plan, Random, Wish};
 
 /// What the usual sheets are like: crowded.
-fn usual_wish(random: &mut Random, columns: u32, rows: u32) -> Wish {
+fn usual_wish(random: &mut Random, grid: Grid) -> Wish {
     Wish {
-        columns,
-        rows,
+        columns: grid.columns,
+        rows: grid.rows,
+        long_links: grid.long_links,
         memory_words: random.between(12, 64),
         circuits: random.between(3, 18),
         longest_region: random.between(2, 12),
@@ -18,8 +19,8 @@ fn usual_wish(random: &mut Random, columns: u32, rows: u32) -> Wish {
 }
 
 /// Sheets by style; more than half are usual ones of short periods.
-pub fn plan_of_style(random: &mut Random, columns: u32, rows: u32, style: u64) -> Plan {
-    let usual = usual_wish(random, columns, rows);
+pub fn plan_of_style(random: &mut Random, grid: Grid, style: u64) -> Plan {
+    let usual = usual_wish(random, grid);
     let some = random.between(1, 4);
     let (wish, schedules, shortest, longest) = match style {
         14 | 15 => {
@@ -49,15 +50,15 @@ pub fn plan_of_style(random: &mut Random, columns: u32, rows: u32, style: u64) -
 
 /// Sheets for the sessions behind `TRAVELLING_FROM`: short slots in periods so short that words of three hops and more
 /// land after the period's end.
-pub fn plan_of_short_periods(random: &mut Random, columns: u32, rows: u32) -> Plan {
+pub fn plan_of_short_periods(random: &mut Random, grid: Grid) -> Plan {
     let circuits = random.between(6, 20);
-    let plan = plan_of_circuits(random, columns, rows, circuits);
+    let plan = plan_of_circuits(random, grid, circuits);
     with_short_periods(random, plan)
 }
 
 /// One of these in which most circuits go four hops.
 pub fn plan_of_four_hops(random: &mut Random) -> Plan {
-    let mut plan = plan_of_circuits(random, 4, 4, 64);
+    let mut plan = plan_of_circuits(random, Grid { columns: 4, rows: 4, long_links: false }, 64);
     let all = plan.clone();
     let mut others = 0;
     plan.circuits.retain(|circuit| {
@@ -68,10 +69,11 @@ pub fn plan_of_four_hops(random: &mut Random) -> Plan {
     with_short_periods(random, plan)
 }
 
-fn plan_of_circuits(random: &mut Random, columns: u32, rows: u32, circuits: u32) -> Plan {
+pub fn plan_of_circuits(random: &mut Random, grid: Grid, circuits: u32) -> Plan {
     let wish = Wish {
-        columns,
-        rows,
+        columns: grid.columns,
+        rows: grid.rows,
+        long_links: grid.long_links,
         memory_words: random.between(16, 40),
         circuits,
         longest_region: random.between(2, 5),
@@ -83,9 +85,14 @@ fn plan_of_circuits(random: &mut Random, columns: u32, rows: u32, circuits: u32)
     wished_plan(random, &wish)
 }
 
-fn with_short_periods(random: &mut Random, mut plan: Plan) -> Plan {
+fn with_short_periods(random: &mut Random, plan: Plan) -> Plan {
+    with_periods(random, plan, 11, 14)
+}
+
+/// The plan with crowded schedules of such periods.
+pub fn with_periods(random: &mut Random, mut plan: Plan, shortest: u32, longest: u32) -> Plan {
     for _ in 0..random.between(2, 4) {
-        let (period, entries) = (random.between(11, 14), random.between(10, 30));
+        let (period, entries) = (random.between(shortest, longest), random.between(10, 30));
         let length = random.between(2, 3);
         let schedule = some_schedule(random, &plan, period, entries, Some(length));
         plan.schedules.push(schedule);

@@ -12,19 +12,21 @@
 //! 1 to 12, 14 and 26; states and memories lent too short or too long; the idle network, loaded
 //! by no words at first or in the midst; period numbers that wrap, for which the first period's
 //! number is written into the state directly after the load, the only word that no call has
-//! written; in the sessions behind `LISTS_FROM` lists of transfers too (lists.rs), and behind
-//! `TRAVELLING_FROM` many starts of circuits whose words travel.
+//! written; in the sessions behind `LISTS_FROM` lists of transfers too (lists.rs), behind
+//! `TRAVELLING_FROM` many starts of circuits whose words travel, and behind `LONG_LINKS_FROM` long
+//! vertical links (sessions_long.rs).
 //! Not covered: other states that no calls lead to (tests/states.rs has those, with unserved
 //! circuits too), and switches between schedules of more than some hundred cycles, which three
 //! periods would make long.
 
 use super::calls::Call;
-use super::lent::{MOVING_WORDS, STATE_WORDS};
+use super::lent::{MOVING_WORDS, ROW_WORDS, STATE_WORDS};
 use super::machine::{Machine, Transfer, DATA, INTERRUPT};
 use super::near_misses::{add_fault, GRIDS};
 use super::session_plans::{plan_of_four_hops, plan_of_short_periods, plan_of_style};
+use super::sessions_long::Style;
 use super::sessions_travelling::Aim;
-use super::sheets::{idle_network, largest, Plan, Random};
+use super::sheets::{idle_network, largest, Grid, Plan, Random};
 use super::words::{Lent, Words};
 
 /// Words behind the published length of a state and behind a memory.
@@ -46,8 +48,10 @@ const FOUR_HOPS_EVERY: u64 = 2;
 /// From here on sessions are as at first, and every so many load no words first.
 pub const FURTHER_FROM: u64 = TRAVELLING_FROM + 72;
 const NO_WORDS_EVERY: u64 = 4;
+/// From here on vertical links are long, and mostly circuits are started while their words travel.
+pub const LONG_LINKS_FROM: u64 = FURTHER_FROM + 36;
 /// All sessions.
-pub const SESSIONS: u64 = FURTHER_FROM + 36;
+pub const SESSIONS: u64 = LONG_LINKS_FROM + 1_000;
 /// Every so many of the sessions with lists begin on the idle network.
 const LISTS_ON_IDLE_EVERY: u64 = 13;
 
@@ -109,21 +113,29 @@ impl Generator {
     pub fn new(session: u64) -> Generator {
         let mut random = Random::new(0x5E55_1000 + session);
         let (columns, rows) = GRIDS[session as usize % GRIDS.len()];
+        let grid = Grid { columns, rows, long_links: false };
         let style = session / GRIDS.len() as u64 % 24;
         let is_largest = (LARGEST_FROM..NO_WORDS_FROM).contains(&session);
-        let about_landings = (TRAVELLING_FROM..FURTHER_FROM).contains(&session);
-        let four_hops = about_landings && session % FOUR_HOPS_EVERY == 0;
-        let plan = match (is_largest, about_landings) {
-            (true, _) => largest(session),
-            (_, true) if four_hops => plan_of_four_hops(&mut random),
-            (_, true) => plan_of_short_periods(&mut random, columns, rows),
-            _ => plan_of_style(&mut random, columns, rows, style),
+        let long_style = session.checked_sub(LONG_LINKS_FROM).map(Style::of);
+        let about_landings = match long_style {
+            Some(style) => style != Style::Usual,
+            None => (TRAVELLING_FROM..FURTHER_FROM).contains(&session),
         };
-        let (other_columns, other_rows) = random.choose(&GRIDS);
-        let other = plan_of_style(&mut random, other_columns, other_rows, 0);
+        let four_hops = about_landings && long_style.is_none() && session % FOUR_HOPS_EVERY == 0;
+        let plan = match long_style {
+            Some(long_style) => long_style.plan(&mut random, columns, rows),
+            None if is_largest => largest(session),
+            None if four_hops => plan_of_four_hops(&mut random),
+            None if about_landings => plan_of_short_periods(&mut random, grid),
+            None => plan_of_style(&mut random, grid, style),
+        };
+        let (columns, rows) = random.choose(&GRIDS);
+        let long_links = long_style.is_some() && random.once_in(2);
+        let other = plan_of_style(&mut random, Grid { columns, rows, long_links }, 0);
         let mut plans = vec![plan, other];
         let has_lists = (LISTS_FROM..TRAVELLING_FROM).contains(&session);
         let idle = match session {
+            LONG_LINKS_FROM.. => None,
             FURTHER_FROM.. => (session % NO_WORDS_EVERY == 0).then_some(0),
             TRAVELLING_FROM.. => None,
             LISTS_FROM.. => (session % LISTS_ON_IDLE_EVERY == 0).then_some(0),
@@ -135,16 +147,19 @@ impl Generator {
             plans[idle] = idle_network();
         }
         let state_words = STATE_WORDS + random.choose(&[0, 0, 0, 1, SPARE_WORDS]);
-        let cycles = match (is_largest, has_lists || about_landings) {
-            (true, _) => 300,
-            (_, true) if about_landings => random.between(55, 80),
-            (_, true) => random.between(20, 50),
-            _ => random.between(40, 170),
+        let cycles = match long_style {
+            Some(long_style) if long_style.switches_soon() => random.between(60, 84),
+            Some(_) => random.between(36, 56),
+            None if is_largest => 300,
+            None if about_landings => random.between(55, 80),
+            None if has_lists => random.between(20, 50),
+            None => random.between(40, 170),
         };
         let wraps = random.once_in(if idle == Some(0) { 2 } else { 6 });
         let first_period = wraps.then(|| u32::MAX - random.between(0, 4));
         let to_start = plans[0].circuits.len();
-        let aim = if about_landings { Aim::at_landings(four_hops) } else { Aim::default() };
+        let switches_soon = long_style.map_or(four_hops, Style::switches_soon);
+        let aim = if about_landings { Aim::at_landings(switches_soon) } else { Aim::default() };
         Generator { random, plans, idle, current: 0, to_start, has_lists, aim, state_words, cycles, first_period }
     }
 
@@ -208,10 +223,15 @@ impl Generator {
             92..=94 => self.order(machine),
             95 => self.refused_order(machine),
             96 => self.refused_load(),
-            97 if self.random.once_in(if self.idle.is_some() { 2 } else { 12 }) => self.further_load(),
+            97 if self.random.once_in(if self.loads_often() { 2 } else { 12 }) => self.further_load(),
             97 => self.made("cycle", Call::Cycle, 0),
             _ => self.wrong_buffers(machine),
         }
+    }
+
+    /// Where the sheets of the session are of two sorts.
+    fn loads_often(&self) -> bool {
+        self.idle.is_some() || self.plans.iter().any(|plan| plan.long_links)
     }
 
     /// A right start, mostly of a circuit that is free. Nothing to start: a cycle.
@@ -538,7 +558,8 @@ impl Generator {
 
     pub fn short_state(&mut self) -> usize {
         let any = self.random.position(STATE_WORDS);
-        self.random.choose(&[0, 1, MOVING_WORDS, MOVING_WORDS + 1, STATE_WORDS - 1, any])
+        // The last but one would do without the rows of extra registers.
+        self.random.choose(&[0, 1, MOVING_WORDS, MOVING_WORDS + 1, STATE_WORDS - 1, STATE_WORDS - 2 * ROW_WORDS, any])
     }
 
     /// A memory of another length than the sheet asks for.

@@ -53,6 +53,9 @@ impl Aim {
         let period = (machine.period_number(), machine.clock.schedule);
         if period.0 != self.period.0 {
             self.is_switched = period.1 != self.period.1;
+            if self.is_switched && self.switches_soon {
+                self.planned.push_back(Planned::Order);
+            }
         }
         self.period = period;
     }
@@ -84,7 +87,8 @@ impl Generator {
         if !self.aim.is_wanted {
             return None;
         }
-        if self.random.once_in(100) {
+        // A load puts a switch off.
+        if self.random.once_in(if self.aim.switches_soon { 250 } else { 100 }) {
             return Some(self.load_again());
         }
         let waits = |&circuit: &usize| machine.senders[circuit].left == 0 && machine.is_busy(circuit);
@@ -123,8 +127,20 @@ impl Generator {
             Planned::Again(start) => self.start_in_any_form(start, machine),
             Planned::Between(circuit) => self.call_between(circuit, machine),
             Planned::ListOfEveryCircuit => self.list_of_every_circuit(machine),
-            Planned::Order => self.order(machine),
+            Planned::Order => self.switch(machine),
         }
+    }
+
+    /// An order of another schedule, as soon as it may come.
+    fn switch(&mut self, machine: &Machine) -> Made {
+        let others: Vec<u32> =
+            (0..self.plan().schedules.len() as u32).filter(|&schedule| schedule != machine.clock.schedule).collect();
+        if others.is_empty() || machine.clock.order.mark == 1 {
+            return self.order(machine);
+        }
+        let schedule = self.random.choose(&others);
+        let period_number = machine.period_number().wrapping_add(3);
+        self.made("order", Call::Order { schedule, period_number }, 0)
     }
 
     /// A store into the circuit's regions, an order, a question about it, or a call that is refused.

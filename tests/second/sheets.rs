@@ -68,11 +68,21 @@ pub struct Schedule {
     pub entries: Vec<Entry>,
 }
 
+/// The routers of a sheet.
+#[derive(Clone, Copy, Debug, PartialEq, Eq)]
+pub struct Grid {
+    pub columns: u32,
+    pub rows: u32,
+    pub long_links: bool,
+}
+
 /// A sheet before it is written out as words.
 #[derive(Clone)]
 pub struct Plan {
     pub columns: u32,
     pub rows: u32,
+    /// Whether a vertical hop takes a cycle more (document 02, L7).
+    pub long_links: bool,
     pub memory_words: u32,
     pub circuits: Vec<Circuit>,
     pub schedules: Vec<Schedule>,
@@ -91,8 +101,10 @@ impl Plan {
     }
 
     pub fn words(&self) -> Vec<u32> {
+        // Rows that are out of range may wrap; they stay out of range.
+        let rows = if self.long_links { self.rows.wrapping_add(256) } else { self.rows };
         let mut words =
-            vec![self.columns, self.rows, self.memory_words, self.circuits.len() as u32, self.schedules.len() as u32];
+            vec![self.columns, rows, self.memory_words, self.circuits.len() as u32, self.schedules.len() as u32];
         for circuit in &self.circuits {
             words.extend([
                 circuit.source,
@@ -187,9 +199,19 @@ impl Plan {
         columns[0].1 + rows[0].1
     }
 
-    /// Offset + length − 1 + 3 × hops, which document 01, number 10 bounds.
+    /// The cycles that the hops of a right route take.
+    pub fn delay(&self, entry: &Entry) -> u32 {
+        self.delay_of(&path_of(self, entry))
+    }
+
+    /// Three a hop, and one more a vertical hop where vertical links are long.
+    pub fn delay_of(&self, path: &[u32]) -> u32 {
+        path.iter().map(|&side| if self.long_links && is_vertical(side) { 4 } else { 3 }).sum()
+    }
+
+    /// Offset + length − 1 and the cycles of the hops, which number 10 bounds.
     pub fn reach(&self, entry: &Entry) -> u32 {
-        entry.offset + entry.length - 1 + 3 * self.hops(entry)
+        entry.offset + entry.length - 1 + self.delay(entry)
     }
 }
 
@@ -203,6 +225,10 @@ pub const NORTH: u32 = 0;
 pub const EAST: u32 = 1;
 pub const SOUTH: u32 = 2;
 pub const WEST: u32 = 3;
+
+pub fn is_vertical(side: u32) -> bool {
+    side == NORTH || side == SOUTH
+}
 
 pub fn opposite(side: u32) -> u32 {
     (side + 2) % 4
@@ -315,20 +341,29 @@ pub struct Use {
 }
 
 pub fn uses(plan: &Plan, source: u32, path: &[u32], offset: u32) -> Vec<Use> {
-    let at = |node: u32, output: u32, kind: WireKind, place: usize| Use {
+    let at = |node: u32, output: u32, kind: WireKind, place: usize, cycle: u32| Use {
         wire: (6 * node + output) as usize,
         kind,
         place: place as u32,
-        cycle: offset + 3 * place as u32,
+        cycle,
     };
-    let mut list = vec![at(source, 4, WireKind::Source, 0)];
+    let mut list = vec![at(source, 4, WireKind::Source, 0, offset)];
     let mut node = source;
+    let mut cycle = offset + 3;
     for (position, &side) in path.iter().enumerate() {
-        list.push(at(node, side, WireKind::Side, position + 1));
+        list.push(at(node, side, WireKind::Side, position + 1, cycle));
         node = neighbour(plan, node, side);
+        // A long link is behind its side output.
+        cycle += plan.delay_of(&[side]);
     }
-    list.push(at(node, 5, WireKind::Memory, path.len() + 1));
+    list.push(at(node, 5, WireKind::Memory, path.len() + 1, cycle));
     list
+}
+
+/// The wires of an entry with a right route.
+fn uses_of(plan: &Plan, entry: &Entry) -> Vec<Use> {
+    let source = plan.circuits[entry.circuit as usize].source;
+    uses(plan, source, &path_of(plan, entry), entry.offset)
 }
 
 /// The path of a right route.
@@ -352,10 +387,14 @@ impl Occupied {
     pub fn of(plan: &Plan, schedule: &Schedule) -> Occupied {
         let mut occupied = Occupied::new(plan);
         for entry in &schedule.entries {
-            let source = plan.circuits[entry.circuit as usize].source;
-            occupied.mark(&uses(plan, source, &path_of(plan, entry), entry.offset), entry.length);
+            occupied.mark(&uses_of(plan, entry), entry.length);
         }
         occupied
+    }
+
+    /// Takes an entry's slot where all of it is free; whether it was.
+    pub fn take_entry(&mut self, plan: &Plan, entry: &Entry) -> bool {
+        self.take(&uses_of(plan, entry), entry.length)
     }
 
     fn mark(&mut self, list: &[Use], length: u32) {
@@ -396,6 +435,7 @@ impl Occupied {
 pub struct Wish {
     pub columns: u32,
     pub rows: u32,
+    pub long_links: bool,
     pub memory_words: u32,
     pub circuits: u32,
     pub longest_region: u32,
@@ -460,9 +500,9 @@ fn add_circuits(random: &mut Random, plan: &mut Plan, wish: &Wish) {
     plan.sort_circuits();
 }
 
-/// The last offset that document 01, number 10 allows, where there is one.
-pub fn last_offset(period: u32, length: u32, hops: u32) -> Option<u32> {
-    (period + 2).checked_sub(length - 1 + 3 * hops)
+/// The last offset that number 10 allows where the hops take so many cycles, if there is one.
+pub fn last_offset(period: u32, length: u32, delay: u32) -> Option<u32> {
+    (period + 2).checked_sub(length - 1 + delay)
 }
 
 pub fn some_schedule(random: &mut Random, plan: &Plan, period: u32, aim: u32, length: Option<u32>) -> Schedule {
@@ -485,7 +525,7 @@ pub fn some_schedule(random: &mut Random, plan: &Plan, period: u32, aim: u32, le
             2 => 3,
             _ => random.between(2, 16),
         });
-        let Some(last) = last_offset(period, length, path.len() as u32) else {
+        let Some(last) = last_offset(period, length, plan.delay_of(&path)) else {
             continue;
         };
         let offset = match random.between(0, 7) {
@@ -537,7 +577,7 @@ pub fn serve_unserved(random: &mut Random, plan: &mut Plan) {
             let schedule = random.choose(&schedules);
             let path = shortest_path(random, plan, source, destination);
             let Schedule { period, entries } = &plan.schedules[schedule];
-            let Some(last) = last_offset(*period, length, path.len() as u32).filter(|_| entries.len() < 256) else {
+            let Some(last) = last_offset(*period, length, plan.delay_of(&path)).filter(|_| entries.len() < 256) else {
                 continue;
             };
             let offset = random.between(0, last);
@@ -556,6 +596,7 @@ pub fn wished_plan(random: &mut Random, wish: &Wish) -> Plan {
     let mut plan = Plan {
         columns: wish.columns,
         rows: wish.rows,
+        long_links: wish.long_links,
         memory_words: wish.memory_words,
         circuits: Vec::new(),
         schedules: Vec::new(),
@@ -585,6 +626,7 @@ fn passing_plans_of_grid(random: &mut Random, columns: u32, rows: u32) -> Vec<Pl
             let wish = Wish {
                 columns,
                 rows,
+                long_links: false,
                 memory_words: random.choose(&[1, 2, 16_384]),
                 circuits: 0,
                 longest_region: 1,
@@ -624,6 +666,7 @@ fn passing_plans_of_grid(random: &mut Random, columns: u32, rows: u32) -> Vec<Pl
         let wish = Wish {
             columns,
             rows,
+            long_links: false,
             memory_words,
             circuits,
             longest_region,
@@ -674,6 +717,7 @@ pub fn sixty_four_circuits(schedules: usize) -> Plan {
     Plan {
         columns: 4,
         rows: 4,
+        long_links: false,
         memory_words: 16,
         circuits: (0..64).map(circuit).collect(),
         schedules: vec![Schedule { period: 9, entries: Vec::new() }; schedules],
@@ -684,9 +728,21 @@ pub fn sixty_four_circuits(schedules: usize) -> Plan {
 /// circuit goes to the node two columns and two rows away, so that every slot has four
 /// hops, and every slot has sixteen words.
 pub fn largest(seed: u64) -> Plan {
+    largest_on(seed, false)
+}
+
+/// The same on links of either kind.
+pub fn largest_on(seed: u64, long_links: bool) -> Plan {
     let mut random = Random::new(seed);
     let region = 2_048;
-    let mut plan = Plan { columns: 4, rows: 4, memory_words: 8 * region, circuits: Vec::new(), schedules: Vec::new() };
+    let mut plan = Plan {
+        columns: 4,
+        rows: 4,
+        long_links,
+        memory_words: 8 * region,
+        circuits: Vec::new(),
+        schedules: Vec::new(),
+    };
     for destination in 0..16 {
         let source = (destination / 4 + 2) % 4 * 4 + (destination % 4 + 2) % 4;
         for number in 0..4 {
@@ -717,7 +773,7 @@ fn full_schedule(random: &mut Random, plan: &Plan) -> Schedule {
         let circuit = turn % 16 * 4 + turn / 16 % 4;
         let Circuit { source, destination, .. } = plan.circuits[circuit];
         let path = shortest_path(random, plan, source, destination);
-        let last = last_offset(period, length, path.len() as u32).expect("a period of 1,024");
+        let last = last_offset(period, length, plan.delay_of(&path)).expect("a period of 1,024");
         // The first slots lie at the limits.
         let offset = match schedule.entries.len() {
             0..=7 => random.choose(&[0, last]),
@@ -739,6 +795,7 @@ pub fn largest_mixed(seed: u64) -> Plan {
         let wish = Wish {
             columns: 4,
             rows: 4,
+            long_links: false,
             memory_words: 16_384,
             circuits: 64,
             longest_region: 400,
@@ -761,6 +818,7 @@ pub fn middle(seed: u64) -> Plan {
         let wish = Wish {
             columns: 4,
             rows: 4,
+            long_links: false,
             memory_words: 1_024,
             circuits: 30,
             longest_region: 64,
@@ -781,6 +839,7 @@ pub fn sheet_a() -> Plan {
     Plan {
         columns: 2,
         rows: 2,
+        long_links: false,
         memory_words: 8,
         circuits: vec![Circuit {
             source: 0,
@@ -799,6 +858,7 @@ pub fn idle_network() -> Plan {
     Plan {
         columns: 2,
         rows: 2,
+        long_links: false,
         memory_words: 1,
         circuits: Vec::new(),
         schedules: vec![Schedule { period: 9, entries: Vec::new() }],

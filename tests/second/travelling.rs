@@ -2,7 +2,9 @@
 //! have led to: every header is followed to the memory that it comes to, and the receive units say what arrives.
 
 use super::checker::Side;
-use super::machine::{address_of, lies_within, output_of, shifted, Cell, Machine, HEADER, MEMORY, PORTS};
+use super::machine::{
+    address_of, lies_within, output_of, shifted, Cell, Machine, HEADER, MEMORY, PORTS, VERTICAL_SIDES,
+};
 
 /// Where a packet was found.
 #[derive(Clone, Copy, Debug, PartialEq, Eq)]
@@ -10,6 +12,7 @@ pub enum Place {
     Link,
     Head,
     Out,
+    Extra,
     Receiver,
 }
 
@@ -51,6 +54,10 @@ impl Machine {
             }
             for (output, &cell) in node.outputs.iter().enumerate() {
                 all.extend(self.arrival(Place::Out, cell, number, output, cell.word));
+            }
+            // Elsewhere than on long links nothing is in them.
+            for (side, cell) in VERTICAL_SIDES.into_iter().zip(node.extras) {
+                all.extend(self.arrival(Place::Extra, cell, number, side, cell.word));
             }
         }
         all

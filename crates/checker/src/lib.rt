@@ -53,9 +53,9 @@ fn schedules_number(z: &[u32]) -> u32
 {
     if sheet::keeps_rule7(z) {
         if sheet::keeps_rule8(z) {
-            let distances = routes::circuit_distances(z);
-            if routes::keeps_rule9(z, &distances) {
-                if routes::keeps_rule10(z, &distances) {
+            let spans = routes::circuit_spans(z);
+            if routes::keeps_rule9(z, &spans) {
+                if routes::keeps_rule10(z, &spans) {
                     if clash::keeps_rule11(z) {
                         return 0;
                     }

@@ -1,10 +1,10 @@
 -- An entry that has passed the rules 9 and 10: its wires lie in the table, its places are those of its route, and two entries meet
 -- exactly where their places share one.
 -- Assumes nothing.
-use Prim.Native.Nat.{ℕ, _+_, _-_, _*_, _<_, _≤_}
+use Prim.Native.Nat.{ℕ, _+_, _*_, _<_, _≤_}
 use mathlib.Core.Bool.{Bool, true, false, not, false≢true}
 use mathlib.Core.List.{List, map}
-use mathlib.Core.Path.{_≡_, refl, sym, _∙_, ap, ap₂, subst}
+use mathlib.Core.Path.{_≡_, refl, sym, _∙_, ap, subst}
 use native.Mathlib.Omega.{arith}
 use native.Mathlib.Nat.{zero-add}
 use lib.ListN.{length, replicate, length-map, length-replicate}
@@ -21,7 +21,7 @@ use Rattle.torus.specs.declared.Path.{Path}
 use Rattle.torus.proofs.RouteLaws.{SmallUses, wiresOf, delaysOf, uses-small, uses-length, hops-high, wires-small, delays-small}
 use Rattle.sheet.specs.declared.entries.Entry.{Entry}
 use Rattle.sheet.specs.declared.circuits.Circuit.{Circuit}
-use Rattle.sheet.specs.Sheet.{columns, rows, nodes, schedules, circuitAt, period, entriesOf, entryCount, entryAt}
+use Rattle.sheet.specs.Sheet.{columns, rows, isLong, nodes, schedules, circuitAt, period, entriesOf, entryCount, entryAt}
 use Rattle.sheet.specs.Wires.{occupied, meet}
 use Rattle.sheet.specs.Slots.{destinationOf}
 use Rattle.sheet.specs.Flight.{hopsOf}
@@ -34,13 +34,14 @@ use Rattle.clash.specs.Inner.Table.{placeOf, entryPlaces, places, Held, 
 use Rattle.clash.proofs.ShareLaws.{share, HoldsPlaces, holds-none, holds-more, free-where}
 use Rattle.clash.proofs.WireLaws.{Fitting, meet-places, packet-places, fitting-packet, row-ends}
 
-module _ (long : ℕ) (z : List ℕ) (e : Entry) (stride : ℕ) (p : Placeable long z e stride) where
+module _ (room : ℕ) (z : List ℕ) (e : Entry) (stride : ℕ) (p : Placeable room z e stride) where
   -- the route leads somewhere
   record LeadingEntry : Type 0 where
     uses : List Use
     node : ℕ
     hops : ℕ
-    route : entryRoute z e ≡ leads uses node hops
+    vertical : ℕ
+    route : entryRoute z e ≡ leads uses node hops vertical
 
   leading : LeadingEntry
   unfolding entryLeads
@@ -48,25 +49,25 @@ module _ (long : ℕ) (z : List ℕ) (e : Entry) (stride : ℕ) (p : Placeable l
     where
       go : (r : Route) → entryRoute z e ≡ r
           → reaches r (destinationOf z (e .circuit)) (hopsOf z (e .circuit)) ≡ true → LeadingEntry
-      go (leads uses node hops) q h = record { uses = uses; node = node; hops = hops; route = q }
+      go (leads uses node hops vertical) q h = record { uses = uses; node = node; hops = hops; vertical = vertical; route = q }
       go nowhere q h = absurd (false≢true h)
 
   module _ (l : LeadingEntry) where
     -- the delay of the route's last use
     abbrev last : ℕ
-    last = lastDelay (leads (l .uses) (l .node) (l .hops))
+    last = lastDelay (leads (l .uses) (l .node) (l .hops) (l .vertical))
 
     small : SmallUses (nodes z * 6) last (l .uses)
     unfolding entryRoute
-    small = uses-small _ _ _ _ (p .source-inside) _ _ _ (l .route)
+    small = uses-small _ _ _ _ _ (p .source-inside) _ _ _ _ (l .route)
 
     counted : length (l .uses) ≡ l .hops + 2
     unfolding entryRoute
-    counted = uses-length _ _ _ _ (p .source-inside) _ _ _ (l .route)
+    counted = uses-length _ _ _ _ _ (p .source-inside) _ _ _ _ (l .route)
 
     few : l .hops ≤ 7
     unfolding entryRoute
-    few = hops-high _ _ _ _ (p .source-inside) _ _ _ (l .route)
+    few = hops-high _ _ _ _ _ (p .source-inside) _ _ _ _ (l .route)
 
     ends : e .offset + last + e .size ≤ stride
     ends = omega (arith, p .in-time, ap lastDelay (l .route))
@@ -82,7 +83,7 @@ module _ (long : ℕ) (z : List ℕ) (e : Entry) (stride : ℕ) (p : Placeable l
 
     -- the answer of following the entry's route
     module _ (path : Path) (q : path ≡ pathOf (entryRoute z e)) where
-      path-is : path ≡ pathOf (leads (l .uses) (l .node) (l .hops))
+      path-is : path ≡ pathOf (leads (l .uses) (l .node) (l .hops) (l .vertical))
       path-is = q ∙ ap pathOf (l .route)
 
       hops-is : path .hops ≡ l .hops
@@ -101,7 +102,7 @@ module _ (long : ℕ) (z : List ℕ) (e : Entry) (stride : ℕ) (p : Placeable l
       delay-at k b =
           ap (λ (x : Path). word (x .delays) (0 + k)) path-is ∙ row (delaysOf (l .uses)) (length-map (l .uses) _) k b
 
-      held-of : Held long (path .wires) (path .delays) (path .hops + 2) stride (e .offset) (e .size)
+      held-of : Held room (path .wires) (path .delays) (path .hops + 2) stride (e .offset) (e .size)
       held-of = record {
         few = omega (arith, hops-is, few);
         stride-small = p .stride-small;
@@ -129,23 +130,18 @@ module _ (long : ℕ) (z : List ℕ) (e : Entry) (stride : ℕ) (p : Placeable l
   pub entry-fitting : Fitting stride (entryOccupied z e)
   entry-fitting = fitting leading
 
-  -- what is read of the entry's circuit and of the head, and the route followed
-  module _ (circuit : Circuit) (c : circuit ≡ circuitAt z (e .circuit)) (cols count : ℕ) (x : cols ≡ columns z) (y : count ≡ rows z) where
-    pub source-read : InGrid cols count (circuit .read .node)
-    source-read =
-        subst (λ (n : ℕ). InGrid n count (circuit .read .node)) (sym x)
-        (subst (λ (n : ℕ). InGrid (columns z) n (circuit .read .node)) (sym y)
-        (subst (λ (k : Circuit). InGrid (columns z) (rows z) (k .read .node)) (sym c) (p .source-inside)))
+  -- what is read of the entry's circuit, and the route followed
+  module _ (circuit : Circuit) (c : circuit ≡ circuitAt z (e .circuit)) where
+    pub source-read : InGrid (columns z) (rows z) (circuit .read .node)
+    source-read = subst (λ (k : Circuit). InGrid (columns z) (rows z) (k .read .node)) (sym c) (p .source-inside)
 
-    module _ (path : Path) (q : path ≡ pathOf (routeFrom cols count (circuit .read .node) (e .route))) where
+    module _ (path : Path) (q : path ≡ pathOf (routeFrom (columns z) (rows z) (isLong z) (circuit .read .node) (e .route))) where
       followed : path ≡ pathOf (entryRoute z e)
       unfolding entryRoute
       followed =
-          q
-          ∙ ap₂ (λ (a b : ℕ). pathOf (routeFrom a b (circuit .read .node) (e .route))) x y
-          ∙ ap (λ (k : Circuit). pathOf (routeFrom (columns z) (rows z) (k .read .node) (e .route))) c
+          q ∙ ap (λ (k : Circuit). pathOf (routeFrom (columns z) (rows z) (isLong z) (k .read .node) (e .route))) c
 
-      pub entry-held : Held long (path .wires) (path .delays) (path .hops + 2) stride (e .offset) (e .size)
+      pub entry-held : Held room (path .wires) (path .delays) (path .hops + 2) stride (e .offset) (e .size)
       entry-held = held-of leading path followed
 
       pub entry-places : places (path .wires) (path .delays) stride (e .offset) (e .size) 0 (path .hops + 2) ≡ entryPlaces stride z e
@@ -155,10 +151,10 @@ module _ (long : ℕ) (z : List ℕ) (e : Entry) (stride : ℕ) (p : Placeable l
       entry-hops = omega (arith, hops-is leading path followed, few leading)
 
 -- each entry of a schedule that passed the rules is such an entry
-pub placeable : (long : ℕ) (z : List ℕ) → Routed z → (j : ℕ) → j < schedules z → (i : ℕ) → i < entryCount (entriesOf z j)
-    → HoldsAllWires long z (period z j + 6) → Placeable long z (entryAt (entriesOf z j) i) (period z j + 6)
+pub placeable : (room : ℕ) (z : List ℕ) → Routed z → (j : ℕ) → j < schedules z → (i : ℕ) → i < entryCount (entriesOf z j)
+    → HoldsAllWires room z (period z j + 6) → Placeable room z (entryAt (entriesOf z j) i) (period z j + 6)
 unfolding rule9 eachEntry
-placeable long z r j h i l m =
+placeable room z r j h i l m =
     let small = entry-small z (r .ranged) j h i l in
     let leading = all-at _ (entryCount (entriesOf z j)) (all-at _ (schedules z) (r .routes-lead) j h) i l in
     record {
@@ -185,7 +181,7 @@ take-answer t u xs ys m y r e =
     }
 
 -- with the entries before it in the table, an entry is placed exactly where it meets none of them
-module _ (z : List ℕ) (j stride : ℕ) (entries : List ℕ) (long : ℕ) where
+module _ (z : List ℕ) (j stride : ℕ) (entries : List ℕ) (room : ℕ) where
   abbrev placesAt : ℕ → List ℕ
   placesAt i = entryPlaces stride z (entryAt entries i)
 
@@ -195,21 +191,21 @@ module _ (z : List ℕ) (j stride : ℕ) (entries : List ℕ) (long : ℕ) where
   -- just the first i entries of schedule j are in the table, and no two of them meet
   pub record Placing (i : ℕ) (table : List ℕ) : Type 0 where
     pub entries-are : entries ≡ entriesOf z j
-    pub each : (k : ℕ) → k < entryCount entries → Placeable long z (entryAt entries k) stride
-    pub long-is : length table ≡ long
+    pub each : (k : ℕ) → k < entryCount entries → Placeable room z (entryAt entries k) stride
+    pub room-is : length table ≡ room
     pub holds : HoldsPlaces placesAt i table
     pub apart : all i (λ k. all k (λ m. not (meetAt k m))) ≡ true
 
-  pub placing-start : (table : List ℕ) → length table ≡ long → Routed z → j < schedules z → HoldsAllWires (length table) z (period z j + 6) → Free table
+  pub placing-start : (table : List ℕ) → length table ≡ room → Routed z → j < schedules z → HoldsAllWires (length table) z (period z j + 6) → Free table
       → entries ≡ entriesOf z j → stride ≡ period z j + 6 → Placing 0 table
   placing-start table n r h m f p q =
       record {
         entries-are = p;
         each = λ k l.
-            subst (λ (x : ℕ). Placeable long z (entryAt entries k) x) (sym q)
-            (subst (λ (x : List ℕ). Placeable long z (entryAt x k) (period z j + 6)) (sym p)
-            (placeable long z r j h k (subst (λ (x : List ℕ). k < entryCount x) p l) (subst (λ (x : ℕ). HoldsAllWires x z (period z j + 6)) n m)));
-        long-is = n;
+            subst (λ (x : ℕ). Placeable room z (entryAt entries k) x) (sym q)
+            (subst (λ (x : List ℕ). Placeable room z (entryAt x k) (period z j + 6)) (sym p)
+            (placeable room z r j h k (subst (λ (x : List ℕ). k < entryCount x) p l) (subst (λ (x : ℕ). HoldsAllWires x z (period z j + 6)) n m)));
+        room-is = n;
         holds = holds-none placesAt table f;
         apart = sym (all-none _);
       }
@@ -221,14 +217,14 @@ module _ (z : List ℕ) (j stride : ℕ) (entries : List ℕ) (long : ℕ) where
       ap (λ (x : List ℕ). all (entryCount x) (λ k. all k (λ n. not (meet (entryOccupied z (entryAt x k)) (entryOccupied z (entryAt x n)))))) p
 
   module _ (i : ℕ) (table : List ℕ) (g : Placing i table) where
-    pub placing-length : length table ≡ long
-    placing-length = g .long-is
+    pub placing-length : length table ≡ room
+    placing-length = g .room-is
 
     module _ (h : i < entryCount entries) (e : Entry) (q : e ≡ entryAt entries i) where
       pub placing-next : Placeable (length table) z e stride
       placing-next =
-          subst (λ (n : ℕ). Placeable n z e stride) (sym (g .long-is))
-          (subst (λ (x : Entry). Placeable long z x stride) (sym q) (g .each i h))
+          subst (λ (n : ℕ). Placeable n z e stride) (sym (g .room-is))
+          (subst (λ (x : Entry). Placeable room z x stride) (sym q) (g .each i h))
 
       module _ (after : List ℕ) {r : Bool} (m : TakenOrKept table after (entryPlaces stride z e) r) where
         share-is : (k : ℕ) → k < i → not (share (placesAt i) (placesAt k)) ≡ not (meetAt i k)
@@ -249,7 +245,7 @@ module _ (z : List ℕ) (j stride : ℕ) (entries : List ℕ) (long : ℕ) where
             record {
               entries-are = g .entries-are;
               each = g .each;
-              long-is = t .same-length ∙ g .long-is;
+              room-is = t .same-length ∙ g .room-is;
               holds = holds-more placesAt i table after (g .holds) t;
               apart = all-more _ i (g .apart) (sym answer-is ∙ y);
             }
@@ -258,8 +254,8 @@ module _ (z : List ℕ) (j stride : ℕ) (entries : List ℕ) (long : ℕ) where
         placing-fails y =
             all-fails (λ k. all k (λ n. not (meetAt k n))) (entryCount entries) i h (sym answer-is ∙ y) ∙ rule-is (g .entries-are)
 
-        pub failed-length : r ≡ false → length after ≡ long
-        failed-length y = ap length (m .kept y) ∙ g .long-is
+        pub failed-length : r ≡ false → length after ≡ room
+        failed-length y = ap length (m .kept y) ∙ g .room-is
 
     pub placing-done : i ≤ entryCount entries → entryCount entries ≤ i → true ≡ rule11At z j
     placing-done a b =

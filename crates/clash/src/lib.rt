@@ -4,13 +4,17 @@ ghost use mathlib.Core.Path.{_≡_};
 ghost use mathlib.Core.Bool.{true};
 ghost use Prim.Native.Nat.{_+_, _*_, _<_, _≤_};
 ghost use lib.ListN.{length};
-ghost use Rattle.sheet.specs.Sheet.{schedules, period};
+ghost use Rattle.torus.specs.Inner.Grid.{InGrid};
+ghost use Rattle.torus.specs.Inner.Paths.{pathOf};
+ghost use Rattle.torus.specs.Route.{routeFrom};
+ghost use Rattle.sheet.specs.Sheet.{columns, rows, isLong, schedules, period};
 ghost use Rattle.sheet.specs.Rules.{rule11At, rule11};
 ghost use Rattle.sheet.specs.Inner.Passed.{Routed};
 ghost use Rattle.occupancy.specs.Inner.Occupancy.{anyTaken, Takes};
 ghost use Rattle.clash.specs.Inner.Table.{places, entryPlaces, Held, Free, TakenOrKept, Placeable, HoldsAllWires};
 use sheet::Circuit;
 use sheet::Entry;
+use torus::Path;
 
 // The first place of a wire that a packet occupies, in a table with so many cycles a wire.
 fn place_of(wire: u32, delay: u32, stride: usize, cycle: usize) -> usize
@@ -65,6 +69,20 @@ fn take_packet(
     }
 }
 
+// Where a route leads from a node of the sheet's grid, of whichever kind. Each kind has its own function, and this one stands in each crate that
+// asks: with one for all, the compiler puts both into it, and both become slower.
+fn route_path(z: &[u32], source: u32, route: u32) -> Path
+    requires { ⌜ InGrid (columns (now z)) (rows (now z)) source ⌝ }
+    ensures { λ r. ⌜ r ≡ pathOf (routeFrom (columns (now (z .entry))) (rows (now (z .entry))) (isLong (now (z .entry))) source route) ⌝ }
+{
+    let cols = sheet::columns_of(z);
+    let rows = sheet::rows_of(z);
+    if sheet::is_long(z) {
+        return torus::follow_long(cols, rows, source, route);
+    }
+    torus::follow_short(cols, rows, source, route)
+}
+
 // Takes the places that an entry occupies, unless one of them is taken: whether it did.
 fn place_entry(table: &mut [u32], z: &[u32], e: Entry, stride: usize) -> bool
     requires { ⌜ Placeable (length (now table)) (now z) e stride ⌝ }
@@ -72,7 +90,7 @@ fn place_entry(table: &mut [u32], z: &[u32], e: Entry, stride: usize) -> bool
 {
     let circuit = Circuit::at(z, e.circuit);
     let read = circuit.read;
-    let path = torus::follow_route(sheet::columns_of(z), sheet::rows_of(z), read.node, e.route);
+    let path = route_path(z, read.node, e.route);
     let count = (path.hops + 2) as usize;
     let wires = path.wires;
     let delays = path.delays;

@@ -9,9 +9,9 @@ use Rattle.words.specs.Tests.{_and_, _=?_}
 use Rattle.words.proofs.TestLaws.{and-no, and-on, and-skip, or-yes, or-on, or-skip, yes≤, no≤}
 use Rattle.packet.specs.Header.{addressOf, shiftedWord}
 use Rattle.sheet.specs.declared.circuits.Region.{Region}
-use Rattle.network.specs.Cycle.{outputFor}
-use Rattle.network.specs.Registers.{reg, sheetIn, linkMark, linkWord, headMark, headWord, choiceRow, outMark, outWord}
-use Rattle.network.specs.Inbound.{inRegion, boundFor, furthest, comesInto, linkInbound, headInbound, outInbound, headerInbound}
+use Rattle.network.specs.Cycle.{outputFor, hasExtra}
+use Rattle.network.specs.Registers.{reg, sheetIn, linkMark, linkWord, headMark, headWord, choiceRow, outMark, outWord, extraMark, extraWord}
+use Rattle.network.specs.Inbound.{inRegion, boundFor, furthest, comesInto, linkInbound, headInbound, outInbound, extraInbound, headerInbound}
 use Rattle.inbound.proofs.RegionLaws.{mark-one}
 
 -- the second test holds, and the first decides
@@ -61,7 +61,21 @@ module _ (s : List ℕ) (r : Region) (k : ℕ) where
   unfolding outInbound
   out-by e q z w h = mark-one e q (cc)
 
-  -- one of the three, in turn
+  -- the output's link has no extra register, or it has one with a header
+  module _ {z : List ℕ} (own : z ≡ sheetIn s) {long : Bool} (e : long ≡ hasExtra z (k % 5)) where
+    has-here : long ≡ hasExtra (sheetIn s) (k % 5)
+    has-here = e ∙ ap (λ (y : List ℕ). hasExtra y (k % 5)) own
+
+    pub extra-none : long ≡ false → false ≡ extraInbound s r k
+    unfolding extraInbound
+    extra-none n = and-skip _ (and-no _ (sym has-here ∙ n))
+
+    pub extra-by : {mark word : ℕ} {v : Bool} → mark ≡ reg s extraMark k → mark ≡ 1 → long ≡ true → word ≡ reg s extraWord k
+        → v ≡ comesInto z r (k / 5) (k % 5) word → v ≡ extraInbound s r k
+    unfolding extraInbound
+    extra-by m q y w h = mark-one m q (and-on (sym has-here ∙ y) (cc))
+
+  -- one of the four, in turn
   pub header-link : {link : Bool} → link ≡ linkInbound s r k → link ≡ true → true ≡ headerInbound s r k
   unfolding headerInbound
   header-link l t = or-yes _ (sym l ∙ t)
@@ -70,7 +84,11 @@ module _ (s : List ℕ) (r : Region) (k : ℕ) where
   unfolding headerInbound
   header-head h t = or-skip _ (or-yes _ (sym h ∙ t))
 
-  pub header-out : {link head out : Bool} → link ≡ linkInbound s r k → link ≡ false → head ≡ headInbound s r k → head ≡ false
-      → out ≡ outInbound s r k → out ≡ headerInbound s r k
+  pub header-out : {out : Bool} → out ≡ outInbound s r k → out ≡ true → true ≡ headerInbound s r k
   unfolding headerInbound
-  header-out l n h m o = or-on (sym l ∙ n) (or-on (sym h ∙ m) o)
+  header-out o t = or-skip _ (or-skip _ (or-yes _ (sym o ∙ t)))
+
+  pub header-extra : {link head out extra : Bool} → link ≡ linkInbound s r k → link ≡ false → head ≡ headInbound s r k → head ≡ false
+      → out ≡ outInbound s r k → out ≡ false → extra ≡ extraInbound s r k → extra ≡ headerInbound s r k
+  unfolding headerInbound
+  header-extra l n h m o p x = or-on (sym l ∙ n) (or-on (sym h ∙ m) (or-on (sym o ∙ p) x))

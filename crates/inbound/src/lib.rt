@@ -5,7 +5,7 @@ ghost use Rattle.sheet.specs.Sheet.{nodes as nodesOf};
 ghost use Rattle.sheet.specs.Inner.Passed.{Headed};
 ghost use Rattle.network.specs.View.{ports};
 ghost use Rattle.network.specs.Registers.{sheetIn};
-ghost use Rattle.network.specs.Inbound.{inRegion, boundFor, furthest, comesInto, linkInbound, headInbound, outInbound, headerInbound, isArriving, isInbound};
+ghost use Rattle.network.specs.Inbound.{inRegion, boundFor, furthest, comesInto, linkInbound, headInbound, outInbound, extraInbound, headerInbound, isArriving, isInbound};
 use network::reg;
 use packet::Header;
 use sheet::Circuit;
@@ -101,7 +101,21 @@ fn out_inbound(s: &[u32], z: &[u32], region: Region, k: u32) -> bool
     comes_into(z, region, k / 5, k % 5, reg(s, network::OUT_WORD, k))
 }
 
-// A header at place k comes into the region. A place without headers costs the three reads of its marks.
+// The extra register does, where the output's link has one.
+fn extra_inbound(s: &[u32], z: &[u32], region: Region, k: u32) -> bool
+    requires { ⌜ (now z ≡ sheetIn (now s)) × (Headed (now z)) × (k < nodesOf (now z) * ports) ⌝ }
+    ensures { λ r. ⌜ r ≡ extraInbound (now (s .entry)) region k ⌝ }
+{
+    if reg(s, network::EXTRA_MARK, k) != 1 {
+        return false;
+    }
+    if network::has_extra(z, k % 5) {
+        return comes_into(z, region, k / 5, k % 5, reg(s, network::EXTRA_WORD, k));
+    }
+    false
+}
+
+// A header at place k comes into the region. A place without headers costs the four reads of its marks.
 fn header_inbound(s: &[u32], z: &[u32], region: Region, k: u32) -> bool
     requires { ⌜ (now z ≡ sheetIn (now s)) × (Headed (now z)) × (k < nodesOf (now z) * ports) ⌝ }
     ensures { λ r. ⌜ r ≡ headerInbound (now (s .entry)) region k ⌝ }
@@ -112,7 +126,10 @@ fn header_inbound(s: &[u32], z: &[u32], region: Region, k: u32) -> bool
     if head_inbound(s, z, region, k) {
         return true;
     }
-    out_inbound(s, z, region, k)
+    if out_inbound(s, z, region, k) {
+        return true;
+    }
+    extra_inbound(s, z, region, k)
 }
 
 // A packet is arriving at the region's node, and the address of its next word lies in the region.

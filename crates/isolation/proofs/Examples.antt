@@ -2,6 +2,7 @@ pub mod TableP
 pub mod Witness
 pub mod Landings
 pub mod UntilLanded
+pub mod LongLinks
 pub mod NoCircuits
 pub mod Pair
 pub mod Swapped

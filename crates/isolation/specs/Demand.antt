@@ -10,9 +10,9 @@ use Rattle.words.specs.Tests.{any, _and_, _or_, _≤?_, _=?_}
 use Rattle.words.specs.Words.{pick}
 use Rattle.sheet.specs.declared.circuits.Region.{Region}
 use Rattle.sheet.specs.declared.circuits.Circuit.{Circuit}
-use Rattle.sheet.specs.Sheet.{columns, rows, circuits, schedules, nodes, circuitAt, period, entriesOf, entryCount, entryAt}
+use Rattle.sheet.specs.Sheet.{columns, rows, isLong, circuits, schedules, nodes, circuitAt, period, entriesOf, entryCount, entryAt}
 use Rattle.sheet.specs.Slots.{slotLength, sourceOf, destinationOf}
-use Rattle.sheet.specs.Rules.{entryRoute, routeHops}
+use Rattle.sheet.specs.Rules.{entryRoute, routeHops, routeVertical}
 pub use Rattle.network.specs.Inbound.{inRegion}
 use Rattle.session.specs.declared.Found.the-variants.{Word as FoundWord}
 use Rattle.session.specs.declared.Landed.{Landed}
@@ -21,7 +21,7 @@ use Rattle.session.specs.Answers.{leftAnswer, fetchAnswer, periodAnswer, landed
 use Rattle.session.specs.Calls.{whatLanded, start, cycle, number, ask}
 use Rattle.isolation.specs.Sessions.{Session, afterLoad, standing, Event, startDone, storeDone, orderDone, cycleDone, eventsBefore, events, Transfer}
 use Rattle.isolation.specs.Calendar.{Calendar, calendarAtLoad, calendarEvent, calendarAt, cyclesDone, pointAfter, scheduleIn}
-use Rattle.isolation.specs.Reckoning.{Item, none, item, Reckoned, owed, hopsOf, flightCycles, lastReckoned, reckon}
+use Rattle.isolation.specs.Reckoning.{Item, none, item, Reckoned, owed, hopsOf, verticalOf, flightCycles, lastReckoned, reckon}
 
 -- what landed, as far as it falls into a region
 abbrev pub itemWithin : Region → Landed → Item
@@ -41,8 +41,8 @@ abbrev pub isItem : Item → Bool
 isItem none = false
 isItem (item kind address w) = true
 
--- after so many cycles words of a circuit are under way: one left in a cycle t of them, and cycle t + 3 × (hops + 1), in which it lands, is
--- still to come
+-- after so many cycles words of a circuit are under way: one left in a cycle t of them, and cycle t + 3 × (hops + 1) + v, in which it lands,
+-- is still to come
 unfoldable pub underWay : List ℕ → ℕ → Reckoned → ℕ → Bool
 underWay z circuit r cycles = any cycles (λ t. isItem (r .sent .leaving t) and cycles ≤? t + flightCycles z circuit)
 
@@ -64,14 +64,17 @@ circuitLanding l circuit k = itemWithin (itsRecord l circuit .receive) (answerAt
 
 -- in every session, for every circuit of its sheet: what the session answers is what is reckoned
 pub record AsReckoned (l : Session) (circuit : ℕ) : Type 0 where
-  -- each of its entries has so many side outputs as hops are reckoned
+  -- each of its entries has so many side outputs as hops are reckoned, and so many of them over long links
   pub side-outputs : (j i : ℕ) → j < schedules (l .sheet) → i < entryCount (entriesOf (l .sheet) j)
       → entryAt (entriesOf (l .sheet) j) i .circuit ≡ circuit
       → routeHops (entryRoute (l .sheet) (entryAt (entriesOf (l .sheet) j) i)) ≡ hopsOf (l .sheet) circuit
+  pub long-links : (j i : ℕ) → j < schedules (l .sheet) → i < entryCount (entriesOf (l .sheet) j)
+      → entryAt (entriesOf (l .sheet) j) i .circuit ≡ circuit
+      → routeVertical (entryRoute (l .sheet) (entryAt (entriesOf (l .sheet) j) i)) ≡ verticalOf (l .sheet) circuit
   -- at every point words left answers the owed words
   pub words-left : (k : ℕ) → k ≤ length (l .calls) → leftAnswer (standing l k) circuit ≡ FoundWord (owed (reckonedAt l circuit k))
   -- what is reckoned to leave in cycle t, with kind, address and word, is what the session answers as landed at the destination directly
-  -- after cycle t + 3 × (hops + 1), which is call k
+  -- after cycle t + 3 × (hops + 1) + v, which is call k
   pub lands : (k t kind address w : ℕ) → CycleAt l k → cyclesDone l k ≡ t + flightCycles (l .sheet) circuit
       → reckonedAt l circuit k .sent .leaving t ≡ item kind address w → answerAtDestination l circuit (suc k) ≡ LandedWord kind address w
   -- at every point what landed last in its receive region is what left so many cycles before, or nothing
@@ -124,6 +127,8 @@ pub record SameRegions (a b : Session) (c d i j : ℕ) : Type 0 where
 pub record Alike (a b : Session) (c d n : ℕ) : Type 0 where
   pub same-columns : columns (a .sheet) ≡ columns (b .sheet)
   pub same-rows : rows (a .sheet) ≡ rows (b .sheet)
+  -- both have long vertical links, or neither has
+  pub same-kind : isLong (a .sheet) ≡ isLong (b .sheet)
   -- the six words of the circuit; its number may differ
   pub same-record : itsRecord a c ≡ itsRecord b d
   -- its regions' words at load

@@ -7,7 +7,7 @@ use Rattle.words.specs.Tests.{any, _and_, _≤?_, _=?_}
 use Rattle.words.specs.Words.{pick, word}
 use Rattle.sheet.specs.Sheet.{memoryWords}
 use Rattle.sheet.specs.Slots.{slotLength, sourceOf, destinationOf}
-pub use Rattle.sheet.specs.Flight.{hopsOf, flightCycles}
+pub use Rattle.sheet.specs.Flight.{hopsOf, verticalOf, flightCycles}
 use Rattle.isolation.specs.Sessions.{Event, startDone, storeDone, orderDone, cycleDone, Transfer}
 use Rattle.isolation.specs.Calendar.{Calendar, calendarAtLoad, calendarEvent}
 

@@ -14,23 +14,24 @@ use Rattle.words.proofs.TestLaws.{yes<}
 use Rattle.words.proofs.WordLaws.{length-tab, tab-at, tab-is}
 use Rattle.torus.specs.Torus.{neighbourOf, oppositeOf}
 use Rattle.torus.proofs.NeighbourLaws.{neighbour-inside, opposite-side}
-use Rattle.sheet.specs.Sheet.{columns, rows, memoryWords, circuits, schedules, nodes, period}
+use Rattle.sheet.specs.Sheet.{columns, rows, isLong, memoryWords, circuits, schedules, nodes, period}
 use Rattle.sheet.specs.Inner.Passed.{Headed, Framed}
 use Rattle.sheet.specs.Slots.{slotLength}
 use Rattle.sheet.proofs.PassedLaws.{nodes-few, in-grid}
 use Rattle.network.specs.View.{Sender}
-use Rattle.network.specs.Cycle.{move, stepSender}
+use Rattle.network.specs.Cycle.{hasExtra, move, stepSender}
 use Rattle.network.specs.Registers.{reg, sheetIn, room, movingWords, clockRow, cyclePlace, numberPlace, inForcePlace, orderMarkPlace}
 use Rattle.network.specs.Registers.{orderSchedulePlace, orderPeriodPlace, linkMark, linkWord, outMark, outWord, receiveMark, receiveKind}
 use Rattle.network.specs.Registers.{receiveAddress, leftRow, readRow, writeRow, kindRow, toGoRow, at, rowCount, rowWords, clockWords, headMark}
-use Rattle.network.specs.Registers.{headWord, choiceRow, latchRow, landingMark, landingKind, landingAddress, landingWord}
+use Rattle.network.specs.Registers.{headWord, choiceRow, latchRow, landingMark, landingKind, landingAddress, landingWord, extraMark, extraWord}
 use Rattle.network.specs.Seen.{seenSender}
-use Rattle.network.specs.Inner.Machine.{neighbourPlace, slotIn, nextSender, sourceMark, sourceWord, nextLinkMark, nextLinkWord, nextOutMark}
+use Rattle.network.specs.Inner.Machine.{endMark, endWord, neighbourPlace, nextExtraMark, nextExtraWord, slotIn, nextSender, sourceMark, sourceWord, nextLinkMark, nextLinkWord, nextOutMark}
 use Rattle.network.specs.Inner.Machine.{nextOutWord, memoryMark, memoryWord, nextReceiveMark, nextReceiveKind, nextReceiveAddress, nextLandingMark}
 use Rattle.network.specs.Inner.Machine.{memoryAfter, straysIn, turns, isDue, nextClock, rowIn, nextRows, nextInRow, nextState, nextMemory}
 use Rattle.network.specs.Inner.Stages.{stage, linkFrom, outFrom}
-use Rattle.network.proofs.RowCases.{Each, that-is-all, _also_, found-number, by-row, clock-extent, router-extent, node-extent, circuit-extent}
+use Rattle.network.proofs.RowCases.{Each, that-is-all, _also_, found-number, by-row, clock-extent, router-extent, node-extent, circuit-extent, extra-extent}
 use Rattle.network.proofs.RowLaws.{next-row, next-off, next-rest, sender-same}
+use Rattle.network.proofs.ExtraLaws.{end-low, end-high, end-behind}
 use Rattle.network.proofs.StepLaws.{state-length}
 use Rattle.network.proofs.FillLaws.{restated, stage-length, stage-rest, stage-sheet, stage-here, stage-off}
 use Rattle.sources.specs.Inner.Slots.{slotTable}
@@ -54,7 +55,7 @@ module _ (low high n : ℕ) (f : ℕ → ℕ → ℕ) (s now : List ℕ) (e : no
   here a b l = ap (λ (x : List ℕ). reg x row k) e ∙ stage-here low high n f s row k rl kl a b l
 
 -- The words s and m as the cycle begins, the tables made from them, and the words after each stage: the header stage, the links, the
--- receive units, the outputs, the senders and the clock.
+-- receive units, the extra registers, the outputs, the senders and the clock.
 module _ (s m slots source-marks source-words out-marks out-words : List ℕ)
     (T : Tables s m slots source-marks source-words out-marks out-words) (R : Ready s m) where
   abbrev places : ℕ
@@ -98,7 +99,7 @@ module _ (s m slots source-marks source-words out-marks out-words : List ℕ)
       neighbour-same =
           ap (λ (z : List ℕ). at (neighbourOf (columns z) (rows z) (k / 5) (k % 5)) (oppositeOf (k % 5))) headed-sheet
 
-      out-same : (row : ℕ) → outMark ≤ row → row ≤ outWord
+      out-same : (row : ℕ) → outMark ≤ row → row ≤ extraWord
           → reg headed row (neighbourPlace headed (k / 5) (k % 5)) ≡ reg s row (neighbourPlace s (k / 5) (k % 5))
       out-same row a b =
           ap (reg headed row) neighbour-same
@@ -110,7 +111,9 @@ module _ (s m slots source-marks source-words out-marks out-words : List ℕ)
           ap₂ (λ a b. pick (k % 5 =? 4) a b)
           (ap (λ (x : List ℕ). word x (k / 5)) (T .source-mark)
           ∙ tab-at 16 (sourceMark s) (k / 5) (omega (arith, node-small, few)))
-          (out-same outMark (omega arith) (omega arith))
+          (ap (λ (z : List ℕ). reg headed (pick (hasExtra z (oppositeOf (k % 5))) extraMark outMark) (neighbourPlace headed (k / 5) (k % 5))) headed-sheet
+          ∙ out-same (endMark s (oppositeOf (k % 5))) (omega (arith, end-low s (oppositeOf (k % 5))))
+          (omega (arith, end-high s (oppositeOf (k % 5)))))
 
       link-word : linkFrom source-marks source-words headed linkWord k ≡ nextLinkWord s m (k / 5) (k % 5)
       unfolding linkFrom nextLinkWord _=?_
@@ -118,7 +121,9 @@ module _ (s m slots source-marks source-words out-marks out-words : List ℕ)
           ap₂ (λ a b. pick (k % 5 =? 4) a b)
           (ap (λ (x : List ℕ). word x (k / 5)) (T .source-word)
           ∙ tab-at 16 (sourceWord s m) (k / 5) (omega (arith, node-small, few)))
-          (out-same outWord (omega arith) (omega arith))
+          (ap (λ (z : List ℕ). reg headed (pick (hasExtra z (oppositeOf (k % 5))) extraWord outWord) (neighbourPlace headed (k / 5) (k % 5))) headed-sheet
+          ∙ out-same (endWord s (oppositeOf (k % 5))) (omega (arith, end-low s (oppositeOf (k % 5)), end-behind s (oppositeOf (k % 5))))
+          (omega (arith, end-high s (oppositeOf (k % 5)), end-behind s (oppositeOf (k % 5)))))
 
       -- the out registers
       out-mark : outFrom out-marks out-words outMark k ≡ nextOutMark s (k / 5) (k % 5)
@@ -240,25 +245,73 @@ module _ (s m slots source-marks source-words out-marks out-words : List ℕ)
         pub received-long : movingWords ≤ length received
         received-long = omega (arith, received-length, long)
 
-        module _ (crossed : List ℕ) (by-outs : crossed ≡ stage outMark outWord places (outFrom out-marks out-words) received) where
+        received-wire : (row k : ℕ) → outMark ≤ row → row < rowCount → (receiveMark ≤ row → row ≤ landingWord → ⊥) → k < rowWords
+            → reg received row k ≡ reg s row k
+        received-wire row k a rl out kl = received-off row k rl kl (λ x y z. omega arith) (λ x y z. out x y)
+
+        -- the extra registers, and what they require
+        extra-mark : (k : ℕ) → k < rowWords → nextExtraMark received k ≡ nextExtraMark s k
+        unfolding nextExtraMark
+        extra-mark k l =
+            rw (
+              received-sheet,
+              received-wire outMark k (omega arith) (omega arith) (λ a b. omega arith) l,
+              received-wire extraMark k (omega arith) (omega arith) (λ a b. omega arith) l,
+            ) refl
+
+        extra-word : (k : ℕ) → k < rowWords → nextExtraWord received k ≡ nextExtraWord s k
+        unfolding nextExtraWord
+        extra-word k l =
+            rw (
+              received-sheet,
+              received-wire outWord k (omega arith) (omega arith) (λ a b. omega arith) l,
+              received-wire extraWord k (omega arith) (omega arith) (λ a b. omega arith) l,
+            ) refl
+
+        pub received-ready : (count : ℕ) (kind : Bool) → count ≡ nodes (sheetIn s) → count ≤ 16 → kind ≡ isLong (sheetIn s)
+            → (movingWords ≤ length received) × (count ≡ nodes (sheetIn received)) × (count ≤ 16) × (kind ≡ isLong (sheetIn received))
+        received-ready count kind e l f =
+            (received-long, e ∙ ap nodes (sym received-sheet), l, f ∙ ap isLong (sym received-sheet))
+
+        extended-length : (extended : List ℕ) → extended ≡ stage extraMark extraWord places (nextInRow received []) received
+            → length extended ≡ length s
+        extended-length extended e = ap length e ∙ stage-length extraMark extraWord places (nextInRow received []) received received-long ∙ received-length
+
+        -- what the outputs require
+        pub extended-long : (extended : List ℕ) → extended ≡ stage extraMark extraWord places (nextInRow received []) received
+            → movingWords ≤ length extended
+        extended-long extended e = omega (arith, extended-length extended e, long)
+
+        module _ (extended : List ℕ) (by-extras : extended ≡ stage extraMark extraWord places (nextInRow received []) received)
+            (crossed : List ℕ) (by-outs : crossed ≡ stage outMark outWord places (outFrom out-marks out-words) extended) where
+          extended-off : (row k : ℕ) → row < rowCount → k < rowWords → (linkMark ≤ row → row ≤ latchRow → k < places → ⊥)
+              → (receiveMark ≤ row → row ≤ landingWord → k < nodes (sheetIn s) → ⊥) → (extraMark ≤ row → row ≤ extraWord → k < places → ⊥)
+              → reg extended row k ≡ reg s row k
+          extended-off row k rl kl h g f =
+              off extraMark extraWord places (nextInRow received []) received extended by-extras row k rl kl f ∙ received-off row k rl kl h g
+
           crossed-off : (row k : ℕ) → row < rowCount → k < rowWords → (linkMark ≤ row → row ≤ outWord → k < places → ⊥)
-              → (receiveMark ≤ row → row ≤ landingWord → k < nodes (sheetIn s) → ⊥) → reg crossed row k ≡ reg s row k
-          crossed-off row k rl kl h g =
-              off outMark outWord places (outFrom out-marks out-words) received crossed by-outs row k rl kl (λ a b l. h (omega arith) b l)
-              ∙ received-off row k rl kl (λ a b l. h a (omega arith) l) g
+              → (receiveMark ≤ row → row ≤ landingWord → k < nodes (sheetIn s) → ⊥) → (extraMark ≤ row → row ≤ extraWord → k < places → ⊥)
+              → reg crossed row k ≡ reg s row k
+          crossed-off row k rl kl h g f =
+              off outMark outWord places (outFrom out-marks out-words) extended crossed by-outs row k rl kl (λ a b l. h (omega arith) b l)
+              ∙ extended-off row k rl kl (λ a b l. h a (omega arith) l) g f
 
           crossed-sheet : sheetIn crossed ≡ sheetIn s
-          crossed-sheet = ap sheetIn by-outs ∙ stage-sheet outMark outWord places (outFrom out-marks out-words) received ∙ received-sheet
+          crossed-sheet =
+              ap sheetIn by-outs ∙ stage-sheet outMark outWord places (outFrom out-marks out-words) extended
+              ∙ ap sheetIn by-extras ∙ stage-sheet extraMark extraWord places (nextInRow received []) received ∙ received-sheet
 
           crossed-length : length crossed ≡ length s
           crossed-length =
-              ap length by-outs ∙ stage-length outMark outWord places (outFrom out-marks out-words) received received-long ∙ received-length
+              ap length by-outs ∙ stage-length outMark outWord places (outFrom out-marks out-words) extended (extended-long extended by-extras)
+              ∙ extended-length extended by-extras
 
           crossed-clock : (k : ℕ) → k < rowWords → reg crossed clockRow k ≡ reg s clockRow k
-          crossed-clock k l = crossed-off clockRow k (omega arith) l (λ a b h. omega arith) (λ a b h. omega arith)
+          crossed-clock k l = crossed-off clockRow k (omega arith) l (λ a b h. omega arith) (λ a b h. omega arith) (λ a b h. omega arith)
 
           crossed-sender : (row c : ℕ) → leftRow ≤ row → row ≤ toGoRow → c < 64 → reg crossed row c ≡ reg s row c
-          crossed-sender row c a b l = crossed-off row c (omega arith) (omega arith) (λ x y z. omega arith) (λ x y z. omega arith)
+          crossed-sender row c a b l = crossed-off row c (omega arith) (omega arith) (λ x y z. omega arith) (λ x y z. omega arith) (λ x y z. omega arith)
 
           -- the senders
           sender-is : (c : ℕ) → c < 64 → seenSender crossed c ≡ seenSender s c
@@ -314,11 +367,11 @@ module _ (s m slots source-marks source-words out-marks out-words : List ℕ)
 
             sent-off : (row k : ℕ) → row < rowCount → k < rowWords → (linkMark ≤ row → row ≤ outWord → k < places → ⊥)
                 → (receiveMark ≤ row → row ≤ landingWord → k < nodes (sheetIn s) → ⊥) → (leftRow ≤ row → row ≤ toGoRow → k < circuits (sheetIn s) → ⊥)
-                → reg sent row k ≡ reg s row k
-            sent-off row k rl kl h g f =
+                → (extraMark ≤ row → row ≤ extraWord → k < places → ⊥) → reg sent row k ≡ reg s row k
+            sent-off row k rl kl h g f x =
                 off leftRow toGoRow (circuits (sheetIn crossed)) (nextInRow crossed []) crossed sent by-senders row k rl kl
                 (λ a b l. f a b (omega (arith, sender-count)))
-                ∙ crossed-off row k rl kl h g
+                ∙ crossed-off row k rl kl h g x
 
             sent-sheet : sheetIn sent ≡ sheetIn s
             sent-sheet = ap sheetIn by-senders ∙ stage-sheet leftRow toGoRow (circuits (sheetIn crossed)) (nextInRow crossed []) crossed ∙ crossed-sheet
@@ -329,7 +382,7 @@ module _ (s m slots source-marks source-words out-marks out-words : List ℕ)
                 ∙ stage-length leftRow toGoRow (circuits (sheetIn crossed)) (nextInRow crossed []) crossed (crossed-ready .0 .long) ∙ crossed-length
 
             sent-clock : (k : ℕ) → k < rowWords → reg sent clockRow k ≡ reg s clockRow k
-            sent-clock k l = sent-off clockRow k (omega arith) l (λ a b h. omega arith) (λ a b h. omega arith) (λ a b h. omega arith)
+            sent-clock k l = sent-off clockRow k (omega arith) l (λ a b h. omega arith) (λ a b h. omega arith) (λ a b h. omega arith) (λ a b h. omega arith)
 
             -- the clock
             next-clock : (k : ℕ) → k < rowWords → nextClock sent k ≡ nextClock s k
@@ -373,7 +426,8 @@ module _ (s m slots source-marks source-words out-marks out-words : List ℕ)
 
                 crossed-same : linkMark ≤ row → row ≤ landingWord → (outMark ≤ row → row ≤ outWord → ⊥) → reg clocked row k ≡ reg received row k
                 crossed-same h g f =
-                    sent-same h g ∙ off outMark outWord places (outFrom out-marks out-words) received crossed by-outs row k rl kl (λ a b l. f a b)
+                    sent-same h g ∙ off outMark outWord places (outFrom out-marks out-words) extended crossed by-outs row k rl kl (λ a b l. f a b)
+                    ∙ off extraMark extraWord places (nextInRow received []) received extended by-extras row k rl kl (λ a b l. omega arith)
 
                 received-same : linkMark ≤ row → row ≤ latchRow → reg clocked row k ≡ reg linked row k
                 received-same h g =
@@ -403,13 +457,20 @@ module _ (s m slots source-marks source-words out-marks out-words : List ℕ)
                 out-row : outMark ≤ row → row ≤ outWord → k < places → reg clocked row k ≡ outFrom out-marks out-words row k
                 out-row a b l =
                     sent-same (omega arith) (omega arith)
-                    ∙ here outMark outWord places (outFrom out-marks out-words) received crossed by-outs row k rl kl a b l
+                    ∙ here outMark outWord places (outFrom out-marks out-words) extended crossed by-outs row k rl kl a b l
 
                 sender-row : leftRow ≤ row → row ≤ toGoRow → k < circuits (sheetIn s) → reg clocked row k ≡ nextInRow crossed [] row k
                 sender-row a b l =
                     clocked-same (omega arith)
                     ∙ here leftRow toGoRow (circuits (sheetIn crossed)) (nextInRow crossed []) crossed sent by-senders row k rl kl a b
                     (omega (arith, sender-count, l))
+
+                extra-row : extraMark ≤ row → row ≤ extraWord → k < places → reg clocked row k ≡ nextInRow received [] row k
+                extra-row a b l =
+                    clocked-same (omega arith)
+                    ∙ off leftRow toGoRow (circuits (sheetIn crossed)) (nextInRow crossed []) crossed sent by-senders row k rl kl (λ x y z. omega arith)
+                    ∙ off outMark outWord places (outFrom out-marks out-words) extended crossed by-outs row k rl kl (λ x y z. omega arith)
+                    ∙ here extraMark extraWord places (nextInRow received []) received extended by-extras row k rl kl a b l
 
                 clock-row : row ≡ clockRow → k < clockWords → reg clocked row k ≡ nextInRow sent [] row k
                 clock-row e l = here clockRow clockRow clockWords (nextInRow sent []) sent clocked by-clock row k rl kl (omega arith) (omega arith) l
@@ -420,6 +481,7 @@ module _ (s m slots source-marks source-words out-marks out-words : List ℕ)
                     (λ a b h. omega (arith, clock-extent s m row rl (omega arith)))
                     ∙ sent-off row k rl kl (λ a b h. omega (arith, router-extent s m row rl a b))
                     (λ a b h. omega (arith, node-extent s m row rl a b)) (λ a b h. omega (arith, circuit-extent s m row rl a b))
+                    (λ a b h. omega (arith, extra-extent s m row rl a b))
 
               sender-next : (k : ℕ) → k < circuits (sheetIn s) → nextSender crossed k ≡ nextSender s k
               sender-next k l = next-sender k (omega (arith, l, few-circuits))
@@ -449,6 +511,8 @@ module _ (s m slots source-marks source-words out-marks out-words : List ℕ)
                   also (λ l. sender-row writeRow k (omega arith) kl (omega arith) (omega arith) l ∙ ap (λ (x : Sender). x .writeAddress) (sender-next k l))
                   also (λ l. sender-row kindRow k (omega arith) kl (omega arith) (omega arith) l ∙ ap (λ (x : Sender). x .kind) (sender-next k l))
                   also (λ l. sender-row toGoRow k (omega arith) kl (omega arith) (omega arith) l ∙ ap (λ (x : Sender). x .toGo) (sender-next k l))
+                  also (λ l. extra-row extraMark k (omega arith) kl (omega arith) (omega arith) l ∙ extra-mark k kl)
+                  also (λ l. extra-row extraWord k (omega arith) kl (omega arith) (omega arith) l ∙ extra-word k kl)
                   also that-is-all
 
               clocked-inside : (row k : ℕ) → row < rowCount → k < rowWords → k < rowIn (nextRows s m) row .extent
@@ -465,7 +529,8 @@ module _ (s m slots source-marks source-words out-marks out-words : List ℕ)
               clocked-rest =
                   ap (drop movingWords) by-clock ∙ stage-rest clockRow clockRow clockWords (nextInRow sent []) sent
                   ∙ ap (drop movingWords) by-senders ∙ stage-rest leftRow toGoRow (circuits (sheetIn crossed)) (nextInRow crossed []) crossed
-                  ∙ ap (drop movingWords) by-outs ∙ stage-rest outMark outWord places (outFrom out-marks out-words) received
+                  ∙ ap (drop movingWords) by-outs ∙ stage-rest outMark outWord places (outFrom out-marks out-words) extended
+                  ∙ ap (drop movingWords) by-extras ∙ stage-rest extraMark extraWord places (nextInRow received []) received
                   ∙ ap (drop movingWords) by-units ∙ stage-rest receiveMark landingWord (nodes (sheetIn linked)) (nextInRow linked []) linked
                   ∙ ap (drop movingWords) by-links
                   ∙ stage-rest linkMark linkWord (nodes (sheetIn headed) * 5) (linkFrom source-marks source-words headed) headed

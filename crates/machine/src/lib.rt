@@ -42,8 +42,8 @@ fn prepare(
     receivers::has_stray(s, nodes, sheet::memory_of(z))
 }
 
-// Carries out a cycle that has no fault, each stage on what the one before it left: the links take the outputs before the outputs change,
-// and the sources' words were read before a landing is stored.
+// Carries out a cycle that has no fault, each stage on what the one before it left: the links take what is in the extra registers before
+// these take the outputs, and both before the outputs change; and the sources' words were read before a landing is stored.
 fn carry_out(
     s: &mut [u32],
     m: &mut [u32],
@@ -60,9 +60,11 @@ fn carry_out(
     let z = network::sheet_of(s);
     let nodes = sheet::nodes_of(z);
     let room = sheet::memory_of(z);
+    let long = sheet::is_long(z);
     routers::step_heads(s, nodes * 5);
     routers::step_links(s, marks, cells);
     receivers::step_receivers(s, m, nodes, room);
+    routers::step_extras(s, nodes, long);
     routers::step_outs(s, nodes * 5, outs, values);
     sources::step_senders(s, slots);
     receivers::step_clock(s);

@@ -1,4 +1,5 @@
 pub mod RowCases
+pub mod ExtraLaws
 pub mod RowLaws
 pub mod ViewLaws
 pub mod FaultLaws

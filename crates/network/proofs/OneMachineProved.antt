@@ -11,8 +11,8 @@ use Rattle.sheet.specs.Inner.Passed.{Headed}
 use Rattle.sheet.proofs.VerdictLaws.{passed-framed}
 use Rattle.network.specs.Registers.{sheetIn, clockRow}
 use Rattle.network.specs.OneMachine.{Accepted, OneCycle, OneMachine}
-use Rattle.network.proofs.RowCases.{clock-extent, router-extent, node-extent, circuit-extent}
-use Rattle.network.proofs.RowLaws.{next-off, next-rest}
+use Rattle.network.proofs.RowCases.{clock-extent, router-extent, node-extent, circuit-extent, extra-extent}
+use Rattle.network.proofs.RowLaws.{next-off, next-rest, extra-kept}
 use Rattle.network.proofs.ViewLaws.{cycle-agrees}
 use Rattle.network.proofs.FaultLaws.{faulty-is}
 use Rattle.network.proofs.StepLaws.{state-length, memory-length}
@@ -35,6 +35,8 @@ module _ (s m : List ℕ) (p : Accepted s m) where
     router-rest = λ row k low high a l.
         next-off s m row k (omega arith) l (omega (arith, router-extent s m row (omega arith) low high));
     node-rest = λ row k low high a l. next-off s m row k (omega arith) l (omega (arith, node-extent s m row (omega arith) low high));
+    extra-rest = λ row k low high a l. next-off s m row k (omega arith) l (omega (arith, extra-extent s m row (omega arith) low high));
+    extra-none = extra-kept s m;
     circuit-rest = λ row k low high a l.
         next-off s m row k (omega arith) l (omega (arith, circuit-extent s m row (omega arith) low high));
   }

@@ -11,7 +11,7 @@ use Rattle.words.proofs.TestLaws.{is=, or-cases}
 use Rattle.words.proofs.AllLaws.{all-at}
 use Rattle.network.specs.Registers.{rowCount, clockRow, clockWords, linkMark, linkWord, headMark, headWord, choiceRow, latchRow, outMark}
 use Rattle.network.specs.Registers.{outWord, receiveMark, receiveKind, receiveAddress, landingMark, landingKind, landingAddress, landingWord}
-use Rattle.network.specs.Registers.{leftRow, readRow, writeRow, kindRow, toGoRow}
+use Rattle.network.specs.Registers.{leftRow, readRow, writeRow, kindRow, toGoRow, extraMark, extraWord}
 use Rattle.network.specs.Inner.Machine.{Row, registerRow, rowIn, nextRows, fiveANode, oneANode, oneACircuit}
 
 infixr 20 _also_
@@ -59,8 +59,9 @@ pub record Extent (s : List ℕ) (x : Row) : Type 0 where
   pub router : linkMark ≤ x .number → x .number ≤ outWord → x .extent ≡ fiveANode s
   pub node : receiveMark ≤ x .number → x .number ≤ landingWord → x .extent ≡ oneANode s
   pub circuit : leftRow ≤ x .number → x .number ≤ toGoRow → x .extent ≡ oneACircuit s
+  pub extra : extraMark ≤ x .number → x .number ≤ extraWord → x .extent ≡ fiveANode s
 
--- a row of the clock, of the routers, of the nodes and of the circuits
+-- a row of the clock, of the routers, of the nodes, of the circuits and of the extra registers
 module _ {s : List ℕ} (row : ℕ) {next : ℕ → ℕ} where
   of-clock : row ≡ clockRow → Extent s (registerRow row clockWords next)
   of-clock e = record {
@@ -68,6 +69,7 @@ module _ {s : List ℕ} (row : ℕ) {next : ℕ → ℕ} where
     router = λ c d. absurd (omega arith);
     node = λ c d. absurd (omega arith);
     circuit = λ c d. absurd (omega arith);
+    extra = λ c d. absurd (omega arith);
   }
 
   of-router : linkMark ≤ row → row ≤ outWord → Extent s (registerRow row (fiveANode s) next)
@@ -76,6 +78,7 @@ module _ {s : List ℕ} (row : ℕ) {next : ℕ → ℕ} where
     router = λ c d. refl;
     node = λ c d. absurd (omega arith);
     circuit = λ c d. absurd (omega arith);
+    extra = λ c d. absurd (omega arith);
   }
 
   of-node : receiveMark ≤ row → row ≤ landingWord → Extent s (registerRow row (oneANode s) next)
@@ -84,6 +87,7 @@ module _ {s : List ℕ} (row : ℕ) {next : ℕ → ℕ} where
     router = λ c d. absurd (omega arith);
     node = λ c d. refl;
     circuit = λ c d. absurd (omega arith);
+    extra = λ c d. absurd (omega arith);
   }
 
   of-circuit : leftRow ≤ row → row ≤ toGoRow → Extent s (registerRow row (oneACircuit s) next)
@@ -92,6 +96,16 @@ module _ {s : List ℕ} (row : ℕ) {next : ℕ → ℕ} where
     router = λ c d. absurd (omega arith);
     node = λ c d. absurd (omega arith);
     circuit = λ c d. refl;
+    extra = λ c d. absurd (omega arith);
+  }
+
+  of-extra : extraMark ≤ row → row ≤ extraWord → Extent s (registerRow row (fiveANode s) next)
+  of-extra a b = record {
+    clock = λ c. absurd (omega arith);
+    router = λ c d. absurd (omega arith);
+    node = λ c d. absurd (omega arith);
+    circuit = λ c d. absurd (omega arith);
+    extra = λ c d. refl;
   }
 
 each-extent : (s m : List ℕ) → Each (Extent s) (nextRows s m)
@@ -118,6 +132,8 @@ each-extent s m =
     also of-circuit writeRow (omega arith) (omega arith)
     also of-circuit kindRow (omega arith) (omega arith)
     also of-circuit toGoRow (omega arith) (omega arith)
+    also of-extra extraMark (omega arith) (omega arith)
+    also of-extra extraWord (omega arith) (omega arith)
     also that-is-all
 
 module _ (s m : List ℕ) (row : ℕ) (l : row < rowCount) where
@@ -138,6 +154,9 @@ module _ (s m : List ℕ) (row : ℕ) (l : row < rowCount) where
 
   pub circuit-extent : leftRow ≤ row → row ≤ toGoRow → rowIn (nextRows s m) row .extent ≡ oneACircuit s
   circuit-extent a b = extents .circuit (omega (arith, same)) (omega (arith, same))
+
+  pub extra-extent : extraMark ≤ row → row ≤ extraWord → rowIn (nextRows s m) row .extent ≡ fiveANode s
+  extra-extent a b = extents .extra (omega (arith, same)) (omega (arith, same))
 
 -- a statement about each row from one to another
 pub record Rows (P : ℕ → Type 0) (low high : ℕ) : Type 0 where

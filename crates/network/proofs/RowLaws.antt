@@ -1,10 +1,11 @@
 -- What stands in each register after a cycle: one law for all rows, then each register by its name. The sheet stays.
 -- Assumes nothing.
 use Prim.Native.Nat.{ℕ, _+_, _*_, _/_, _%_, _≤_, _<_}
-use mathlib.Core.Path.{_≡_, refl, _∙_, ap, ap₂}
-use mathlib.Core.Bool.{Bool}
+use mathlib.Core.Path.{_≡_, refl, sym, subst, _∙_, ap, ap₂}
+use mathlib.Core.Bool.{Bool, false}
 use mathlib.Core.List.{List}
 use native.Mathlib.Omega.{arith}
+use native.Mathlib.Decide.{ℕ-discrete, decLt}
 use lib.ListN.{take, drop, List·getD-append}
 use lib.Seq.{drop-at}
 use Rattle.words.specs.Tests.{_=?_}
@@ -13,13 +14,13 @@ use Rattle.words.proofs.TestLaws.{yes<, no<}
 use Rattle.words.proofs.WordLaws.{length-tab, tab-at}
 use Rattle.sheet.specs.Sheet.{circuits, nodes}
 use Rattle.network.specs.View.{Sender}
-use Rattle.network.specs.Cycle.{nextNumber}
+use Rattle.network.specs.Cycle.{hasExtra, nextNumber}
 use Rattle.network.specs.Registers.{reg, sheetIn, rowCount, rowWords, movingWords, clockRow, cyclePlace, numberPlace, inForcePlace}
 use Rattle.network.specs.Registers.{orderMarkPlace, orderSchedulePlace, orderPeriodPlace, linkMark, linkWord, headMark, headWord, choiceRow}
 use Rattle.network.specs.Registers.{latchRow, outMark, outWord, receiveMark, receiveKind, receiveAddress, landingMark, landingKind}
-use Rattle.network.specs.Registers.{landingAddress, landingWord, leftRow, readRow, writeRow, kindRow, toGoRow, at}
+use Rattle.network.specs.Registers.{landingAddress, landingWord, leftRow, readRow, writeRow, kindRow, toGoRow, extraMark, extraWord, at}
 use Rattle.network.specs.Seen.{seenSender}
-use Rattle.network.specs.Inner.Machine.{nextSender, nextLinkMark, nextLinkWord, nextHeadWord, nextChoice, nextLatch, nextOutMark, nextOutWord}
+use Rattle.network.specs.Inner.Machine.{nextSender, nextLinkMark, nextLinkWord, nextHeadWord, nextChoice, nextLatch, nextOutMark, nextOutWord, nextExtraMark, nextExtraWord}
 use Rattle.network.specs.Inner.Machine.{memoryWord, nextReceiveMark, nextReceiveKind, nextReceiveAddress, nextLandingMark, turns, isDue}
 use Rattle.network.specs.Inner.Machine.{nextClock, fiveANode, rowIn, nextRows, nextInRow, exists, nextWord, nextState}
 
@@ -57,7 +58,7 @@ sheet-kept s m = ap (λ rest. take (word rest 0) (drop 1 rest)) (next-rest s m)
 node-at : (node i : ℕ) → i < 5 → at node i / 5 ≡ node
 node-at node i l = omega arith
 
-input-at : (node i : ℕ) → i < 5 → at node i % 5 ≡ i
+pub input-at : (node i : ℕ) → i < 5 → at node i % 5 ≡ i
 input-at node i l = omega arith
 
 -- and so each register by its name: those of a router's input and output i
@@ -72,6 +73,8 @@ pub record RouterAfter (s m : List ℕ) (node i : ℕ) : Type 0 where
       ≡ nextLatch i (reg s latchRow (at node i)) (reg s linkMark (at node i)) (reg s linkWord (at node i))
   pub out-mark : reg (nextState s m) outMark (at node i) ≡ nextOutMark s node i
   pub out-word : reg (nextState s m) outWord (at node i) ≡ nextOutWord s node i
+  pub extra-mark : reg (nextState s m) extraMark (at node i) ≡ nextExtraMark s (at node i)
+  pub extra-word : reg (nextState s m) extraWord (at node i) ≡ nextExtraWord s (at node i)
 
 pub router-after : (s m : List ℕ) → nodes (sheetIn s) ≤ 16 → (node i : ℕ) → node < nodes (sheetIn s) → i < 5 → RouterAfter s m node i
 unfolding nextInRow rowIn nextRows _=?_
@@ -94,6 +97,8 @@ router-after s m few node i nl il =
           ∙ ap (λ i. nextLatch i (reg s latchRow k) (reg s linkMark k) (reg s linkWord k)) j;
       out-mark = next-row s m outMark k (omega arith) kl l ∙ ap₂ (nextOutMark s) n j;
       out-word = next-row s m outWord k (omega arith) kl l ∙ ap₂ (nextOutWord s) n j;
+      extra-mark = next-row s m extraMark k (omega arith) kl l;
+      extra-word = next-row s m extraWord k (omega arith) kl l;
     }
 
 -- those of a node
@@ -155,3 +160,31 @@ clock-after s m = record {
   order-schedule = next-row s m clockRow orderSchedulePlace (omega arith) (omega arith) (omega arith);
   order-period = next-row s m clockRow orderPeriodPlace (omega arith) (omega arith) (omega arith);
 }
+
+-- a place without an extra register keeps its words
+module _ (s m : List ℕ) (k : ℕ) (kl : k < rowWords) (none : hasExtra (sheetIn s) (k % 5) ≡ false) where
+  mark-kept : reg (nextState s m) extraMark k ≡ reg s extraMark k
+  unfolding nextInRow rowIn nextRows _=?_ nextExtraMark
+  mark-kept = go (decLt k (fiveANode s))
+    where
+      go : Dec (k < fiveANode s) → reg (nextState s m) extraMark k ≡ reg s extraMark k
+      go (yes l) = next-row s m extraMark k (omega arith) kl l ∙ ap (λ (b : Bool). pick b (reg s outMark k) (reg s extraMark k)) none
+      go (no l) = next-off s m extraMark k (omega arith) kl (omega (arith, l))
+
+  word-kept : reg (nextState s m) extraWord k ≡ reg s extraWord k
+  unfolding nextInRow rowIn nextRows _=?_ nextExtraWord
+  word-kept = go (decLt k (fiveANode s))
+    where
+      go : Dec (k < fiveANode s) → reg (nextState s m) extraWord k ≡ reg s extraWord k
+      go (yes l) = next-row s m extraWord k (omega arith) kl l ∙ ap (λ (b : Bool). pick b (reg s outWord k) (reg s extraWord k)) none
+      go (no l) = next-off s m extraWord k (omega arith) kl (omega (arith, l))
+
+pub extra-kept : (s m : List ℕ) (row k : ℕ) → extraMark ≤ row → row ≤ extraWord → k < rowWords → hasExtra (sheetIn s) (k % 5) ≡ false
+    → reg (nextState s m) row k ≡ reg s row k
+extra-kept s m row k low high kl none = go (ℕ-discrete row extraMark)
+  where
+    go : Dec (row ≡ extraMark) → reg (nextState s m) row k ≡ reg s row k
+    go (yes e) = subst (λ (r : ℕ). reg (nextState s m) r k ≡ reg s r k) (sym e) (mark-kept s m k kl none)
+    go (no ne) =
+        let e : extraWord ≡ row = omega (arith, ne) in
+        subst (λ (r : ℕ). reg (nextState s m) r k ≡ reg s r k) e (word-kept s m k kl none)

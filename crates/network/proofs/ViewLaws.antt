@@ -13,22 +13,22 @@ use Rattle.words.specs.Words.{word, pick}
 use Rattle.words.proofs.TestLaws.{yes≤, yes=, no=, is=}
 use Rattle.words.proofs.WordLaws.{tab-at}
 use Rattle.packet.specs.Header.{kindOf, addressOf}
-use Rattle.torus.specs.Torus.{neighbourOf, oppositeOf}
-use Rattle.sheet.specs.Sheet.{columns, rows, memoryWords, circuits, nodes}
+use Rattle.torus.specs.Torus.{oppositeOf}
+use Rattle.sheet.specs.Sheet.{memoryWords, circuits, nodes}
 use Rattle.sheet.specs.Slots.{sourceOf}
 use Rattle.network.specs.View.{Cell, empty, payload, sourceInput, Sender, Receiver, View, noOrder, pending}
-use Rattle.network.specs.Cycle.{advance, choose, hold, goesTo, asks, join, gather, stepRouters, Move, rests, opens, sends, sentCell, moveNow}
+use Rattle.network.specs.Cycle.{advance, choose, hold, goesTo, asks, join, gather, hasExtra, linkEnd, stepRouters, Move, rests, opens, sends, sentCell, moveNow}
 use Rattle.network.specs.Cycle.{headNow, readNow, sentNow, sourceWire, landingOf, stepReceiver, storedBy, nextNumber, scheduleAfter, orderAfter}
 use Rattle.network.specs.Cycle.{periodEnds, tick}
 use Rattle.network.specs.Registers.{reg, sheetIn, room, clockRow, numberPlace, inForcePlace, orderMarkPlace, orderSchedulePlace}
 use Rattle.network.specs.Registers.{orderPeriodPlace, linkMark, linkWord, headMark, headWord, choiceRow, latchRow, receiveMark, receiveKind}
-use Rattle.network.specs.Registers.{receiveAddress, at}
+use Rattle.network.specs.Registers.{receiveAddress, outMark, outWord, extraMark, extraWord, at}
 use Rattle.network.specs.Seen.{seenSender, seenCell, seenChoice, marked, seenLanding, seenOrder, view, Agree}
 use Rattle.network.specs.Inner.Machine.{firstMark, firstWord, slotIn, markOf, wordOf, sentMark, sentWord, ownMark, sourceMark, sourceWord}
-use Rattle.network.specs.Inner.Machine.{nextLinkMark, nextLinkWord, nextHeadWord, nextChoice, nextLatch, askedMark, nextOutMark, nextOutWord}
+use Rattle.network.specs.Inner.Machine.{nextLinkMark, nextLinkWord, nextHeadWord, nextChoice, nextLatch, askedMark, nextOutMark, nextOutWord, neighbourPlace, nextExtraMark, nextExtraWord}
 use Rattle.network.specs.Inner.Machine.{memoryMark, memoryWord, nextReceiveMark, nextReceiveKind, nextReceiveAddress, nextLandingMark}
 use Rattle.network.specs.Inner.Machine.{memoryAfter, turns, isDue, nextSender, nextState, nextMemory}
-pub use Rattle.network.proofs.RowLaws.{sheet-kept, RouterAfter, router-after, NodeAfter, node-after, sender-same, sender-after, ClockAfter, clock-after}
+pub use Rattle.network.proofs.RowLaws.{sheet-kept, input-at, RouterAfter, router-after, NodeAfter, node-after, sender-same, sender-after, ClockAfter, clock-after}
 
 -- marks of 3 and more, tested
 not-zero : (x : ℕ) → (suc (suc (suc x)) =? 0) ≡ false
@@ -197,6 +197,12 @@ asked-same s m node o input =
     cell-only (reg s choiceRow (at node input) =? o + 1) (reg s headMark (at node input)) (reg s headWord (at node input))
     ∙ ap (λ b. pick b (view s m .routers .head node input) empty) (asks-test (reg s choiceRow (at node input)) o)
 
+-- what comes out of a link, by the rows
+end-same : (s : List ℕ) (b : Bool) (k : ℕ) → seenCell (reg s (pick b extraMark outMark) k) (reg s (pick b extraWord outWord) k)
+    ≡ pick b (seenCell (reg s extraMark k) (reg s extraWord k)) (seenCell (reg s outMark k) (reg s outWord k))
+end-same s true k = refl
+end-same s false k = refl
+
 -- the registers after a cycle, one by one
 module _ (s m : List ℕ) where
   abbrev after : View
@@ -206,13 +212,12 @@ module _ (s m : List ℕ) where
   next = tick (sheetIn s) (view s m)
 
   link-next : (node input : ℕ) → RouterAfter s m node input → after .routers .link node input ≡ next .routers .link node input
-  unfolding stepRouters nextLinkMark nextLinkWord
+  unfolding stepRouters linkEnd nextLinkMark nextLinkWord
   link-next node input r =
       ap₂ seenCell (r .link-mark) (r .link-word)
       ∙ cell-pick (input =? sourceInput) _ _ _ _
-      ∙ ap (λ x. pick (input =? sourceInput) x
-      (view s m .routers .out (neighbourOf (columns (sheetIn s)) (rows (sheetIn s)) node input) (oppositeOf input)))
-      (wire-same s m node)
+      ∙ ap₂ (λ x y. pick (input =? sourceInput) x y) (wire-same s m node)
+      (end-same s (hasExtra (sheetIn s) (oppositeOf input)) (neighbourPlace s node input))
 
   head-next : (node input : ℕ) → RouterAfter s m node input → after .routers .head node input ≡ next .routers .head node input
   unfolding stepRouters
@@ -237,6 +242,13 @@ module _ (s m : List ℕ) where
       ap₂ seenCell (r .out-mark) (r .out-word)
       ∙ cell-first 5 (askedMark s node o) (λ input. reg s headWord (at node input))
       ∙ gather-same 5 _ _ (λ input _. asked-same s m node o input)
+
+  extra-next : (node o : ℕ) → o < 5 → RouterAfter s m node o → after .routers .extra node o ≡ next .routers .extra node o
+  unfolding stepRouters nextExtraMark nextExtraWord
+  extra-next node o l r =
+      ap₂ seenCell (r .extra-mark) (r .extra-word)
+      ∙ cell-pick (hasExtra (sheetIn s) (at node o % 5)) _ _ _ _
+      ∙ ap (λ i. pick (hasExtra (sheetIn s) i) (view s m .routers .out node o) (view s m .routers .extra node o)) (input-at node o l)
 
   sender-next : (circuit : ℕ) → seenSender (nextState s m) circuit ≡ nextSender s circuit → after .sender circuit ≡ next .sender circuit
   unfolding slotIn
@@ -297,6 +309,7 @@ cycle-agrees s m few-nodes few-circuits e = record {
   choice = λ node input nl il. choice-next s m node input (router-after s m few-nodes node input nl il);
   latch = λ node input nl il. latch-next s m node input (router-after s m few-nodes node input nl il);
   out = λ node o nl ol. out-next s m node o (router-after s m few-nodes node o nl ol);
+  extra = λ node o nl ol has. extra-next s m node o ol (router-after s m few-nodes node o nl ol);
   memory = memory-next s m e;
   cycle = cycle-next s m;
   periodNumber = number-next s m;

@@ -5,9 +5,9 @@ use mathlib.Core.List.{List}
 use Rattle.words.specs.Tests.{any, _and_, _or_, _≤?_, _=?_}
 use Rattle.words.specs.Words.{pick, countOf}
 use Rattle.packet.specs.Header.{headerWord, kindOf, addressOf, routeOf, firstCode, shiftedWord}
-use Rattle.torus.specs.Torus.{neighbourOf, oppositeOf}
+use Rattle.torus.specs.Torus.{neighbourOf, oppositeOf, isVertical}
 use Rattle.torus.specs.Route.{outputOf}
-use Rattle.sheet.specs.Sheet.{columns, rows, memoryWords, circuits, nodes, period}
+use Rattle.sheet.specs.Sheet.{columns, rows, isLong, memoryWords, circuits, nodes, period}
 use Rattle.sheet.specs.Slots.{slotLength, slotRoute, sourceOf}
 use Rattle.network.specs.View.{Cell, empty, header, payload, sourceInput, ports, memoryOutput, Choice, noOutput, toOutput, Routers, Sender, Receiver}
 use Rattle.network.specs.View.{Landing, nothing, landed, Order, noOrder, pending, View}
@@ -51,15 +51,24 @@ abbrev pub gather : ℕ → (ℕ → Cell) → Cell
 gather zero cells = empty
 gather (suc n) cells = join (gather n cells) (cells n)
 
+-- the links. On a grid whose vertical links are long, those of the north and the south outputs have an extra register
+unfoldable pub hasExtra : List ℕ → ℕ → Bool
+hasExtra z output = isLong z and isVertical output
+
+-- what comes out of an output's link: what is in its extra register, or on the output where it has none
+unfoldable pub linkEnd : List ℕ → Routers → ℕ → ℕ → Cell
+linkEnd z r node output = pick (hasExtra z output) (r .extra node output) (r .out node output)
+
 -- the routers after a cycle in which the sources put the given cells on their wires
 unfoldable pub stepRouters : List ℕ → (ℕ → Cell) → Routers → Routers
 stepRouters z wire r = record {
   link = λ node input.
-      pick (input =? sourceInput) (wire node) (r .out (neighbourOf (columns z) (rows z) node input) (oppositeOf input));
+      pick (input =? sourceInput) (wire node) (linkEnd z r (neighbourOf (columns z) (rows z) node input) (oppositeOf input));
   head = λ node input. advance (r .link node input);
   choice = λ node input. choose input (r .latch node input) (r .link node input);
   latch = λ node input. hold input (r .latch node input) (r .link node input);
   out = λ node output. gather ports (asks r node output);
+  extra = λ node output. pick (hasExtra z output) (r .out node output) (r .extra node output);
 }
 
 -- the senders. In a cycle a circuit's sender opens a packet where a slot begins and words are left; else it sends its packet's next word, or

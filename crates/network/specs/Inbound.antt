@@ -1,5 +1,5 @@
 -- Which circuits have words on their way (document 02, L3), read from the wires and stored nowhere. From the cycle in which a packet's
--- header leaves until its last word has landed, either the header is in a link, head or out register, or the receive unit of its
+-- header leaves until its last word has landed, either the header is in a link, head, out or extra register, or the receive unit of its
 -- destination says that a packet is arriving. A header names its circuit: its codes lead to a node, and there its address lies in one
 -- receive region (number 6).
 use Prim.Native.Nat.{ℕ, zero, suc, _+_, _-_, _*_, _/_, _%_}
@@ -14,9 +14,9 @@ use Rattle.torus.specs.Route.{codes}
 use Rattle.sheet.specs.declared.circuits.Region.{Region}
 use Rattle.sheet.specs.Sheet.{columns, rows, nodes, circuitAt}
 use Rattle.network.specs.View.{ports, memoryOutput}
-use Rattle.network.specs.Cycle.{outputFor}
+use Rattle.network.specs.Cycle.{outputFor, hasExtra}
 use Rattle.network.specs.Registers.{reg, sheetIn, linkMark, linkWord, headMark, headWord, choiceRow, outMark, outWord, receiveMark}
-use Rattle.network.specs.Registers.{receiveAddress}
+use Rattle.network.specs.Registers.{receiveAddress, extraMark, extraWord}
 
 -- an address of a region
 abbrev pub inRegion : Region → ℕ → Bool
@@ -62,9 +62,15 @@ headInbound s r k =
 unfoldable pub outInbound : List ℕ → Region → ℕ → Bool
 outInbound s r k = reg s outMark k =? 1 and comesInto (sheetIn s) r (k / ports) (k % ports) (reg s outWord k)
 
+-- the extra register does, where the output's link has one: as on the output
+unfoldable pub extraInbound : List ℕ → Region → ℕ → Bool
+extraInbound s r k =
+    reg s extraMark k =? 1 and hasExtra (sheetIn s) (k % ports)
+    and comesInto (sheetIn s) r (k / ports) (k % ports) (reg s extraWord k)
+
 -- a header at place k comes into the region
 unfoldable pub headerInbound : List ℕ → Region → ℕ → Bool
-headerInbound s r k = linkInbound s r k or headInbound s r k or outInbound s r k
+headerInbound s r k = linkInbound s r k or headInbound s r k or outInbound s r k or extraInbound s r k
 
 -- a packet is arriving at the region's node, and the address of its next word lies in the region
 unfoldable pub isArriving : List ℕ → Region → Bool

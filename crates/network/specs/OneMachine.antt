@@ -1,7 +1,7 @@
 -- The machine in lent words is the machine of the article: the claim, which proofs/OneMachineProved proves. What the calls do is said with
 -- nextState, nextMemory and faultyIn; whoever believes this claim need not read how those are made (Inner/Machine).
-use Prim.Native.Nat.{ℕ, _*_, _≤_, _<_}
-use mathlib.Core.Bool.{not}
+use Prim.Native.Nat.{ℕ, _*_, _%_, _≤_, _<_}
+use mathlib.Core.Bool.{false, not}
 use mathlib.Core.List.{List}
 use mathlib.Core.Path.{_≡_}
 use lib.ListN.{length, drop}
@@ -9,8 +9,8 @@ use Rattle.words.specs.Numbers.{unless}
 use Rattle.sheet.specs.Sheet.{circuits, nodes}
 use Rattle.sheet.specs.Rules.{verdict}
 use Rattle.network.specs.View.{ports}
-use Rattle.network.specs.Cycle.{tick, faulty}
-use Rattle.network.specs.Registers.{reg, sheetIn, room, rowWords, movingWords, stateWords, clockRow, clockWords, linkMark, outWord, receiveMark, landingWord, leftRow, toGoRow}
+use Rattle.network.specs.Cycle.{hasExtra, tick, faulty}
+use Rattle.network.specs.Registers.{reg, sheetIn, room, rowWords, movingWords, stateWords, clockRow, clockWords, linkMark, outWord, receiveMark, landingWord, leftRow, toGoRow, extraMark, extraWord}
 use Rattle.network.specs.Seen.{view, Agree}
 use Rattle.network.specs.Inner.Machine.{faultyIn, nextState, nextMemory}
 
@@ -40,6 +40,11 @@ pub record OneCycle (s m : List ℕ) : Type 0 where
   pub router-rest : (row k : ℕ) → linkMark ≤ row → row ≤ outWord → nodes (sheetIn s) * ports ≤ k → k < rowWords
       → reg (nextState s m) row k ≡ reg s row k
   pub node-rest : (row k : ℕ) → receiveMark ≤ row → row ≤ landingWord → nodes (sheetIn s) ≤ k → k < rowWords
+      → reg (nextState s m) row k ≡ reg s row k
+  pub extra-rest : (row k : ℕ) → extraMark ≤ row → row ≤ extraWord → nodes (sheetIn s) * ports ≤ k → k < rowWords
+      → reg (nextState s m) row k ≡ reg s row k
+  -- also where an output's link has no extra register
+  pub extra-none : (row k : ℕ) → extraMark ≤ row → row ≤ extraWord → k < rowWords → hasExtra (sheetIn s) (k % ports) ≡ false
       → reg (nextState s m) row k ≡ reg s row k
   pub circuit-rest : (row k : ℕ) → leftRow ≤ row → row ≤ toGoRow → circuits (sheetIn s) ≤ k → k < rowWords
       → reg (nextState s m) row k ≡ reg s row k

@@ -12,7 +12,7 @@ abbrev pub rowWords : ℕ
 rowWords = 80
 
 abbrev pub rowCount : ℕ
-rowCount = 21
+rowCount = 23
 
 -- the words before the sheet's length
 abbrev pub movingWords : ℕ
@@ -110,6 +110,13 @@ kindRow = 19
 
 abbrev pub toGoRow : ℕ
 toGoRow = 20
+
+-- the extra registers of long vertical links, at the places of their outputs
+abbrev pub extraMark : ℕ
+extraMark = 21
+
+abbrev pub extraWord : ℕ
+extraWord = 22
 
 -- the place of a router's register, from its node and input or output
 abbrev pub at : ℕ → ℕ → ℕ

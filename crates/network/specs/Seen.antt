@@ -6,10 +6,11 @@ use mathlib.Core.Path.{_≡_}
 use Rattle.words.specs.Words.{word}
 use Rattle.sheet.specs.Sheet.{memoryWords, circuits, nodes}
 use Rattle.network.specs.View.{ports, Sender, Cell, empty, header, payload, Choice, noOutput, toOutput, Landing, nothing, landed, Order, noOrder, pending, View}
+use Rattle.network.specs.Cycle.{hasExtra}
 use Rattle.network.specs.Registers.{at, reg, room, clockRow, cyclePlace, numberPlace, inForcePlace, orderMarkPlace, orderSchedulePlace}
 use Rattle.network.specs.Registers.{orderPeriodPlace, linkMark, linkWord, headMark, headWord, choiceRow, latchRow, outMark, outWord}
 use Rattle.network.specs.Registers.{receiveMark, receiveKind, receiveAddress, landingMark, landingKind, landingAddress, landingWord, leftRow}
-use Rattle.network.specs.Registers.{readRow, writeRow, kindRow, toGoRow}
+use Rattle.network.specs.Registers.{readRow, writeRow, kindRow, toGoRow, extraMark, extraWord}
 
 -- a cell, from its mark and word
 abbrev pub seenCell : ℕ → ℕ → Cell
@@ -54,6 +55,7 @@ view s m = record {
     choice = λ node input. seenChoice (reg s choiceRow (at node input));
     latch = λ node input. seenChoice (reg s latchRow (at node input));
     out = λ node o. seenCell (reg s outMark (at node o)) (reg s outWord (at node o));
+    extra = λ node o. seenCell (reg s extraMark (at node o)) (reg s extraWord (at node o));
   };
   memory = λ node address. word m (node * room s + address);
   cycle = reg s clockRow cyclePlace;
@@ -77,6 +79,7 @@ pub record Agree (z : List ℕ) (a b : View) : Type 0 where
   pub choice : (node input : ℕ) → node < nodes z → input < ports → a .routers .choice node input ≡ b .routers .choice node input
   pub latch : (node input : ℕ) → node < nodes z → input < ports → a .routers .latch node input ≡ b .routers .latch node input
   pub out : (node o : ℕ) → node < nodes z → o < ports → a .routers .out node o ≡ b .routers .out node o
+  pub extra : (node o : ℕ) → node < nodes z → o < ports → hasExtra z o ≡ true → a .routers .extra node o ≡ b .routers .extra node o
   pub memory : (node address : ℕ) → node < nodes z → address < memoryWords z → a .memory node address ≡ b .memory node address
   pub cycle : a .cycle ≡ b .cycle
   pub periodNumber : a .periodNumber ≡ b .periodNumber

@@ -25,13 +25,15 @@ pub data Choice : Type 0 where
   toOutput : ℕ → Choice
 
 -- the registers of the routers. By node and input: what came over the link; what left the header stage, with the choice for it;
--- the choice held for the packet's further words (the latch). By node and output: what left the crossbar, on that output's wire.
+-- the choice held for the packet's further words (the latch). By node and output: what left the crossbar, on that output's wire; and what
+-- is in the extra register of that output's link, where the link is long (document 02, L7).
 pub record Routers : Type 0 where
   pub link : ℕ → ℕ → Cell
   pub head : ℕ → ℕ → Cell
   pub choice : ℕ → ℕ → Choice
   pub latch : ℕ → ℕ → Choice
   pub out : ℕ → ℕ → Cell
+  pub extra : ℕ → ℕ → Cell
 
 -- a circuit's sender: words of its transfer not sent yet (document 01's words left), the addresses of the next of them at the source
 -- and at the destination, the transfer's kind, and payload words of the present packet still to go

@@ -1,7 +1,7 @@
 // The clocked network over a session state that lies in lent words: the register map, and the header stage.
 ghost use mathlib.Core.Path.{_≡_};
 ghost use Prim.Native.Nat.{_%_};
-ghost use Rattle.network.specs.Cycle.{outputFor};
+ghost use Rattle.network.specs.Cycle.{outputFor, hasExtra};
 ghost use Rattle.network.specs.Registers.{reg as regOf, put, sheetIn, latchRow, linkMark, linkWord};
 ghost use Rattle.network.specs.Inner.Machine.{nextHeadWord, nextLatch};
 use packet::Header;
@@ -9,7 +9,7 @@ use packet::Header;
 // The register map (docs/STATE.md): rows of so many words, by their numbers, and the places in the clock's row.
 pub const ROW_WORDS: usize = 80;
 
-pub const ROW_COUNT: usize = 21;
+pub const ROW_COUNT: usize = 23;
 
 // The words before the sheet's length; the sheet is behind it.
 pub const MOVING_WORDS: usize = ROW_COUNT * ROW_WORDS;
@@ -75,6 +75,11 @@ pub const KIND_ROW: u32 = 19;
 
 pub const TO_GO_ROW: u32 = 20;
 
+// The extra registers of long vertical links.
+pub const EXTRA_MARK: u32 = 21;
+
+pub const EXTRA_WORD: u32 = 22;
+
 // A router has five inputs and five outputs; the fifth are its node's source and its node's memory.
 pub const OUTPUTS: u32 = 5;
 
@@ -109,6 +114,16 @@ pub fn sheet_of(s: &[u32]) -> &[u32]
         return &s[from..s.len()];
     }
     &s[from..from + size]
+}
+
+// The link of an output has an extra register: north and south, where the vertical links are long.
+pub fn has_extra(z: &[u32], output: u32) -> bool
+    ensures { λ r. ⌜ r ≡ hasExtra (now (z .entry)) output ⌝ }
+{
+    if sheet::is_long(z) {
+        return torus::is_vertical(output);
+    }
+    false
 }
 
 // The output that a header asks for, by its route's first code.

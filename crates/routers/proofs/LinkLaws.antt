@@ -9,15 +9,17 @@ use lib.ListN.{length}
 use Rattle.words.specs.Tests.{_=?_}
 use Rattle.words.specs.Words.{word, pick}
 use Rattle.words.proofs.TestLaws.{yes=, no=}
-use Rattle.torus.specs.Torus.{neighbourOf}
+use Rattle.torus.specs.Torus.{neighbourOf, oppositeOf}
 use Rattle.torus.specs.Inner.Grid.{InGrid}
 use Rattle.torus.proofs.NeighbourLaws.{bounds, neighbour-inside}
-use Rattle.sheet.specs.Sheet.{columns, rows, nodes}
+use Rattle.torus.proofs.RouteLaws.{vertical-north, vertical-south, vertical-none}
+use Rattle.sheet.specs.Sheet.{columns, rows, isLong, nodes}
 use Rattle.sheet.specs.Inner.Passed.{Headed}
-use Rattle.network.specs.Registers.{reg, put, sheetIn, movingWords, linkMark, linkWord, outMark, outWord, at, rowWords}
+use Rattle.network.specs.Registers.{reg, put, sheetIn, movingWords, linkMark, linkWord, outMark, extraMark, at, rowWords}
 use Rattle.network.specs.View.{sourceInput}
-use Rattle.network.specs.Inner.Machine.{neighbourPlace}
+use Rattle.network.specs.Inner.Machine.{endMark, endWord, neighbourPlace}
 use Rattle.network.specs.Inner.Stages.{stage, linkFrom}
+use Rattle.network.proofs.ExtraLaws.{end-low, end-high, end-behind, end-vertical, end-level}
 use Rattle.network.proofs.FillLaws.{Staged, stage-start, stage-more, beside}
 use Rattle.routers.specs.Inner.Stepping.{linked, placeBy, linkedBy}
 use Rattle.routers.proofs.OutLaws.{pair-wrote, filled}
@@ -35,24 +37,26 @@ module _ (cols count node side : ℕ) (g : InGrid cols count node) where
       omega (arith, neighbour-inside g side)
 
   -- from the neighbour that was computed
-  pub side-is : (s s′ : List ℕ) (next mark w from : ℕ) → next ≡ neighbourOf cols count node side
-      → mark ≡ reg s outMark from → w ≡ reg s outWord from → from ≡ next * 5 + (side + 2) % 4
+  pub side-is : (s s′ : List ℕ) (row next mark w from : ℕ) → next ≡ neighbourOf cols count node side
+      → mark ≡ reg s row from → w ≡ reg s (row + 1) from → from ≡ next * 5 + (side + 2) % 4
       → s′ ≡ linked s (node * 5 + side) mark w
-      → s′ ≡ linkedBy s cols count node side
-  side-is s s′ next mark w from e a b f q =
+      → s′ ≡ linkedBy s cols count node side row
+  side-is s s′ row next mark w from e a b f q =
       let there : from ≡ placeBy cols count node side = f ∙ ap (λ n. n * 5 + (side + 2) % 4) e in
-      q ∙ ap₂ (linked s (at node side)) (a ∙ ap (reg s outMark) there) (b ∙ ap (reg s outWord) there)
+      q ∙ ap₂ (linked s (at node side)) (a ∙ ap (reg s row) there) (b ∙ ap (reg s (row + 1)) there)
 
 -- what the definition has at a side's place and at a source's
 module _ (marks cells s : List ℕ) (n node : ℕ) where
   by-tests : (row : ℕ) (source first : Bool) → (n % 5 =? sourceInput) ≡ source → (row =? linkMark) ≡ first
       → pick source (pick first (word marks (n / 5)) (word cells (n / 5)))
-      (pick first (reg s outMark (neighbourPlace s (n / 5) (n % 5))) (reg s outWord (neighbourPlace s (n / 5) (n % 5))))
+      (pick first (reg s (endMark s (oppositeOf (n % 5))) (neighbourPlace s (n / 5) (n % 5)))
+      (reg s (endWord s (oppositeOf (n % 5))) (neighbourPlace s (n / 5) (n % 5))))
       ≡ linkFrom marks cells s row n
   unfolding linkFrom
   by-tests row source first a b =
       sym (ap₂ (λ (t u : Bool). pick t (pick u (word marks (n / 5)) (word cells (n / 5)))
-      (pick u (reg s outMark (neighbourPlace s (n / 5) (n % 5))) (reg s outWord (neighbourPlace s (n / 5) (n % 5))))) a b)
+      (pick u (reg s (endMark s (oppositeOf (n % 5))) (neighbourPlace s (n / 5) (n % 5)))
+      (reg s (endWord s (oppositeOf (n % 5))) (neighbourPlace s (n / 5) (n % 5))))) a b)
 
   later : (linkWord =? linkMark) ≡ false
   later = no= (λ q. omega arith)
@@ -63,17 +67,21 @@ module _ (marks cells s : List ℕ) (n node : ℕ) where
         let other : n % 5 ≡ sourceInput → ⊥ = λ q. (let z : ⊥ = omega (arith, q) in z) in
         no= other
 
-    by-side : (row : ℕ) → reg s row (neighbourPlace s node side) ≡ reg s row (neighbourPlace s (n / 5) (n % 5))
-    by-side row =
-        let own : node ≡ n / 5 = omega arith in
-        let input : side ≡ n % 5 = omega arith in
-        ap₂ (λ (a b : ℕ). reg s row (neighbourPlace s a b)) own input
+    own-side : node ≡ n / 5
+    own-side = omega arith
 
-    side-mark : reg s outMark (neighbourPlace s node side) ≡ linkFrom marks cells s linkMark n
-    side-mark = by-side outMark ∙ by-tests linkMark false true no-source (yes= refl)
+    own-input : side ≡ n % 5
+    own-input = omega arith
 
-    side-word : reg s outWord (neighbourPlace s node side) ≡ linkFrom marks cells s linkWord n
-    side-word = by-side outWord ∙ by-tests linkWord false false no-source later
+    side-mark : reg s (endMark s (oppositeOf side)) (neighbourPlace s node side) ≡ linkFrom marks cells s linkMark n
+    side-mark =
+        ap₂ (λ (a b : ℕ). reg s (endMark s (oppositeOf b)) (neighbourPlace s a b)) own-side own-input
+        ∙ by-tests linkMark false true no-source (yes= refl)
+
+    side-word : reg s (endWord s (oppositeOf side)) (neighbourPlace s node side) ≡ linkFrom marks cells s linkWord n
+    side-word =
+        ap₂ (λ (a b : ℕ). reg s (endWord s (oppositeOf b)) (neighbourPlace s a b)) own-side own-input
+        ∙ by-tests linkWord false false no-source later
 
   module _ (e : n ≡ at node sourceInput) where
     is-source : (n % 5 =? sourceInput) ≡ true
@@ -103,22 +111,25 @@ module _ (marks cells s now next : List ℕ) (n n′ : ℕ) (small : n < rowWord
       (pair-wrote linkMark n mark w (λ row. linkFrom marks cells s row n) now (put now linkMark n mark) next (omega arith) small long₀
       a b refl e))
 
-  -- from the neighbour by a side: its output is not written here
+  -- from the neighbour by a side: neither its outputs nor its extra registers are written here
   side-more : (cols count node side : ℕ) → n ≡ at node side → side < 4 → cols ≡ columns (sheetIn s) → count ≡ rows (sheetIn s)
-      → InGrid cols count node → next ≡ linkedBy now cols count node side
+      → InGrid cols count node → (row : ℕ) → row ≡ endMark s (oppositeOf side) → next ≡ linkedBy now cols count node side row
       → Staged linkMark linkWord n′ (linkFrom marks cells s) s next
-  side-more cols count node side e l own-cols own-rows grid q =
+  side-more cols count node side e l own-cols own-rows grid row r q =
       let place : ℕ = placeBy cols count node side in
       let inside : place < rowWords = place-small cols count node side grid in
       let same : place ≡ neighbourPlace s node side = ap₂ (λ (a b : ℕ). placeBy a b node side) own-cols own-rows in
-      let mark : reg now outMark place ≡ reg s outMark place =
-      beside linkMark linkWord n (linkFrom marks cells s) s now g outMark place (omega arith) inside (λ a b. omega arith) in
-      let cell : reg now outWord place ≡ reg s outWord place =
-      beside linkMark linkWord n (linkFrom marks cells s) s now g outWord place (omega arith) inside (λ a b. omega arith) in
-      link-more (reg now outMark place) (reg now outWord place)
-      (mark ∙ ap (reg s outMark) same ∙ side-mark marks cells s n node side e l)
-      (cell ∙ ap (reg s outWord) same ∙ side-word marks cells s n node side e l)
-      (q ∙ ap (λ k. linked now k (reg now outMark place) (reg now outWord place)) (sym e))
+      let low : outMark ≤ row = omega (arith, r, end-low s (oppositeOf side)) in
+      let high : row ≤ extraMark = omega (arith, r, end-high s (oppositeOf side)) in
+      let behind : row + 1 ≡ endWord s (oppositeOf side) = ap (λ (i : ℕ). i + 1) r ∙ end-behind s (oppositeOf side) in
+      let mark : reg now row place ≡ reg s row place =
+      beside linkMark linkWord n (linkFrom marks cells s) s now g row place (omega arith) inside (λ a b. omega arith) in
+      let cell : reg now (row + 1) place ≡ reg s (row + 1) place =
+      beside linkMark linkWord n (linkFrom marks cells s) s now g (row + 1) place (omega arith) inside (λ a b. omega arith) in
+      link-more (reg now row place) (reg now (row + 1) place)
+      (mark ∙ ap₂ (reg s) r same ∙ side-mark marks cells s n node side e l)
+      (cell ∙ ap₂ (reg s) behind same ∙ side-word marks cells s n node side e l)
+      (q ∙ ap (λ k. linked now k (reg now row place) (reg now (row + 1) place)) (sym e))
 
   -- from the source wire
   source-more : (node mark w : ℕ) → n ≡ at node sourceInput → mark ≡ word marks node → w ≡ word cells node
@@ -128,10 +139,11 @@ module _ (marks cells s now next : List ℕ) (n n′ : ℕ) (small : n < rowWord
       (q ∙ ap (λ k. linked now k mark w) (sym e))
 
 -- the loop over the nodes: those before node are done
-pub record Linking (s marks cells : List ℕ) (cols count all node : ℕ) (now : List ℕ) : Type 0 where
+pub record Linking (s marks cells : List ℕ) (cols count all vertical node : ℕ) (now : List ℕ) : Type 0 where
   pub own-cols : cols ≡ columns (sheetIn s)
   pub own-rows : count ≡ rows (sheetIn s)
   pub in-all : all ≡ cols * count
+  pub own-vertical : vertical ≡ pick (isLong (sheetIn s)) extraMark outMark
   pub few : all ≤ 16
   pub inside : node ≤ all
   pub head : Headed (sheetIn s)
@@ -140,11 +152,13 @@ pub record Linking (s marks cells : List ℕ) (cols count all node : ℕ) (now :
 
 -- what was read of the head
 pub linking-start : (s z : List ℕ) → z ≡ sheetIn s → (cols count all : ℕ) → cols ≡ columns z → count ≡ rows z → (all ≡ nodes z) × (all ≤ 16)
-    → Headed (sheetIn s) → (marks cells : List ℕ) → movingWords ≤ length s → Linking s marks cells cols count all 0 s
-linking-start s z e cols count all a b n h marks cells long = record {
+    → (vertical : ℕ) → vertical ≡ pick (isLong z) extraMark outMark
+    → Headed (sheetIn s) → (marks cells : List ℕ) → movingWords ≤ length s → Linking s marks cells cols count all vertical 0 s
+linking-start s z e cols count all a b n vertical v h marks cells long = record {
   own-cols = a ∙ ap columns e;
   own-rows = b ∙ ap rows e;
   in-all = n .0 ∙ sym (ap₂ _*_ a b);
+  own-vertical = v ∙ ap (λ (x : List ℕ). pick (isLong x) extraMark outMark) e;
   few = n .1;
   inside = omega arith;
   head = h;
@@ -152,7 +166,12 @@ linking-start s z e cols count all a b n h marks cells long = record {
   so-far = stage-start linkMark linkWord (linkFrom marks cells s) s;
 }
 
-module _ (s marks cells : List ℕ) (cols count all node : ℕ) (now : List ℕ) (g : Linking s marks cells cols count all node now) where
+module _ (s marks cells : List ℕ) (cols count all vertical node : ℕ) (now : List ℕ)
+    (g : Linking s marks cells cols count all vertical node now) where
+  -- the rows that the sides read lie in the state
+  pub linking-row : vertical ≤ extraMark
+  linking-row = omega (arith, end-vertical s 0 (vertical-north 0 refl) vertical (g .own-vertical), end-high s 0)
+
   pub linking-grid : node < all → InGrid cols count node
   linking-grid l =
       let h = g .head in
@@ -166,31 +185,34 @@ module _ (s marks cells : List ℕ) (cols count all node : ℕ) (now : List ℕ)
 
   -- the five inputs of one node
   pub linking-more : node < all → (s₁ s₂ s₃ s₄ s₅ : List ℕ)
-      → s₁ ≡ linkedBy now cols count node 0
-      → s₂ ≡ linkedBy s₁ cols count node 1
-      → s₃ ≡ linkedBy s₂ cols count node 2
-      → s₄ ≡ linkedBy s₃ cols count node 3
+      → s₁ ≡ linkedBy now cols count node 0 vertical
+      → s₂ ≡ linkedBy s₁ cols count node 1 outMark
+      → s₃ ≡ linkedBy s₂ cols count node 2 vertical
+      → s₄ ≡ linkedBy s₃ cols count node 3 outMark
       → (mark w : ℕ) → mark ≡ word marks node → w ≡ word cells node → s₅ ≡ linked s₄ (at node sourceInput) mark w
-      → Linking s marks cells cols count all (node + 1) s₅
+      → Linking s marks cells cols count all vertical (node + 1) s₅
   linking-more l s₁ s₂ s₃ s₄ s₅ a b c d mark w me we e =
       let grid = linking-grid l in
       let small : node * 5 + 4 < rowWords = omega (arith, g .few) in
       let g₁ : Staged linkMark linkWord (node * 5 + 1) (linkFrom marks cells s) s s₁ =
       side-more marks cells s now s₁ (node * 5) (node * 5 + 1) (omega arith) refl (g .long) (g .so-far) cols count node 0
-      (omega arith) (omega arith) (g .own-cols) (g .own-rows) grid a in
+      (omega arith) (omega arith) (g .own-cols) (g .own-rows) grid vertical
+      (end-vertical s 2 (vertical-south 2 refl) vertical (g .own-vertical)) a in
       let g₂ : Staged linkMark linkWord (node * 5 + 2) (linkFrom marks cells s) s s₂ =
       side-more marks cells s s₁ s₂ (node * 5 + 1) (node * 5 + 2) (omega arith) (omega arith) (g .long) g₁ cols count node 1
-      refl (omega arith) (g .own-cols) (g .own-rows) grid b in
+      refl (omega arith) (g .own-cols) (g .own-rows) grid outMark (end-level s 3 (vertical-none 3 (λ q. omega arith) (λ q. omega arith))) b in
       let g₃ : Staged linkMark linkWord (node * 5 + 3) (linkFrom marks cells s) s s₃ =
       side-more marks cells s s₂ s₃ (node * 5 + 2) (node * 5 + 3) (omega arith) (omega arith) (g .long) g₂ cols count node 2
-      refl (omega arith) (g .own-cols) (g .own-rows) grid c in
+      refl (omega arith) (g .own-cols) (g .own-rows) grid vertical
+      (end-vertical s 0 (vertical-north 0 refl) vertical (g .own-vertical)) c in
       let g₄ : Staged linkMark linkWord (node * 5 + 4) (linkFrom marks cells s) s s₄ =
       side-more marks cells s s₃ s₄ (node * 5 + 3) (node * 5 + 4) (omega arith) (omega arith) (g .long) g₃ cols count node 3
-      refl (omega arith) (g .own-cols) (g .own-rows) grid d in
+      refl (omega arith) (g .own-cols) (g .own-rows) grid outMark (end-level s 1 (vertical-none 1 (λ q. omega arith) (λ q. omega arith))) d in
       record {
         own-cols = g .own-cols;
         own-rows = g .own-rows;
         in-all = g .in-all;
+        own-vertical = g .own-vertical;
         few = g .few;
         inside = omega arith;
         head = g .head;

@@ -7,13 +7,13 @@ ghost use lib.ListN.{length};
 ghost use Rattle.words.specs.Tests.{any, _and_, _or_, _≤?_, _<?_, _=?_};
 ghost use Rattle.words.specs.Words.{pick, tab};
 ghost use Rattle.torus.specs.Inner.Grid.{InGrid};
-ghost use Rattle.sheet.specs.Sheet.{nodes as nodeCount};
+ghost use Rattle.sheet.specs.Sheet.{isLong, nodes as nodeCount};
 ghost use Rattle.sheet.specs.Inner.Passed.{Headed};
-ghost use Rattle.network.specs.Registers.{reg as regOf, sheetIn, movingWords, linkMark, linkWord, latchRow, rowWords, headMark, outMark, outWord};
+ghost use Rattle.network.specs.Registers.{reg as regOf, sheetIn, movingWords, linkMark, linkWord, latchRow, rowWords, headMark, outMark, outWord, extraMark, extraWord};
 ghost use Rattle.network.specs.Inner.Machine.{nextChoice, nextOutMark, nextOutWord, collidesIn, unheldIn, unchosenIn, nextInRow};
 ghost use Rattle.network.specs.Inner.Stages.{stage, linkFrom, outFrom};
 ghost use Rattle.routers.specs.Inner.Crossing.{Crossed};
-ghost use Rattle.routers.specs.Inner.Stepping.{linked, linkedBy, headStepped};
+ghost use Rattle.routers.specs.Inner.Stepping.{linked, linkedBy, extended, headStepped};
 use network::put_reg;
 use network::reg;
 
@@ -170,18 +170,30 @@ fn put_link(s: &mut [u32], k: u32, mark: u32, word: u32)
     put_reg(s, network::LINK_WORD, k, word);
 }
 
-// The link register of a side's input: what is on the neighbour's output by the opposite side.
-fn step_side(s: &mut [u32], cols: u32, rows: u32, node: u32, side: u32)
-    requires { ⌜ (InGrid cols rows node) × (side < 4) ⌝ }
-    ensures { λ _. ⌜ now (s .exit) ≡ linkedBy (now (s .entry)) cols rows node side ⌝ }
+// The row of the marks that come out of vertical links: of the extra registers where these links are long, else of the outputs. In both
+// cases the words are in the row behind it.
+fn vertical_row(z: &[u32]) -> u32
+    ensures { λ r. ⌜ r ≡ pick (isLong (now (z .entry))) extraMark outMark ⌝ }
+{
+    if sheet::is_long(z) {
+        return network::EXTRA_MARK;
+    }
+    network::OUT_MARK
+}
+
+// The link register of a side's input: what comes out of the neighbour's link by the opposite side, the mark from a row and the word from
+// the row behind it.
+fn step_side(s: &mut [u32], cols: u32, rows: u32, node: u32, side: u32, row: u32)
+    requires { ⌜ (InGrid cols rows node) × (side < 4) × (row ≤ extraMark) ⌝ }
+    ensures { λ _. ⌜ now (s .exit) ≡ linkedBy (now (s .entry)) cols rows node side row ⌝ }
 {
     let from = torus::neighbour(cols, rows, node, side) * 5 + (side + 2) % 4;
-    let mark = reg(s, network::OUT_MARK, from);
-    let word = reg(s, network::OUT_WORD, from);
+    let mark = reg(s, row, from);
+    let word = reg(s, row + 1, from);
     put_link(s, node * 5 + side, mark, word);
 }
 
-// The link registers of all inputs: the neighbours' outputs, and what is on the source wires, a mark and a word a node.
+// The link registers of all inputs: what comes out of the neighbours' links, and what is on the source wires, a mark and a word a node.
 pub fn step_links(s: &mut [u32], marks: &[u32], cells: &[u32])
     requires { ⌜ (Headed (sheetIn (now s))) × (movingWords ≤ length (now s)) ⌝ }
     ensures { λ _. ⌜ now (s .exit) ≡ stage linkMark linkWord (nodeCount (sheetIn (now (s .entry))) * 5) (linkFrom (now (marks .entry)) (now (cells .entry)) (now (s .entry))) (now (s .entry)) ⌝ }
@@ -190,19 +202,49 @@ pub fn step_links(s: &mut [u32], marks: &[u32], cells: &[u32])
     let cols = sheet::columns_of(z);
     let rows = sheet::rows_of(z);
     let nodes = sheet::nodes_of(z);
+    let vertical = vertical_row(z);
     if MOST_NODES < nodes {
         return;
     }
     let mut node: u32 = 0;
     while node < nodes {
-        step_side(s, cols, rows, node, 0);
-        step_side(s, cols, rows, node, 1);
-        step_side(s, cols, rows, node, 2);
-        step_side(s, cols, rows, node, 3);
+        step_side(s, cols, rows, node, 0, vertical);
+        step_side(s, cols, rows, node, 1, network::OUT_MARK);
+        step_side(s, cols, rows, node, 2, vertical);
+        step_side(s, cols, rows, node, 3, network::OUT_MARK);
         let mark = words::get(marks, node as usize);
         let word = words::get(cells, node as usize);
         put_link(s, node * 5 + network::SOURCE_INPUT, mark, word);
         node += 1;
+    }
+}
+
+// The extra register of output k takes what is on the output.
+fn step_extra(s: &mut [u32], k: u32)
+    ensures { λ _. ⌜ now (s .exit) ≡ extended (now (s .entry)) k ⌝ }
+{
+    let mark = reg(s, network::OUT_MARK, k);
+    let word = reg(s, network::OUT_WORD, k);
+    put_reg(s, network::EXTRA_MARK, k, mark);
+    put_reg(s, network::EXTRA_WORD, k, word);
+}
+
+// The extra registers of long vertical links, after the links have taken what was in them and before the outputs change; a grid without
+// such links has none.
+pub fn step_extras(s: &mut [u32], nodes: u32, long: bool)
+    requires { ⌜ (movingWords ≤ length (now s)) × (nodes ≡ nodeCount (sheetIn (now s))) × (nodes ≤ 16) × (long ≡ isLong (sheetIn (now s))) ⌝ }
+    ensures { λ _. ⌜ now (s .exit) ≡ stage extraMark extraWord (nodes * 5) (nextInRow (now (s .entry)) []) (now (s .entry)) ⌝ }
+{
+    if long {
+        if MOST_NODES < nodes {
+            return;
+        }
+        let mut node: u32 = 0;
+        while node < nodes {
+            step_extra(s, node * 5);
+            step_extra(s, node * 5 + 2);
+            node += 1;
+        }
     }
 }
 

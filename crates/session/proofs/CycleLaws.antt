@@ -15,18 +15,19 @@ use Rattle.words.proofs.TestLaws.{and-left, and-right, is≤, yes=, no=}
 use Rattle.words.proofs.WordLaws.{length-tab}
 use Rattle.packet.specs.Header.{headerWord, kindOf, shiftedWord}
 use Rattle.packet.proofs.HeaderLaws.{shifted-kind}
-use Rattle.torus.proofs.NeighbourLaws.{neighbour-inside}
+use Rattle.torus.specs.Torus.{oppositeOf}
+use Rattle.torus.proofs.NeighbourLaws.{neighbour-inside, opposite-side}
 use Rattle.sheet.specs.Sheet.{circuits, schedules, nodes, circuitAt, period}
 use Rattle.sheet.proofs.PassedLaws.{in-grid}
 use Rattle.sheet.specs.Slots.{slotRoute, sourceOf}
 use Rattle.network.specs.View.{sourceInput, memoryOutput}
-use Rattle.network.specs.Cycle.{outputFor, Move, rests, opens, sends}
+use Rattle.network.specs.Cycle.{outputFor, hasExtra, Move, rests, opens, sends}
 use Rattle.network.specs.Registers.{reg, sheetIn, sheetLength, room, movingWords, clockRow, cyclePlace, inForcePlace, orderMarkPlace}
 use Rattle.network.specs.Registers.{orderSchedulePlace, headWord, choiceRow, receiveMark, receiveKind, leftRow, readRow, writeRow, kindRow, toGoRow}
-use Rattle.network.specs.Registers.{at}
+use Rattle.network.specs.Registers.{outMark, outWord, extraMark, extraWord, at}
 use Rattle.network.specs.Seen.{seenSender}
 use Rattle.network.specs.Inner.Machine.{firstMark, firstWord, slotIn, moveIn, markOf, wordOf, sentMark, sentWord, ownMark, sourceMark, sourceWord}
-use Rattle.network.specs.Inner.Machine.{neighbourPlace, nextLinkMark, nextLinkWord, nextHeadWord, nextChoice, nextLatch, askedMark, nextOutMark}
+use Rattle.network.specs.Inner.Machine.{endMark, endWord, neighbourPlace, nextExtraMark, nextExtraWord, nextLinkMark, nextLinkWord, nextHeadWord, nextChoice, nextLatch, askedMark, nextOutMark}
 use Rattle.network.specs.Inner.Machine.{nextOutWord, memoryMark, memoryWord, nextReceiveMark, nextReceiveKind, nextLandingMark, turns, isDue}
 use Rattle.network.specs.Inner.Machine.{nextWord, nextState}
 use Rattle.network.proofs.RowLaws.{router-after, node-after, sender-after, clock-after}
@@ -165,12 +166,22 @@ module _ (s m : List ℕ) (b : SheetBounds (sheetIn s)) (x : SoundParts (sheetIn
   source-parts node =
       sound-first (circuits sheet) (ownMark s node) (sentWord s m) (λ c l. sound-only (sourceOf sheet c =? node) (sent-parts c l))
 
-  -- the cell that comes over a link is the source's, or stands on the neighbour's output
+  -- what comes out of an output's link is in its extra register or on the output
+  end-parts : (output k : ℕ) → k % 5 ≡ output → k < nodes sheet * 5 → CellParts (reg s (endMark s output) k) (reg s (endWord s output) k)
+  end-parts output k e l = go (hasExtra sheet output) refl
+    where
+      go : (has : Bool) → hasExtra sheet output ≡ has
+          → CellParts (reg s (pick has extraMark outMark) k) (reg s (pick has extraWord outWord) k)
+      go true q = x .extras k l (ap (hasExtra sheet) e ∙ q)
+      go false q = x .routers k l .out
+
+  -- the cell that comes over a link is the source's, or comes out of the neighbour's link
   link-parts : (node input : ℕ) → node < nodes sheet → input < 5 → CellParts (nextLinkMark s node input) (nextLinkWord s m node input)
   unfolding nextLinkMark nextLinkWord
   link-parts node input nl il =
       let inside = neighbour-inside (in-grid sheet (b .ranged .framed .headed) node nl) input in
-      sound-pick (input =? sourceInput) (source-parts node) (x .routers (neighbourPlace s node input) (omega arith) .out)
+      let side = opposite-side input in
+      sound-pick (input =? sourceInput) (source-parts node) (end-parts (oppositeOf input) (neighbourPlace s node input) (omega arith) (omega arith))
 
   out-parts : (node output : ℕ) → node < nodes sheet → CellParts (nextOutMark s node output) (nextOutWord s node output)
   unfolding nextOutMark nextOutWord askedMark
@@ -189,6 +200,18 @@ module _ (s m : List ℕ) (b : SheetBounds (sheetIn s)) (x : SoundParts (sheetIn
         choice = λ p. rw (r .choice-register) (choice-high _ _ _ _ (now .latch));
         latch = rw (r .latch-register) (latch-high _ _ _ _ (now .latch));
       }
+
+  extra-next : (k : ℕ) → k < nodes sheet * 5 → hasExtra sheet (k % 5) ≡ true → CellParts (reg next extraMark k) (reg next extraWord k)
+  unfolding nextExtraMark nextExtraWord
+  extra-next k l has =
+      subst (λ (i : ℕ). CellParts (reg next extraMark i) (reg next extraWord i)) (div-add-mod' k 5)
+      (rw (
+        router-after s m (b .few-nodes) (k / 5) (k % 5) (omega arith) (omega arith) .extra-mark,
+        router-after s m (b .few-nodes) (k / 5) (k % 5) (omega arith) (omega arith) .extra-word,
+        div-add-mod' k 5,
+        has,
+      )
+      (x .routers k l .out))
 
   -- a receive unit: what arrives is a header whose kind travels, or the unit stays, or ends
   receive-travels : (n : ℕ) → n < nodes sheet → 1 ≤ nextReceiveMark s n → kindTravels (nextReceiveKind s n) ≡ true
@@ -270,5 +293,6 @@ module _ (s m : List ℕ) (b : SheetBounds (sheetIn s)) (x : SoundParts (sheetIn
         order-inside = rw (r .order-mark, r .order-schedule) order-next;
         transfers = transfer-next;
         routers = λ k l. subst (RouterParts next) (div-add-mod' k 5) (router-next (k / 5) (k % 5) (omega arith) (omega arith));
+        extras = extra-next;
         units = unit-next;
       }

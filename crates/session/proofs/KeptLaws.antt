@@ -16,7 +16,7 @@ use Rattle.sheet.specs.Sheet.{meant, circuits, nodes, circuitAt}
 use Rattle.sheet.specs.Rules.{verdict}
 use Rattle.network.specs.Registers.{reg, sheetIn, clockRow, cyclePlace, inForcePlace, orderMarkPlace, orderSchedulePlace, linkMark, linkWord}
 use Rattle.network.specs.Registers.{headMark, headWord, choiceRow, latchRow, outMark, outWord, receiveMark, receiveKind, landingMark, leftRow}
-use Rattle.network.specs.Registers.{readRow, writeRow, kindRow, toGoRow, rowWords, landingWord, stateWords}
+use Rattle.network.specs.Registers.{readRow, writeRow, kindRow, toGoRow, rowWords, landingWord, extraMark, extraWord, stateWords}
 use Rattle.network.specs.Seen.{seenSender}
 use Rattle.network.specs.Inner.Machine.{nextState}
 use Rattle.network.proofs.RowLaws.{sender-same, sheet-kept}
@@ -26,7 +26,7 @@ use Rattle.session.specs.Calls.{stateNumber, loadWordsNumber, startNumbe
 use Rattle.session.specs.Calls.{load, start, startAll, store, fetch, left, periodNumber, whatLanded, order, cycle, number, does, after, isLoad, Question, ask}
 use Rattle.session.specs.Calls.{questionNumber}
 use Rattle.session.proofs.NumberLaws.{state-passed, load-passed, StartPassed, start-passed, list-passed, place-passed, left-passed, landed-passed, OrderPassed, order-passed, cycle-passed}
-use Rattle.soundness.proofs.SoundLaws.{beside, cell-none, TransferParts, RouterParts, NodeParts, SoundParts, sound-parts, sound-on}
+use Rattle.soundness.proofs.SoundLaws.{beside, CellParts, cell-none, TransferParts, RouterParts, NodeParts, SoundParts, sound-parts, sound-on}
 use Rattle.soundness.proofs.SheetLaws.{SheetBounds, sheet-bounds, period-some}
 pub use Rattle.session.proofs.RegisterLaws.{loaded-sheet}
 use Rattle.session.proofs.RegisterLaws.{loaded-sheet-length, loaded-register, loaded-length, started-other, started-sender, started-sheet}
@@ -62,6 +62,9 @@ module _ (z s : List ℕ) (b : SheetBounds z) where
         latch = omega arith;
       }
 
+  load-extra : (k : ℕ) → k < nodes z * 5 → CellParts (reg (loaded z s) extraMark k) (reg (loaded z s) extraWord k)
+  load-extra k l = rw (loaded-register z s extraMark k (omega arith) (omega arith)) (cell-none _)
+
   load-unit : (n : ℕ) → n < nodes z → NodeParts (loaded z s) n
   load-unit n l =
       let receiving = loaded-register z s receiveMark n (omega arith) (omega arith) in
@@ -82,6 +85,7 @@ module _ (z s : List ℕ) (b : SheetBounds z) where
         order-inside = λ p. absurd (omega arith);
         transfers = load-transfer;
         routers = load-router;
+        extras = λ k l has. load-extra k l;
         units = load-unit;
       }
 
@@ -111,6 +115,10 @@ module _ (s t : List ℕ) where
         choice = λ p. omega (arith, x .choice (omega arith));
         latch = omega arith;
       }
+
+  extra-same : (k : ℕ) → ((row : ℕ) → extraMark ≤ row → row ≤ extraWord → reg t row k ≡ reg s row k)
+      → CellParts (reg s extraMark k) (reg s extraWord k) → CellParts (reg t extraMark k) (reg t extraWord k)
+  extra-same k same x = rw (same extraMark (omega arith) (omega arith), same extraWord (omega arith) (omega arith)) x
 
   unit-same : (n : ℕ) → ((row : ℕ) → receiveMark ≤ row → row ≤ landingWord → reg t row n ≡ reg s row n) → NodeParts s n → NodeParts t n
   unit-same n same x =
@@ -178,6 +186,7 @@ module _ (s : List ℕ) (circuit readAddress writeAddress count kind : ℕ)
         order-inside = λ l. omega (arith, x .order-inside (omega arith));
         transfers = λ c l. start-transfer few c (omega arith) (ℕ-discrete c circuit) (x .transfers c l);
         routers = λ k l. router-same s begun k (λ row low high. other row k (omega arith) (λ a b e. omega arith)) (x .routers k l);
+        extras = λ k l has. extra-same s begun k (λ row low high. other row k (omega arith) (λ a b e. omega arith)) (x .extras k l has);
         units = λ n l. unit-same s begun n (λ row low high. other row n (omega arith) (λ a b e. omega arith)) (x .units n l);
       }
 
@@ -224,6 +233,7 @@ order-parts s schedule period p b x =
       order-inside = λ l. omega (arith, p .schedule-inside);
       transfers = λ c l. transfer-same s t c _ (λ row low high. other row c (omega arith) (λ a b e. omega arith)) (x .transfers c l);
       routers = λ k l. router-same s t k (λ row low high. other row k (omega arith) (λ a b e. omega arith)) (x .routers k l);
+      extras = λ k l has. extra-same s t k (λ row low high. other row k (omega arith) (λ a b e. omega arith)) (x .extras k l has);
       units = λ n l. unit-same s t n (λ row low high. other row n (omega arith) (λ a b e. omega arith)) (x .units n l);
     }
 

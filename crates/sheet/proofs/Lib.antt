@@ -1,3 +1,4 @@
+pub mod HeadLaws
 pub mod FrameLaws
 pub mod CircuitLaws
 pub mod EntryLaws

@@ -6,7 +6,7 @@ use mathlib.Core.Path.{_≡_, refl, sym, _∙_, ap}
 use native.Mathlib.Omega.{arith}
 use lib.ListN.{length}
 use Rattle.words.specs.Tests.{all, between, _and_, _≤?_, _<?_, _=?_}
-use Rattle.sheet.specs.Sheet.{blankSheet, meant, rows, schedulePlace, entriesOf}
+use Rattle.sheet.specs.Sheet.{blankSheet, meant, rows, isLong, schedulePlace, entriesOf}
 use Rattle.sheet.specs.Rules.{rule1, rule2, scheduleFits, rule3, rule4, rule5, rule6, eachEntry, entryFits, rule7At, rule7, entryPrecedes, rule8At, rule8}
 use Rattle.sheet.specs.Rules.{rule9, rule10, rule11At, rule11, firstBroken, verdict, sheetNumber}
 
@@ -37,7 +37,7 @@ unfolding meant verdict firstBroken
     rule4 rule5 rule6
     eachEntry entryFits rule7At rule7 entryPrecedes rule8At rule8
     rule9 rule10 rule11At rule11
-    rows schedulePlace entriesOf
+    rows isLong schedulePlace entriesOf
     all between _and_ _≤?_ _<?_ _=?_
 meant-passes = refl
 

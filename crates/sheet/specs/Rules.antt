@@ -9,7 +9,7 @@ use Rattle.torus.specs.Route.{Use, Route, leads, nowhere, routeFrom, routerCycl
 use Rattle.sheet.specs.declared.circuits.Region.{Region}
 use Rattle.sheet.specs.declared.circuits.Circuit.{Circuit}
 use Rattle.sheet.specs.declared.entries.Entry.{Entry}
-use Rattle.sheet.specs.Sheet.{meant, columns, rows, memoryWords, circuits, schedules, nodes, circuitAt, statedEntries, schedulePlace, period, entriesOf, entryCount, entryAt}
+use Rattle.sheet.specs.Sheet.{meant, columns, rows, isLong, memoryWords, circuits, schedules, nodes, circuitAt, statedEntries, schedulePlace, period, entriesOf, entryCount, entryAt}
 use Rattle.sheet.specs.Slots.{sourceOf, destinationOf}
 use Rattle.sheet.specs.Flight.{hopsOf}
 use Rattle.sheet.specs.Wires.{WireCycle, occupied, meet}
@@ -100,11 +100,11 @@ rule8 z = all (schedules z) (rule8At z)
 
 -- where an entry's route leads from its circuit's source
 unfoldable pub entryRoute : List ℕ → Entry → Route
-entryRoute z e = routeFrom (columns z) (rows z) (sourceOf z (e .circuit)) (e .route)
+entryRoute z e = routeFrom (columns z) (rows z) (isLong z) (sourceOf z (e .circuit)) (e .route)
 
 -- a route leads to a node in at most so many hops
 abbrev pub reaches : Route → ℕ → ℕ → Bool
-reaches (leads uses node hops) to most = node =? to and hops ≤? most
+reaches (leads uses node hops vertical) to most = node =? to and hops ≤? most
 reaches nowhere to most = false
 
 -- Number 9: each route leads to its circuit's destination with no bits left, in no more hops than the distance.
@@ -116,18 +116,24 @@ rule9 z = all (schedules z) (λ j. eachEntry z j (entryLeads z))
 
 -- the hops of a route: document 01's word for its side outputs
 abbrev pub routeHops : Route → ℕ
-routeHops (leads uses node hops) = hops
+routeHops (leads uses node hops vertical) = hops
 routeHops nowhere = 0
 
--- Number 10: offset + length − 1 + 3 × hops is at most the period + 2.
+-- how many of them are over long links (document 02's v)
+abbrev pub routeVertical : Route → ℕ
+routeVertical (leads uses node hops vertical) = vertical
+routeVertical nowhere = 0
+
+-- Number 10: offset + length − 1 + 3 × hops + v is at most the period + 2.
 unfoldable pub entryEnds : List ℕ → ℕ → Entry → Bool
-entryEnds z P e = e .offset + e .size - 1 + routerCycles * routeHops (entryRoute z e) ≤? P + 2
+entryEnds z P e =
+    e .offset + e .size - 1 + routerCycles * routeHops (entryRoute z e) + routeVertical (entryRoute z e) ≤? P + 2
 
 unfoldable pub rule10 : List ℕ → Bool
 rule10 z = all (schedules z) (λ j. eachEntry z j (entryEnds z (period z j)))
 
 abbrev pub usesOf : Route → List Use
-usesOf (leads uses node hops) = uses
+usesOf (leads uses node hops vertical) = uses
 usesOf nowhere = []
 
 -- the wires that an entry occupies, each in which cycles, whether its slot is filled or not

@@ -1,8 +1,10 @@
 -- The words of a sheet (document 01, "The sheet"). A word past the end reads as 0.
-use Prim.Native.Nat.{ℕ, zero, suc, _+_, _*_, _/_}
+use Prim.Native.Nat.{ℕ, zero, suc, _+_, _-_, _*_, _/_}
+use mathlib.Core.Bool.{Bool}
 use mathlib.Core.List.{List, [], _∷_}
 use lib.ListN.{length, take, drop}
-use Rattle.words.specs.Words.{word}
+use Rattle.words.specs.Tests.{_≤?_}
+use Rattle.words.specs.Words.{word, pick}
 use Rattle.sheet.specs.declared.circuits.Circuit.{Circuit}
 use Rattle.sheet.specs.declared.entries.Entry.{Entry}
 
@@ -20,8 +22,15 @@ meant (w ∷ z) = w ∷ z
 abbrev pub columns : List ℕ → ℕ
 columns z = word z 0
 
+-- what the second word has more than the rows where the grid's vertical links are long (document 02, L7)
+abbrev pub longMark : ℕ
+longMark = 256
+
+unfoldable pub isLong : List ℕ → Bool
+isLong z = longMark ≤? word z 1
+
 unfoldable pub rows : List ℕ → ℕ
-rows z = word z 1
+rows z = pick (isLong z) (word z 1 - longMark) (word z 1)
 
 abbrev pub memoryWords : List ℕ → ℕ
 memoryWords z = word z 2

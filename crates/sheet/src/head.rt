@@ -1,7 +1,7 @@
 // The head of a sheet: each of its five words is read here and nowhere else.
 ghost use mathlib.Core.Path.{_≡_};
 ghost use Prim.Native.Nat.{_*_, _≤_};
-ghost use Rattle.sheet.specs.Sheet.{columns, rows, memoryWords, circuits, schedules, nodes};
+ghost use Rattle.sheet.specs.Sheet.{columns, rows, isLong, memoryWords, circuits, schedules, nodes};
 ghost use Rattle.sheet.specs.Inner.Passed.{Headed};
 
 // The columns of the grid.
@@ -11,11 +11,25 @@ pub fn columns_of(z: &[u32]) -> u32
     words::get(z, 0)
 }
 
+// What the second word has more than the rows where the vertical links are long.
+const LONG_MARK: u32 = 256;
+
+// The grid's vertical links are long.
+pub fn is_long(z: &[u32]) -> bool
+    ensures { λ r. ⌜ r ≡ isLong (now (z .entry)) ⌝ }
+{
+    LONG_MARK <= words::get(z, 1)
+}
+
 // The rows of the grid.
 pub fn rows_of(z: &[u32]) -> u32
     ensures { λ r. ⌜ r ≡ rows (now (z .entry)) ⌝ }
 {
-    words::get(z, 1)
+    let word = words::get(z, 1);
+    if LONG_MARK <= word {
+        return word - LONG_MARK;
+    }
+    word
 }
 
 // The memory words of a node.

@@ -22,6 +22,7 @@ pub use frame::schedule_period;
 pub use frame::schedule_place;
 pub use head::circuits_of;
 pub use head::columns_of;
+pub use head::is_long;
 pub use head::memory_of;
 pub use head::nodes_of;
 pub use head::rows_of;

@@ -1,9 +1,9 @@
 -- A sound state in facts: each clause at each index, as records with named fields; and back from the facts to the test.
 -- Assumes nothing.
-use Prim.Native.Nat.{ℕ, _+_, _*_, _≤_, _<_}
-use mathlib.Core.Bool.{Bool, true, false, false≢true}
+use Prim.Native.Nat.{ℕ, _+_, _*_, _%_, _≤_, _<_}
+use mathlib.Core.Bool.{Bool, true, false, not, false≢true}
 use mathlib.Core.List.{List}
-use mathlib.Core.Path.{_≡_, sym, _∙_, subst}
+use mathlib.Core.Path.{_≡_, refl, sym, _∙_, subst}
 use native.Mathlib.Omega.{arith}
 use native.Mathlib.Decide.{ℕ-discrete}
 use Rattle.words.specs.Tests.{_and_, _or_, _=?_, _≠?_}
@@ -15,11 +15,12 @@ use Rattle.sheet.specs.declared.circuits.Circuit.{Circuit}
 use Rattle.sheet.specs.Sheet.{circuits, schedules, nodes, circuitAt, period}
 use Rattle.sheet.specs.Rules.{verdict}
 use Rattle.network.specs.View.{Sender}
+use Rattle.network.specs.Cycle.{hasExtra}
 use Rattle.network.specs.Registers.{reg, sheetLength, sheetIn, sheetWords, clockRow, cyclePlace, inForcePlace, orderMarkPlace, orderSchedulePlace}
 use Rattle.network.specs.Registers.{linkMark, linkWord, headMark, headWord, choiceRow, latchRow, outMark, outWord, receiveMark, receiveKind}
-use Rattle.network.specs.Registers.{landingMark, leftRow, kindRow}
+use Rattle.network.specs.Registers.{landingMark, leftRow, kindRow, extraMark, extraWord}
 use Rattle.network.specs.Seen.{seenSender}
-use Rattle.soundness.specs.Sound.{sheetSound, clockSound, orderSound, kindTravels, liesIn, restInside, kindAllowed, interruptSingle, transferSound, cellSound, routerSound, nodeSound, sound}
+use Rattle.soundness.specs.Sound.{sheetSound, clockSound, orderSound, kindTravels, liesIn, restInside, kindAllowed, interruptSingle, transferSound, cellSound, routerSound, extraSound, nodeSound, sound}
 
 -- so many words from an address on lie in a region, in numbers
 pub record Lies (r : Region) (address count : ℕ) : Type 0 where
@@ -40,6 +41,17 @@ beside-test x {b} h = go (ℕ-discrete x 0)
     go : Dec (x ≡ 0) → x =? 0 or b ≡ true
     go (yes q) = sym (or-yes b (yes= q))
     go (no q) = sym (or-skip (x =? 0) (sym (h (omega (arith, q)))))
+
+-- what is tested only where a first test holds
+given : (a : Bool) {b : Bool} → not a or b ≡ true → a ≡ true → b ≡ true
+unfolding _or_
+given true e h = e
+given false e h = absurd (false≢true h)
+
+given-test : (a : Bool) {b : Bool} → (a ≡ true → b ≡ true) → not a or b ≡ true
+unfolding _or_
+given-test true h = h refl
+given-test false h = refl
 
 -- a kind that travels fits its field
 pub travels-small : (kind : ℕ) → kindTravels kind ≡ true → kind < kinds
@@ -136,6 +148,17 @@ router-test s k x =
     (and-both (cell-test (x .head))
     (and-both (cell-test (x .out)) (and-both (beside-test (reg s headMark k) (λ l. yes≤ (x .choice l))) (yes≤ (x .latch)))))
 
+-- the extra register of an output's link, where it has one
+pub extra-parts : (s : List ℕ) (k : ℕ) → extraSound s k ≡ true → hasExtra (sheetIn s) (k % 5) ≡ true
+    → CellParts (reg s extraMark k) (reg s extraWord k)
+unfolding extraSound
+extra-parts s k e h = cell-parts _ _ (given (hasExtra (sheetIn s) (k % 5)) e h)
+
+pub extra-test : (s : List ℕ) (k : ℕ) → (hasExtra (sheetIn s) (k % 5) ≡ true → CellParts (reg s extraMark k) (reg s extraWord k))
+    → extraSound s k ≡ true
+unfolding extraSound
+extra-test s k x = given-test (hasExtra (sheetIn s) (k % 5)) (λ h. cell-test (x h))
+
 -- a node's receive unit and stored landing
 pub record NodeParts (s : List ℕ) (n : ℕ) : Type 0 where
   pub receiving : reg s receiveMark n ≤ 1
@@ -156,7 +179,7 @@ pub node-test : (s : List ℕ) (n : ℕ) → NodeParts s n → nodeSound s n ≡
 unfolding nodeSound
 node-test s n x = and-both (yes≤ (x .receiving)) (and-both (beside-test (reg s receiveMark n) (x .travels)) (yes≤ (x .landing)))
 
--- a sound state on the sheet z: the sheet, the clock, the order, and the parts of each circuit, router register and node
+-- a sound state on the sheet z: the sheet, the clock, the order, and the parts of each circuit, router register, extra register and node
 pub record SoundParts (z s : List ℕ) : Type 0 where
   pub sheet-fits : sheetLength s ≤ sheetWords
   pub sheet-passes : verdict z ≡ 0
@@ -166,6 +189,7 @@ pub record SoundParts (z s : List ℕ) : Type 0 where
   pub order-inside : 1 ≤ reg s clockRow orderMarkPlace → reg s clockRow orderSchedulePlace < schedules z
   pub transfers : (c : ℕ) → c < circuits z → TransferParts (circuitAt z c) (seenSender s c)
   pub routers : (k : ℕ) → k < nodes z * 5 → RouterParts s k
+  pub extras : (k : ℕ) → k < nodes z * 5 → hasExtra z (k % 5) ≡ true → CellParts (reg s extraMark k) (reg s extraWord k)
   pub units : (n : ℕ) → n < nodes z → NodeParts s n
 
 pub sound-parts : (s : List ℕ) → sound s ≡ true → SoundParts (sheetIn s) s
@@ -175,6 +199,7 @@ sound-parts s e =
     let e₂ = and-right _ _ e₁ in
     let e₃ = and-right _ _ e₂ in
     let e₄ = and-right _ _ e₃ in
+    let e₅ = and-right _ _ e₄ in
     let sheet = and-left _ _ e in
     let clock = and-left _ _ e₁ in
     let order = and-left _ _ e₂ in
@@ -187,7 +212,8 @@ sound-parts s e =
       order-inside = λ l. is< _ _ (beside (reg s clockRow orderMarkPlace) (and-right _ _ order) l);
       transfers = λ c l. transfer-parts s c (all-at (transferSound s) (circuits (sheetIn s)) (and-left _ _ e₃) c l);
       routers = λ k l. router-parts s k (all-at (routerSound s) (nodes (sheetIn s) * 5) (and-left _ _ e₄) k l);
-      units = λ n l. node-parts s n (all-at (nodeSound s) (nodes (sheetIn s)) (and-right _ _ e₄) n l);
+      extras = λ k l. extra-parts s k (all-at (extraSound s) (nodes (sheetIn s) * 5) (and-left _ _ e₅) k l);
+      units = λ n l. node-parts s n (all-at (nodeSound s) (nodes (sheetIn s)) (and-right _ _ e₅) n l);
     }
 
 -- and back
@@ -199,7 +225,8 @@ sound-test s x =
     (and-both (and-both (yes≤ (x .order-known)) (beside-test (reg s clockRow orderMarkPlace) (λ l. yes< (x .order-inside l))))
     (and-both (all-of (circuits (sheetIn s)) (transferSound s) (λ c l. transfer-test s c (x .transfers c l)))
     (and-both (all-of (nodes (sheetIn s) * 5) (routerSound s) (λ k l. router-test s k (x .routers k l)))
-    (all-of (nodes (sheetIn s)) (nodeSound s) (λ n l. node-test s n (x .units n l)))))))
+    (and-both (all-of (nodes (sheetIn s) * 5) (extraSound s) (λ k l. extra-test s k (x .extras k l)))
+    (all-of (nodes (sheetIn s)) (nodeSound s) (λ n l. node-test s n (x .units n l))))))))
 
 -- the same where the state's sheet is z
 pub sound-on : (z s : List ℕ) → sheetIn s ≡ z → SoundParts z s → sound s ≡ true

@@ -1,23 +1,26 @@
 -- The tests of a sound state, from the registers that were read and the tests that were taken.
 -- Assumes nothing.
-use Prim.Native.Nat.{ℕ, _+_, _*_, _<_, _≤_}
-use mathlib.Core.Bool.{Bool, true, false}
+use Prim.Native.Nat.{ℕ, _+_, _*_, _%_, _<_, _≤_}
+use mathlib.Core.Bool.{Bool, true, false, not}
 use mathlib.Core.List.{List}
 use mathlib.Core.Path.{_≡_, refl, sym, _∙_, ap, ap₂}
 use native.Mathlib.Omega.{arith}
 use Rattle.words.specs.Tests.{all, _and_, _or_, _≤?_, _<?_, _=?_}
 use Rattle.words.specs.Words.{word}
 use Rattle.words.proofs.TestLaws.{and-no, and-on, and-left, and-right, and-no-right, or-yes, or-on, yes≤, no≤, yes<, no<, yes=, no=, yes≠, no≠, is=}
-use Rattle.words.proofs.AllLaws.{all-more, all-done, all-fails}
+use Rattle.words.proofs.AllLaws.{all-more, all-done, all-fails, all-of}
 use Rattle.packet.specs.Header.{dataKind, interruptKind, kindOf}
+use Rattle.torus.specs.Torus.{isVertical}
 use Rattle.sheet.specs.declared.circuits.Region.{Region}
 use Rattle.sheet.specs.declared.circuits.Circuit.{Circuit}
-use Rattle.sheet.specs.Sheet.{circuits, schedules, nodes, circuitAt, period}
+use Rattle.sheet.specs.Sheet.{isLong, circuits, schedules, nodes, circuitAt, period}
 use Rattle.sheet.specs.Rules.{verdict}
+use Rattle.network.specs.Cycle.{hasExtra}
 use Rattle.network.specs.Registers.{reg, sheetLength, sheetIn, clockRow, cyclePlace, inForcePlace, orderMarkPlace, orderSchedulePlace, linkMark}
 use Rattle.network.specs.Registers.{headMark, outMark, latchRow, receiveMark, receiveKind, landingMark, leftRow, readRow, writeRow, kindRow, toGoRow}
-use Rattle.network.specs.Registers.{movingWords, sheetWords}
-use Rattle.soundness.specs.Sound.{sheetSound, clockSound, orderSound, kindTravels, liesIn, kindAllowed, interruptSingle, toGoWithin, transferSound, cellSound, routerSound, nodeSound, sound}
+use Rattle.network.specs.Registers.{movingWords, sheetWords, extraMark, extraWord}
+use Rattle.network.proofs.ExtraLaws.{extra-long, extra-short, extra-level}
+use Rattle.soundness.specs.Sound.{sheetSound, clockSound, orderSound, kindTravels, liesIn, kindAllowed, interruptSingle, toGoWithin, transferSound, cellSound, routerSound, extraSound, nodeSound, sound}
 
 -- a test of three parts, with the first two taken together
 and-over : (a b d : Bool) → ((a and b) and d) ≡ (a and b and d)
@@ -76,6 +79,24 @@ module _ (s : List ℕ) (k : ℕ) where
       and-on (cell-empty _ _ link)
       (and-on (cell-empty _ _ head)
       (and-on (cell-empty _ _ out) (and-on (sym (or-yes _ head)) (ap (λ (x : ℕ). x ≤? 5) e))))
+
+-- the extra registers of the links: one that is not there is not tested
+module _ (s : List ℕ) where
+  extra-absent : (k : ℕ) → hasExtra (sheetIn s) (k % 5) ≡ false → extraSound s k ≡ true
+  unfolding extraSound
+  extra-absent k e = sym (or-yes _ (ap not e))
+
+  pub extras-short : (n : ℕ) → isLong (sheetIn s) ≡ false → true ≡ all n (extraSound s)
+  extras-short n e = sym (all-of n (extraSound s) (λ k l. extra-absent k (extra-short (sheetIn s) (k % 5) e)))
+
+  module _ (k : ℕ) {vertical : Bool} (e : vertical ≡ isVertical (k % 5)) where
+    pub extra-beside : vertical ≡ false → true ≡ extraSound s k
+    extra-beside n = sym (extra-absent k (extra-level (sheetIn s) (k % 5) (sym e ∙ n)))
+
+    pub extra-there : {v : Bool} → isLong (sheetIn s) ≡ true → vertical ≡ true → v ≡ cellSound (reg s extraMark k) (reg s extraWord k)
+        → v ≡ extraSound s k
+    unfolding extraSound
+    extra-there l y r = or-on (ap not (extra-long (sheetIn s) (k % 5) l ∙ sym e ∙ y)) r
 
 -- the rest of a transfer that has words left, in the order in which code tests it
 abbrev pub restSound : Circuit → ℕ → ℕ → ℕ → ℕ → Bool
@@ -195,6 +216,10 @@ module _ (s z : List ℕ) (own : z ≡ sheetIn s) where
     order-rest j count a b l ne =
         and-on (order-mark l) (or-on (no= (λ h. ne (p ∙ h))) (ap₂ _<?_ a (b ∙ same-schedules)))
 
+  -- whether its vertical links are long
+  pub long-is : {long v : Bool} → long ≡ isLong z → long ≡ v → isLong (sheetIn s) ≡ v
+  long-is e t = sym (ap isLong own) ∙ sym e ∙ t
+
   -- the counts of the loops
   pub count-circuits : {count : ℕ} → count ≡ circuits z → count ≡ circuits (sheetIn s)
   count-circuits e = e ∙ ap circuits own
@@ -222,15 +247,28 @@ module _ (s z : List ℕ) (own : z ≡ sheetIn s) where
       unfolding sound sheetSound
       sound-refused ne = and-no _ (sym (and-on fits (sym (no= (λ h. ne (number-is ∙ h))))))
 
-      pub sound-rest : {v : Bool} → number ≡ 0
-          → v
-          ≡ (clockSound s
-          and orderSound s
-          and all (circuits (sheetIn s)) (transferSound s)
-          and all (nodes (sheetIn s) * 5) (routerSound s)
-          and all (nodes (sheetIn s)) (nodeSound s)) → v ≡ sound s
-      unfolding sound sheetSound
-      sound-rest e r = and-on (sym (and-on fits (sym (yes= (sym number-is ∙ e))))) r
+      module _ (e : number ≡ 0) {clock : Bool} (c : clock ≡ clockSound s) where
+        passes : sheetSound s ≡ true
+        unfolding sheetSound
+        passes = sym (and-on fits (sym (yes= (sym number-is ∙ e))))
+
+        pub sound-unclocked : clock ≡ false → false ≡ sound s
+        unfolding sound
+        sound-unclocked f = and-on passes (and-no _ (sym c ∙ f))
+
+        module _ (t : clock ≡ true) {order : Bool} (o : order ≡ orderSound s) where
+          pub sound-unordered : order ≡ false → false ≡ sound s
+          unfolding sound
+          sound-unordered f = and-on passes (and-on (sym c ∙ t) (and-no _ (sym o ∙ f)))
+
+          pub sound-rest : {v : Bool} → order ≡ true
+              → v
+              ≡ (all (circuits (sheetIn s)) (transferSound s)
+              and all (nodes (sheetIn s) * 5) (routerSound s)
+              and all (nodes (sheetIn s) * 5) (extraSound s)
+              and all (nodes (sheetIn s)) (nodeSound s)) → v ≡ sound s
+          unfolding sound
+          sound-rest u r = and-on passes (and-on (sym c ∙ t) (and-on (sym o ∙ u) r))
 
 -- the length of the sheet
 pub long-sheet : (s : List ℕ) (n : ℕ) → n ≡ word s movingWords → n ≡ sheetLength s

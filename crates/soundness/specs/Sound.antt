@@ -1,7 +1,7 @@
--- A sound state (document 01, the paragraph behind the refusals; number 13), clause by clause. Registers of nodes and circuits that the
--- sheet lacks, and fields beside an empty, idle or zero mark, are never tested.
-use Prim.Native.Nat.{ℕ, _+_, _*_}
-use mathlib.Core.Bool.{Bool}
+-- A sound state (document 01, the paragraph behind the refusals; number 13), clause by clause. Registers of nodes, circuits and links that
+-- the sheet lacks, and fields beside an empty, idle or zero mark, are never tested.
+use Prim.Native.Nat.{ℕ, _+_, _*_, _%_}
+use mathlib.Core.Bool.{Bool, not}
 use mathlib.Core.List.{List}
 use Rattle.words.specs.Tests.{all, _and_, _or_, _≤?_, _<?_, _=?_, _≠?_}
 use Rattle.packet.specs.Header.{dataKind, interruptKind, kindOf}
@@ -9,9 +9,10 @@ use Rattle.sheet.specs.declared.circuits.Region.{Region}
 use Rattle.sheet.specs.Sheet.{circuits, schedules, nodes, circuitAt, period}
 use Rattle.sheet.specs.Rules.{verdict}
 use Rattle.network.specs.View.{ports}
+use Rattle.network.specs.Cycle.{hasExtra}
 use Rattle.network.specs.Registers.{reg, sheetLength, sheetIn, sheetWords, clockRow, cyclePlace, inForcePlace, orderMarkPlace, orderSchedulePlace}
 use Rattle.network.specs.Registers.{linkMark, linkWord, headMark, headWord, choiceRow, latchRow, outMark, outWord, receiveMark, receiveKind}
-use Rattle.network.specs.Registers.{landingMark, leftRow, readRow, writeRow, kindRow, toGoRow}
+use Rattle.network.specs.Registers.{landingMark, leftRow, readRow, writeRow, kindRow, toGoRow, extraMark, extraWord}
 
 -- the state's sheet, with its stored length, passes 1 to 11
 unfoldable pub sheetSound : List ℕ → Bool
@@ -76,6 +77,10 @@ routerSound s k =
     and (reg s headMark k =? 0 or reg s choiceRow k ≤? ports)
     and reg s latchRow k ≤? ports
 
+-- the extra register of an output's link, where it has one
+unfoldable pub extraSound : List ℕ → ℕ → Bool
+extraSound s k = not (hasExtra (sheetIn s) (k % ports)) or cellSound (reg s extraMark k) (reg s extraWord k)
+
 -- a receive unit's mark is a known one, and no arriving packet has kind 1 or 3; a stored landing's mark is a known one
 unfoldable pub nodeSound : List ℕ → ℕ → Bool
 nodeSound s n =
@@ -90,4 +95,5 @@ sound s =
     and orderSound s
     and all (circuits (sheetIn s)) (transferSound s)
     and all (nodes (sheetIn s) * ports) (routerSound s)
+    and all (nodes (sheetIn s) * ports) (extraSound s)
     and all (nodes (sheetIn s)) (nodeSound s)

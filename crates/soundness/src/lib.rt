@@ -1,12 +1,13 @@
 // Whether a state's words are sound (document 01, number 13), clause by clause as specs/Sound.antt has them.
+ghost use mathlib.Core.Bool.{true};
 ghost use mathlib.Core.Path.{_≡_};
-ghost use Prim.Native.Nat.{_*_};
+ghost use Prim.Native.Nat.{_*_, _≤_};
 ghost use Rattle.words.specs.Tests.{all, _and_, _or_, _≤?_, _=?_};
 ghost use Rattle.packet.specs.Header.{dataKind};
-ghost use Rattle.sheet.specs.Sheet.{circuits, nodes as nodesOf};
+ghost use Rattle.sheet.specs.Sheet.{circuits, isLong, nodes as nodesOf};
 ghost use Rattle.sheet.specs.Inner.Passed.{Framed};
 ghost use Rattle.network.specs.Registers.{reg as regOf, sheetIn, linkMark, headMark, outMark, choiceRow, receiveMark, receiveKind};
-ghost use Rattle.soundness.specs.Sound.{kindTravels, liesIn, clockSound, orderSound, transferSound, cellSound, routerSound, nodeSound, sound};
+ghost use Rattle.soundness.specs.Sound.{kindTravels, liesIn, clockSound, orderSound, transferSound, cellSound, routerSound, extraSound, nodeSound, sound};
 use network::reg;
 use packet::Header;
 use sheet::Circuit;
@@ -141,6 +142,17 @@ fn router_sound(s: &[u32], k: u32) -> bool
     false
 }
 
+// The extra register at place k of a grid with long vertical links, where the output there has one.
+fn extra_sound(s: &[u32], k: u32) -> bool
+    requires { ⌜ isLong (sheetIn (now s)) ≡ true ⌝ }
+    ensures { λ r. ⌜ r ≡ extraSound (now (s .entry)) k ⌝ }
+{
+    if torus::is_vertical(k % 5) {
+        return wire_sound(s, network::EXTRA_MARK, network::EXTRA_WORD, k);
+    }
+    true
+}
+
 // Node n's receive unit: its mark is a known one, and the kind of a packet that arrives travels.
 fn receive_sound(s: &[u32], n: u32) -> bool
     ensures { λ r. ⌜ r ≡ (regOf (now (s .entry)) receiveMark n ≤? 1 and (regOf (now (s .entry)) receiveMark n =? 0 or kindTravels (regOf (now (s .entry)) receiveKind n))) ⌝ }
@@ -227,6 +239,25 @@ fn routers_sound(s: &[u32], z: &[u32]) -> bool
     true
 }
 
+// The extra registers of long vertical links; a grid without such links has none.
+fn extras_sound(s: &[u32], z: &[u32]) -> bool
+    requires { ⌜ (now z ≡ sheetIn (now s)) × (Framed (now z)) ⌝ }
+    ensures { λ r. ⌜ r ≡ all (nodesOf (sheetIn (now (s .entry))) * 5) (extraSound (now (s .entry))) ⌝ }
+{
+    if sheet::is_long(z) {
+        let count = sheet::nodes_of(z) * 5;
+        let mut k: u32 = 0;
+        while k < count {
+            if extra_sound(s, k) {
+                k += 1;
+            } else {
+                return false;
+            }
+        }
+    }
+    true
+}
+
 // Each node's registers.
 fn nodes_sound(s: &[u32], z: &[u32]) -> bool
     requires { ⌜ (now z ≡ sheetIn (now s)) × (Framed (now z)) ⌝ }
@@ -244,14 +275,17 @@ fn nodes_sound(s: &[u32], z: &[u32]) -> bool
     true
 }
 
-// The transfers, the routers and the nodes.
+// The transfers, the routers, their long links and the nodes.
 fn parts_sound(s: &[u32], z: &[u32]) -> bool
     requires { ⌜ (now z ≡ sheetIn (now s)) × (Framed (now z)) ⌝ }
-    ensures { λ r. ⌜ r ≡ (all (circuits (sheetIn (now (s .entry)))) (transferSound (now (s .entry))) and all (nodesOf (sheetIn (now (s .entry))) * 5) (routerSound (now (s .entry))) and all (nodesOf (sheetIn (now (s .entry)))) (nodeSound (now (s .entry)))) ⌝ }
+    ensures { λ r. ⌜ r ≡ (all (circuits (sheetIn (now (s .entry)))) (transferSound (now (s .entry))) and all (nodesOf (sheetIn (now (s .entry))) * 5) (routerSound (now (s .entry))) and all (nodesOf (sheetIn (now (s .entry))) * 5) (extraSound (now (s .entry))) and all (nodesOf (sheetIn (now (s .entry)))) (nodeSound (now (s .entry)))) ⌝ }
 {
     if transfers_sound(s, z) {
         if routers_sound(s, z) {
-            return nodes_sound(s, z);
+            if extras_sound(s, z) {
+                return nodes_sound(s, z);
+            }
+            return false;
         }
         return false;
     }

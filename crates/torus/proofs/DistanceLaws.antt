@@ -3,9 +3,9 @@
 -- Assumes nothing.
 use Prim.Native.Nat.{ℕ, _+_, _-_, _*_, _%_, _<_, _≤_, min}
 use mathlib.Core.Bool.{Bool}
-use mathlib.Core.Path.{_≡_, sym, ap, ap₂, subst, _∙_}
+use mathlib.Core.Path.{_≡_, refl, sym, ap, ap₂, subst, _∙_}
 use native.Mathlib.Omega.{arith}
-use native.Mathlib.Nat.{le-of-suc-le-suc, mul-comm, mod-lt, mod-eq-of-lt, add-mod-right, div-lt-iff-lt-mul, min-eq-left, min-eq-right}
+use native.Mathlib.Nat.{le-of-suc-le-suc, mul-comm, mod-lt, mod-self, mod-eq-of-lt, add-mod-right, div-lt-iff-lt-mul, min-eq-left, min-eq-right}
 use lib.Dec.{T, eqb, ltb, eqb→eq, ltb→lt}
 use Rattle.words.proofs.Below.{every, every-at}
 use Rattle.words.specs.Words.{leastFrom}
@@ -19,7 +19,7 @@ abbrev everyPair : (ℕ → ℕ → ℕ → ℕ → Bool) → Bool
 everyPair test = everyNode (λ c r from. every (c * r) (test c r from))
 
 -- so it passes at each of them
-at-pair : (test : ℕ → ℕ → ℕ → ℕ → Bool) → T (everyPair test)
+pub at-pair : (test : ℕ → ℕ → ℕ → ℕ → Bool) → T (everyPair test)
     → (cols rows from to : ℕ) → InGrid cols rows from → InGrid cols rows to → T (test cols rows from to)
 at-pair test t cols rows from to g h =
     every-at (cols * rows) (test cols rows from)
@@ -37,6 +37,13 @@ unfolding roundDistance shorterWay
 distance-most cols rows from to g h =
     subst (λ d. d ≤ 4) (sym (distance-formula cols rows from to g h))
     (le-of-suc-le-suc (ltb→lt _ 5 (at-pair (λ c r n m. ltb (roundDistance c r n m) 5) tt cols rows from to g h)))
+
+-- no way is the shorter between a place and itself
+pub shorter-none : (n place : ℕ) → shorterWay n place place ≡ 0
+unfolding shorterWay
+shorter-none n place =
+    let whole : place + n - place ≡ n = omega arith in
+    rw (whole, mod-self n) refl
 
 -- the column and the row of a node are places of their rings
 pub column-inside : {cols rows node place : ℕ} → InGrid cols rows node → place ≡ columnOf cols node → place < cols

@@ -3,3 +3,4 @@ pub mod DistanceLaws
 pub mod RouteLaws
 pub mod WalkLaws
 pub mod TravelLaws
+pub mod VerticalLaws

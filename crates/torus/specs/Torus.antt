@@ -3,7 +3,7 @@ use Prim.Native.Nat.{ℕ, zero, suc, _+_, _-_, _*_, _/_, _%_}
 use Prim.Native.Nat.{min}
 use mathlib.Core.Bool.{Bool}
 use mathlib.Core.Path.{_≡_}
-use Rattle.words.specs.Tests.{any, _=?_}
+use Rattle.words.specs.Tests.{any, _or_, _=?_}
 use Rattle.words.specs.Words.{leastFrom}
 use Rattle.torus.specs.Inner.Grid.{InGrid}
 
@@ -33,6 +33,10 @@ neighbourOf cols rows node (suc (suc (suc side))) = nodeAt cols (rowOf cols node
 -- the side opposite to a side: what leaves a router by the one comes into the next by the other
 abbrev pub oppositeOf : ℕ → ℕ
 oppositeOf side = (side + 2) % 4
+
+-- the sides of the vertical links: north and south
+unfoldable pub isVertical : ℕ → Bool
+isVertical side = side =? 0 or side =? 2
 
 -- some walk of so many steps leads from a node to another
 unfoldable pub walks : ℕ → ℕ → ℕ → ℕ → ℕ → Bool

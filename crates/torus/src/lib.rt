@@ -2,9 +2,9 @@
 ghost use mathlib.Core.Path.{_≡_};
 ghost use mathlib.Core.Bool.{true, false};
 ghost use Prim.Native.Nat.{_+_, _*_, _/_, _%_, _<_};
-ghost use Rattle.torus.specs.Torus.{neighbourOf, distanceOf, shorterWay};
+ghost use Rattle.torus.specs.Torus.{neighbourOf, isVertical, distanceOf, shorterWay};
 ghost use Rattle.torus.specs.Inner.Grid.{InGrid};
-ghost use Rattle.torus.specs.Route.{outputOf, hopCycles, routeFrom, nowhere};
+ghost use Rattle.torus.specs.Route.{outputOf, linkCycles, routeFrom, nowhere};
 ghost use Rattle.torus.specs.Inner.Paths.{pathOf};
 
 // The entry side of a packet at its first router, and a router's output to its node's memory; 0 to 3 are the sides.
@@ -22,14 +22,16 @@ pub const ROUTER_CYCLES: u32 = 3;
 
 pub const CODES: u32 = 8;
 
-// Where a route leads: the node at its end, its hops, and the wires that it uses with their delays, in the first hops + 2
-// places of the two lists; or, where leads is false, nowhere. (An enum cannot hold lists.)
+// Where a route leads: the node at its end, its hops, the wires that it uses with their delays, in the first hops + 2 places of the two lists,
+// and how many of the hops are over long links; or, where leads is false, nowhere. (An enum cannot hold lists. The last number stands behind
+// the lists: before them it makes the compiler copy them twice.)
 pub struct Path {
     pub leads: bool,
     pub node: u32,
     pub hops: u32,
     pub wires: [u32; 9],
     pub delays: [u32; 9],
+    pub vertical: u32,
 }
 
 // The node one row up. Whoever has checked a sheet's head and circuits meets the requires, here and below.
@@ -140,11 +142,25 @@ pub fn output_of(entry: u32, code: u32) -> u32
     }
 }
 
-// The cycles of a hop by a side, from one router's output to the next router's.
-fn hop_cycles(side: u32) -> u32
-    ensures { λ r. ⌜ r ≡ hopCycles side ⌝ }
+// The sides of the vertical links.
+pub fn is_vertical(side: u32) -> bool
+    ensures { λ r. ⌜ r ≡ isVertical side ⌝ }
 {
-    ROUTER_CYCLES
+    match side {
+        0 => true,
+        2 => true,
+        _ => false,
+    }
+}
+
+// The cycles that a link by a side takes where the vertical links are long: one by north and south, else none.
+fn link_cycles(side: u32) -> u32
+    ensures { λ r. ⌜ r ≡ linkCycles true side ⌝ }
+{
+    if is_vertical(side) {
+        return 1;
+    }
+    0
 }
 
 // The answer for a route that leads nowhere.
@@ -157,13 +173,15 @@ fn nowhere_path() -> Path
         hops: 0,
         wires: [0u32; 9],
         delays: [0u32; 9],
+        vertical: 0,
     }
 }
 
-// Where a route leads from a source node.
-pub fn follow_route(cols: u32, rows: u32, source: u32, route: u32) -> Path
+// Where a route leads from a source node on a grid without long links. Each hop takes as long there, so that the compiler knows every delay
+// and lays the routers out one after the other; with a link's cycles in the loop it would not, for grids of either kind.
+pub fn follow_short(cols: u32, rows: u32, source: u32, route: u32) -> Path
     requires { ⌜ InGrid cols rows source ⌝ }
-    ensures { λ r. ⌜ r ≡ pathOf (routeFrom cols rows source route) ⌝ }
+    ensures { λ r. ⌜ r ≡ pathOf (routeFrom cols rows false source route) ⌝ }
 {
     let mut wires = [0u32; 9];
     let mut delays = [0u32; 9];
@@ -190,12 +208,58 @@ pub fn follow_route(cols: u32, rows: u32, source: u32, route: u32) -> Path
                 hops,
                 wires,
                 delays,
+                vertical: 0,
             };
         }
         wires[at] = node * WIRES_PER_NODE + output;
         node = neighbour(cols, rows, node, output);
         entry = (output + 2) % 4;
-        delay += hop_cycles(output);
+        delay += ROUTER_CYCLES;
+        hops += 1;
+    }
+    nowhere_path()
+}
+
+// Where a route leads from a source node on a grid whose vertical links are long.
+pub fn follow_long(cols: u32, rows: u32, source: u32, route: u32) -> Path
+    requires { ⌜ InGrid cols rows source ⌝ }
+    ensures { λ r. ⌜ r ≡ pathOf (routeFrom cols rows true source route) ⌝ }
+{
+    let mut wires = [0u32; 9];
+    let mut delays = [0u32; 9];
+    wires[0] = source * WIRES_PER_NODE + SOURCE;
+    let mut node = source;
+    let mut entry = NO_SIDE;
+    let mut delay = ROUTER_CYCLES;
+    let mut rest = route;
+    let mut hops: u32 = 0;
+    let mut vertical: u32 = 0;
+    while hops < CODES {
+        let code = rest % 4;
+        rest = rest / 4;
+        let at = (hops + 1) as usize;
+        delays[at] = delay;
+        let by = output_of(entry, code);
+        if by == MEMORY_OUTPUT {
+            if rest > 0 {
+                return nowhere_path();
+            }
+            wires[at] = node * WIRES_PER_NODE + MEMORY;
+            return Path {
+                leads: true,
+                node,
+                hops,
+                wires,
+                delays,
+                vertical,
+            };
+        }
+        wires[at] = node * WIRES_PER_NODE + by;
+        node = neighbour(cols, rows, node, by);
+        entry = (by + 2) % 4;
+        let link = link_cycles(by);
+        delay += ROUTER_CYCLES + link;
+        vertical += link;
         hops += 1;
     }
     nowhere_path()
@@ -211,12 +275,19 @@ fn ring_distance(n: u32, a: u32, b: u32) -> u32
     if on < back { on } else { back }
 }
 
+// The fewest vertical steps between two nodes: the shorter way round in rows.
+pub fn vertical_distance(cols: u32, rows: u32, from: u32, to: u32) -> u32
+    requires { ⌜ (InGrid cols rows from) × (InGrid cols rows to) ⌝ }
+    ensures { λ r. ⌜ r ≡ shorterWay rows (from / cols) (to / cols) ⌝ }
+{
+    ring_distance(rows, row(cols, rows, from), row(cols, rows, to))
+}
+
 // The fewest steps between two nodes: the shorter way round in columns plus the shorter way round in rows.
 pub fn distance(cols: u32, rows: u32, from: u32, to: u32) -> u32
     requires { ⌜ (InGrid cols rows from) × (InGrid cols rows to) ⌝ }
     ensures { λ r. ⌜ r ≡ distanceOf cols rows from to ⌝ }
 {
     let in_columns = ring_distance(cols, column(cols, rows, from), column(cols, rows, to));
-    let in_rows = ring_distance(rows, row(cols, rows, from), row(cols, rows, to));
-    in_columns + in_rows
+    in_columns + vertical_distance(cols, rows, from, to)
 }

@@ -12,8 +12,8 @@ keeps-rule7-requires c κs = search needs
 keeps-rule8-requires : tie.Need-keeps-rule8-requires
 keeps-rule8-requires c κs = search needs
 
-circuit-distances-requires : tie.Need-circuit-distances-requires
-circuit-distances-requires c κs = (c .before .before .before .before .before .pre .0, c .before .before .before .before .before .pre .1)
+circuit-spans-requires : tie.Need-circuit-spans-requires
+circuit-spans-requires c κs = (c .before .before .before .before .before .pre .0, c .before .before .before .before .before .pre .1)
 
 slice-aggregate-keeps-rule9 : tie.Need-slice-aggregate-keeps-rule9
 slice-aggregate-keeps-rule9 c = search needs
@@ -28,7 +28,7 @@ keeps-rule9-requires c κs =
         circuits-fit = entry .pre .1;
         entries-fit = sym (at-keeps-rule7 .keeps-rule7 .ensures) ∙ at-if1 .if1 .taken;
       },
-      c .before .circuit-distances .ensures,
+      c .before .circuit-spans .ensures,
     )
 
 slice-aggregate-keeps-rule10 : tie.Need-slice-aggregate-keeps-rule10
@@ -37,8 +37,8 @@ slice-aggregate-keeps-rule10 c = search needs
 keeps-rule10-requires : tie.Need-keeps-rule10-requires
 keeps-rule10-requires c κs =
     let at-keeps-rule9 = c .before .before in
-    let at-circuit-distances = at-keeps-rule9 .before .before in
-    let at-if1 = at-circuit-distances .before .before .before in
+    let at-circuit-spans = at-keeps-rule9 .before .before in
+    let at-if1 = at-circuit-spans .before .before .before in
     let at-keeps-rule7 = at-if1 .before in
     let entry = at-keeps-rule7 .before .before in (
       record {
@@ -50,7 +50,7 @@ keeps-rule10-requires c κs =
         };
         routes-lead = sym (at-keeps-rule9 .keeps-rule9 .ensures) ∙ c .before .if3 .taken;
       },
-      at-circuit-distances .circuit-distances .ensures,
+      at-circuit-spans .circuit-spans .ensures,
     )
 
 keeps-rule11-requires : tie.Need-keeps-rule11-requires
@@ -138,7 +138,7 @@ schedules-number-spec =
     (tie.spec
     keeps-rule7-requires
     keeps-rule8-requires
-    circuit-distances-requires
+    circuit-spans-requires
     slice-aggregate-keeps-rule9
     keeps-rule9-requires
     slice-aggregate-keeps-rule10

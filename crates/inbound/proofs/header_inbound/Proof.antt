@@ -1,6 +1,6 @@
--- `inbound::header_inbound` meets its contract: the three registers are tested in turn.
+-- `inbound::header_inbound` meets its contract: the four registers are tested in turn.
 -- Assumes nothing.
-use Rattle.inbound.proofs.HeaderLaws.{header-link, header-head, header-out}
+use Rattle.inbound.proofs.HeaderLaws.{header-link, header-head, header-out, header-extra}
 use Rattle.inbound.proofs.header_inbound.Statement.{statement}
 use Rattle.inbound.proofs.header_inbound.Tie as tie
 
@@ -25,13 +25,23 @@ out-inbound-requires c κs = c .before .before .before .before .before .before .
 
 returns-3 : tie.Need-returns-3
 returns-3 c =
-    let at-if2 = c .before in
+    let a = c .before .before .before .before .before .before .before .before .args in
+    header-out (a .s .now) (a .region) (a .k) (c .before .out-inbound .ensures) (c .if3 .taken)
+
+extra-inbound-requires : tie.Need-extra-inbound-requires
+extra-inbound-requires c κs = c .before .before .before .before .before .before .before .before .pre
+
+returns-4 : tie.Need-returns-4
+returns-4 c =
+    let at-if3 = c .before in
+    let at-out = at-if3 .before in
+    let at-if2 = at-out .before in
     let at-head = at-if2 .before in
     let at-if1 = at-head .before in
     let at-link = at-if1 .before in
     let a = at-link .before .before .before .args in
-    header-out (a .s .now) (a .region) (a .k) (at-link .link-inbound .ensures) (at-if1 .if1 .left) (at-head .head-inbound .ensures)
-    (at-if2 .if2 .left) (c .out-inbound .ensures)
+    header-extra (a .s .now) (a .region) (a .k) (at-link .link-inbound .ensures) (at-if1 .if1 .left) (at-head .head-inbound .ensures)
+    (at-if2 .if2 .left) (at-out .out-inbound .ensures) (at-if3 .if3 .left) (c .extra-inbound .ensures)
 
 pub header-inbound-spec : {M : Type 1} → statement M
 header-inbound-spec =
@@ -42,4 +52,6 @@ header-inbound-spec =
     head-inbound-requires
     returns-2
     out-inbound-requires
-    returns-3)
+    returns-3
+    extra-inbound-requires
+    returns-4)

@@ -8,9 +8,9 @@ use lib.ListN.{length, take, replicate}
 use Rattle.words.specs.Words.{leastFrom, lastOf}
 use Rattle.words.specs.Numbers.{unless, _then_}
 use Rattle.words.specs.Tests.{all, any, between, _and_, _or_, _≤?_, _<?_, _=?_, _≠?_}
-use Rattle.torus.specs.Torus.{neighbourOf, walks, distanceOf}
-use Rattle.torus.specs.Route.{outputOf, follow, routeFrom}
-use Rattle.sheet.specs.Sheet.{rows, memoryWords, nodes, schedulePlace, circuitAt, entriesOf, entryAt}
+use Rattle.torus.specs.Torus.{neighbourOf, walks, distanceOf, isVertical}
+use Rattle.torus.specs.Route.{outputOf, follow, routeFrom, linkCycles, hopCycles}
+use Rattle.sheet.specs.Sheet.{rows, memoryWords, nodes, schedulePlace, circuitAt, entriesOf, entryAt, isLong}
 use Rattle.sheet.specs.Slots.{beginsAt, entryBeginning, slotLength}
 use Rattle.sheet.specs.Wires.{sameWire, same, during, occupied, member, meet}
 use Rattle.sheet.specs.Rules.{rule1, rule2, scheduleFits, rule3, firstBroken, checkRules}
@@ -27,6 +27,7 @@ use Rattle.isolation.specs.Examples.{sheetA}
 use Rattle.isolation.proofs.Reckoning.EventsDecided.{decided, events-decided}
 use Rattle.isolation.proofs.Reckoning.Reckons.{as-reckoned}
 use Rattle.isolation.proofs.Examples.Witness.{bad-loads, load-zero, zeros, zeros-long, lastLanded}
+use Rattle.sheet.specs.Flight.{verticalOf}
 
 -- sheet A's words, and the memories at load
 abbrev pub sheet : List ℕ
@@ -42,14 +43,14 @@ unfolding firstBroken
     eachEntry entryFits rule7At rule7 entryPrecedes rule8At rule8
     entryRoute entryLeads rule9 entryEnds rule10 entryOccupied rule11At rule11
     serves isServed rule26
-    rows schedulePlace circuitAt entriesOf entryAt
+    rows isLong schedulePlace circuitAt entriesOf entryAt
     sameWire same during occupied member meet
-    neighbourOf walks distanceOf outputOf follow routeFrom
+    neighbourOf walks distanceOf outputOf isVertical linkCycles hopCycles follow routeFrom
     leastFrom all any between _and_ _or_ _≤?_ _<?_ _=?_ _≠?_
 sheet-passes = refl
 
 pub memories-long : length memories ≡ nodes sheet * memoryWords sheet
-unfolding rows
+unfolding rows isLong _≤?_
 memories-long = refl
 
 -- the start of three words, then 20 cycles, on a state of zeros
@@ -81,6 +82,6 @@ landings k l =
 pub wanted : map landsAfter (0 ∷ 1 ∷ 2 ∷ 3 ∷ 4 ∷ 5 ∷ 6 ∷ 7 ∷ 8 ∷ 9 ∷ 10 ∷ 11 ∷ 12 ∷ 13 ∷ 14 ∷ 15 ∷ 16 ∷ 17 ∷ 18 ∷ 19 ∷ 20 ∷ 21 ∷ [])
     ≡ none ∷ none ∷ none ∷ none ∷ none ∷ none ∷ none ∷ none ∷ none ∷ item 0 0 11 ∷ item 0 1 22
     ∷ none ∷ none ∷ none ∷ none ∷ none ∷ none ∷ none ∷ item 0 2 33 ∷ none ∷ none ∷ none ∷ []
-unfolding rows reckonedLanding leavesIn slotLength entryBeginning beginsAt schedulePlace circuitAt entriesOf entryAt lastOf any _and_ _or_ _≤?_ _<?_ _=?_
+unfolding rows isLong verticalOf reckonedLanding leavesIn slotLength entryBeginning beginsAt schedulePlace circuitAt entriesOf entryAt lastOf any _and_ _or_ _≤?_ _<?_ _=?_
     distanceOf leastFrom walks neighbourOf kindTravels liesIn unless _then_ underWay
 wanted = refl

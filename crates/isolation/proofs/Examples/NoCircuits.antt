@@ -6,8 +6,8 @@ use mathlib.Core.List.{List, []}
 use mathlib.Core.Path.{_≡_, refl, sym, _∙_, ap}
 use native.Mathlib.Omega.{arith}
 use lib.ListN.{length, replicate, take}
-use Rattle.words.specs.Tests.{_and_, _=?_}
-use Rattle.sheet.specs.Sheet.{blankSheet, meant, rows, memoryWords, circuits, nodes, schedulePlace}
+use Rattle.words.specs.Tests.{_and_, _=?_, _≤?_}
+use Rattle.sheet.specs.Sheet.{blankSheet, meant, rows, memoryWords, circuits, nodes, schedulePlace, isLong}
 use Rattle.sheet.specs.Rules.{firstBroken, checkRules}
 use Rattle.sheet.proofs.MeantLaws.{itself, meant-none}
 use Rattle.sheet.proofs.CheckLaws.{idle-passes}
@@ -24,7 +24,7 @@ abbrev pub idleMemory : List ℕ
 idleMemory = replicate 4 0
 
 pub memory-long : length idleMemory ≡ nodes blankSheet * memoryWords blankSheet
-unfolding rows
+unfolding rows isLong _≤?_
 memory-long = refl
 
 pub blank-passes : firstBroken checkRules blankSheet ≡ 0

@@ -10,10 +10,10 @@ use lib.ListN.{length, take, replicate, getD}
 use Rattle.words.specs.Words.{leastFrom, lastOf, pick, word}
 use Rattle.words.specs.Numbers.{unless, _then_}
 use Rattle.words.specs.Tests.{all, any, between, _and_, _or_, _≤?_, _<?_, _=?_, _≠?_}
-use Rattle.torus.specs.Torus.{neighbourOf, walks, distanceOf}
-use Rattle.torus.specs.Route.{outputOf, follow, routeFrom}
+use Rattle.torus.specs.Torus.{neighbourOf, walks, distanceOf, isVertical}
+use Rattle.torus.specs.Route.{outputOf, follow, routeFrom, linkCycles, hopCycles}
 use Rattle.sheet.specs.declared.circuits.Circuit.{Circuit}
-use Rattle.sheet.specs.Sheet.{meant, rows, memoryWords, nodes, schedulePlace, circuitAt, period, entriesOf, entryAt}
+use Rattle.sheet.specs.Sheet.{meant, rows, isLong, memoryWords, nodes, schedulePlace, circuitAt, period, entriesOf, entryAt}
 use Rattle.sheet.specs.Slots.{beginsAt, entryBeginning, slotLength, sourceOf, destinationOf}
 use Rattle.sheet.specs.Wires.{sameWire, same, during, occupied, member, meet}
 use Rattle.sheet.specs.Rules.{rule1, rule2, scheduleFits, rule3, firstBroken, checkRules}
@@ -40,6 +40,7 @@ use Rattle.isolation.proofs.Reckoning.Alike.{actsIn, acts-are}
 use Rattle.isolation.proofs.Reckoning.Undisturbed.{schedule-before}
 use Rattle.isolation.proofs.DemandProved.{demand3}
 use Rattle.isolation.proofs.Examples.Witness.{badLoads, bad-loads, load-zero, zeros, zeros-long, startEvent, events-are, cycles-by, lastLanded, landed-by, started-by, table, table-at}
+use Rattle.sheet.specs.Flight.{verticalOf}
 
 -- the first sheet: 8 memory words a node, and one circuit, 0, from node 0 to node 1; its slots go by route 13 (east), at offset 0 for two
 -- words in schedule 0 of period 10, at offset 2 for one word in schedule 1 of period 12
@@ -69,9 +70,9 @@ unfolding firstBroken
     eachEntry entryFits rule7At rule7 entryPrecedes rule8At rule8
     entryRoute entryLeads rule9 entryEnds rule10 entryOccupied rule11At rule11
     serves isServed rule26
-    rows schedulePlace circuitAt entriesOf entryAt
+    rows isLong schedulePlace circuitAt entriesOf entryAt
     sameWire same during occupied member meet
-    neighbourOf walks distanceOf outputOf follow routeFrom
+    neighbourOf walks distanceOf outputOf isVertical linkCycles hopCycles follow routeFrom
     leastFrom all any between _and_ _or_ _≤?_ _<?_ _=?_ _≠?_
 sheets-pass = refl
 
@@ -117,16 +118,20 @@ loads-bad = refl
 
 -- the memories have the sheets' lengths, and the grids as many rows
 pub one-whole : length oneMemory ≡ nodes oneSheet * memoryWords oneSheet
-unfolding rows
+unfolding rows isLong _≤?_
 one-whole = refl
 
 pub other-whole : length otherMemory ≡ nodes otherSheet * memoryWords otherSheet
-unfolding rows
+unfolding rows isLong _≤?_
 other-whole = refl
 
 rows-alike : rows oneSheet ≡ rows otherSheet
-unfolding rows
+unfolding rows isLong _≤?_
 rows-alike = refl
+
+kind-alike : isLong oneSheet ≡ isLong otherSheet
+unfolding isLong _≤?_
+kind-alike = refl
 
 -- both sessions, on any lent state
 abbrev pub oneOn : (s : List ℕ) → stateWords ≤ length s → Session
@@ -168,22 +173,22 @@ otherEvents =
     ++ (startEvent 1 1 2 1 2 ∷ startEvent 0 0 4 1 2 ∷ replicate 15 cycleDone)
 
 one-decided : decided oneSheet oneMemory oneCalls [] ≡ oneEvents
-unfolding rows reckonedLanding leavesIn slotLength entryBeginning beginsAt schedulePlace circuitAt entriesOf entryAt lastOf any _and_ _or_ _≤?_ _<?_ _=?_
+unfolding rows isLong verticalOf reckonedLanding leavesIn slotLength entryBeginning beginsAt schedulePlace circuitAt entriesOf entryAt lastOf any _and_ _or_ _≤?_ _<?_ _=?_
     kindTravels liesIn unless _then_ underWay distanceOf leastFrom walks neighbourOf
 one-decided = refl
 
 other-decided : decided otherSheet otherMemory otherCalls [] ≡ otherEvents
-unfolding rows reckonedLanding leavesIn slotLength entryBeginning beginsAt schedulePlace circuitAt entriesOf entryAt lastOf any _and_ _or_ _≤?_ _<?_ _=?_
+unfolding rows isLong verticalOf reckonedLanding leavesIn slotLength entryBeginning beginsAt schedulePlace circuitAt entriesOf entryAt lastOf any _and_ _or_ _≤?_ _<?_ _=?_
     kindTravels liesIn unless _then_ underWay distanceOf leastFrom walks neighbourOf
 other-decided = refl
 
 first-decided : decided otherSheet otherMemory (take 1 otherCalls) [] ≡ storeDone 3 5 99 ∷ []
-unfolding rows _and_ _<?_
+unfolding rows isLong _and_ _<?_ _≤?_
 first-decided = refl
 
 -- in the list the third transfer is refused with 17
 list-decided : listAnswers otherSheet otherMemory bothStarted (storeDone 3 5 99 ∷ []) ≡ 0 ∷ 0 ∷ 17 ∷ []
-unfolding rows schedulePlace circuitAt any _and_ _or_ _≤?_ _<?_ _=?_ kindTravels liesIn unless _then_ underWay
+unfolding rows isLong verticalOf schedulePlace circuitAt any _and_ _or_ _≤?_ _<?_ _=?_ kindTravels liesIn unless _then_ underWay
 list-decided = refl
 
 pub one-events : (s : List ℕ) (long : stateWords ≤ length s) → eventsOf (oneOn s long) ≡ oneEvents
@@ -348,6 +353,7 @@ module _ (s s′ : List ℕ) (long : stateWords ≤ length s) (long′ : stateWo
   alike-on n most = record {
     same-columns = refl;
     same-rows = rows-alike;
+    same-kind = kind-alike;
     same-record = record-one ∙ sym record-other;
     same-regions = record { read = alike-read; receive = alike-receive };
     same-acts = λ t l.
@@ -396,27 +402,27 @@ abbrev landsIn : ℕ → Item
 landsIn t = lastLanded oneSheet 0 oneMemory (upTo oneEvents t ++ (cycleDone ∷ []))
 
 lands-first : landsIn 7 ≡ item 0 0 11
-unfolding rows reckonedLanding leavesIn slotLength entryBeginning beginsAt lastOf entriesOf entryAt schedulePlace circuitAt
+unfolding rows isLong verticalOf reckonedLanding leavesIn slotLength entryBeginning beginsAt lastOf entriesOf entryAt schedulePlace circuitAt
     neighbourOf walks distanceOf leastFrom any _and_ _or_ _≤?_ _<?_ _=?_
 lands-first = refl
 
 lands-second : landsIn 8 ≡ item 0 1 22
-unfolding rows reckonedLanding leavesIn slotLength entryBeginning beginsAt lastOf entriesOf entryAt schedulePlace circuitAt
+unfolding rows isLong verticalOf reckonedLanding leavesIn slotLength entryBeginning beginsAt lastOf entriesOf entryAt schedulePlace circuitAt
     neighbourOf walks distanceOf leastFrom any _and_ _or_ _≤?_ _<?_ _=?_
 lands-second = refl
 
 lands-third : landsIn 17 ≡ item 0 2 33
-unfolding rows reckonedLanding leavesIn slotLength entryBeginning beginsAt lastOf entriesOf entryAt schedulePlace circuitAt
+unfolding rows isLong verticalOf reckonedLanding leavesIn slotLength entryBeginning beginsAt lastOf entriesOf entryAt schedulePlace circuitAt
     neighbourOf walks distanceOf leastFrom any _and_ _or_ _≤?_ _<?_ _=?_
 lands-third = refl
 
 lands-stored : landsIn 18 ≡ item 0 3 77
-unfolding rows reckonedLanding leavesIn slotLength entryBeginning beginsAt lastOf entriesOf entryAt schedulePlace circuitAt
+unfolding rows isLong verticalOf reckonedLanding leavesIn slotLength entryBeginning beginsAt lastOf entriesOf entryAt schedulePlace circuitAt
     neighbourOf walks distanceOf leastFrom any _and_ _or_ _≤?_ _<?_ _=?_
 lands-stored = refl
 
 lands-interrupt : landsIn 39 ≡ item 2 2 22
-unfolding rows reckonedLanding leavesIn slotLength entryBeginning beginsAt lastOf entriesOf entryAt schedulePlace circuitAt
+unfolding rows isLong verticalOf reckonedLanding leavesIn slotLength entryBeginning beginsAt lastOf entriesOf entryAt schedulePlace circuitAt
     neighbourOf walks distanceOf leastFrom any _and_ _or_ _≤?_ _<?_ _=?_
 lands-interrupt = refl
 
@@ -451,12 +457,12 @@ one-answers : (t : ℕ) → t < 40 → number (start 0 0 0 1 0) (standing one (p
 one-answers t l = started-by one oneEvents (one-events zeros zeros-long) t l 0 0 0 1 0
 
 before-landing : answersIn 17 ≡ 17
-unfolding rows reckonedLanding leavesIn slotLength entryBeginning beginsAt lastOf entriesOf entryAt schedulePlace circuitAt
+unfolding rows isLong verticalOf reckonedLanding leavesIn slotLength entryBeginning beginsAt lastOf entriesOf entryAt schedulePlace circuitAt
     neighbourOf walks distanceOf leastFrom any _and_ _or_ _≤?_ _<?_ _=?_ kindTravels liesIn unless _then_ underWay
 before-landing = refl
 
 after-landing : answersIn 18 ≡ 0
-unfolding rows reckonedLanding leavesIn slotLength entryBeginning beginsAt lastOf entriesOf entryAt schedulePlace circuitAt
+unfolding rows isLong verticalOf reckonedLanding leavesIn slotLength entryBeginning beginsAt lastOf entriesOf entryAt schedulePlace circuitAt
     neighbourOf walks distanceOf leastFrom any _and_ _or_ _≤?_ _<?_ _=?_ kindTravels liesIn unless _then_ underWay
 after-landing = refl
 

@@ -10,7 +10,7 @@ use Rattle.words.specs.Words.{leastFrom, lastOf}
 use Rattle.words.specs.Numbers.{unless, _then_}
 use Rattle.words.specs.Tests.{any, _and_, _or_, _≤?_, _<?_, _=?_}
 use Rattle.torus.specs.Torus.{neighbourOf, walks, distanceOf}
-use Rattle.sheet.specs.Sheet.{rows, schedulePlace, circuitAt, entriesOf, entryAt}
+use Rattle.sheet.specs.Sheet.{rows, schedulePlace, circuitAt, entriesOf, entryAt, isLong}
 use Rattle.sheet.specs.Slots.{beginsAt, entryBeginning, slotLength}
 use Rattle.soundness.specs.Sound.{kindTravels, liesIn}
 use Rattle.session.specs.Calls.{Call, start, store, cycle}
@@ -23,6 +23,7 @@ use Rattle.isolation.proofs.Reckoning.Points.{upTo}
 use Rattle.isolation.proofs.Reckoning.EventsDecided.{decided}
 use Rattle.isolation.proofs.Examples.Witness.{bad-loads, load-zero, zeros, zeros-long, events-are, lastLanded, landed-by, startEvent}
 use Rattle.isolation.proofs.Examples.Landings.{sheet, memories, sheet-passes, memories-long}
+use Rattle.sheet.specs.Flight.{verticalOf}
 
 -- sheet A with a transfer of three words; before the first cycle two words are stored at address 1 of the read region, one after the other
 abbrev storesThen : ℕ → ℕ → List Call
@@ -43,13 +44,13 @@ abbrev eventsThen : ℕ → ℕ → List Event
 eventsThen a b = startEvent 0 0 0 3 0 ∷ storeDone 0 1 a ∷ storeDone 0 1 b ∷ replicate 9 cycleDone
 
 events-decided-so : (a b : ℕ) → decided sheet memories (storesThen a b) [] ≡ eventsThen a b
-unfolding rows reckonedLanding leavesIn slotLength entryBeginning beginsAt schedulePlace circuitAt entriesOf entryAt lastOf any _and_ _or_ _≤?_ _<?_ _=?_
+unfolding rows isLong verticalOf reckonedLanding leavesIn slotLength entryBeginning beginsAt schedulePlace circuitAt entriesOf entryAt lastOf any _and_ _or_ _≤?_ _<?_ _=?_
     kindTravels liesIn unless _then_ underWay
 events-decided-so a b = refl
 
 -- the word stored last lands in cycle 8
 reckoned-so : (a b : ℕ) → lastLanded sheet 0 memories (upTo (eventsThen a b) 8 ++ (cycleDone ∷ [])) ≡ item 0 1 b
-unfolding rows reckonedLanding leavesIn slotLength entryBeginning beginsAt lastOf entriesOf entryAt schedulePlace circuitAt
+unfolding rows isLong verticalOf reckonedLanding leavesIn slotLength entryBeginning beginsAt lastOf entriesOf entryAt schedulePlace circuitAt
     neighbourOf walks distanceOf leastFrom any _and_ _or_ _≤?_ _<?_ _=?_
 reckoned-so a b = refl
 

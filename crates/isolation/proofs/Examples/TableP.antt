@@ -7,15 +7,16 @@ use mathlib.Core.List.{List, [], _∷_, _++_, map}
 use lib.ListN.{set, replicate, drop}
 use Rattle.words.specs.Words.{leastFrom, tab}
 use Rattle.words.specs.Tests.{all, any, between, _and_, _or_, _≤?_, _<?_, _=?_, _≠?_}
-use Rattle.torus.specs.Torus.{neighbourOf, walks, distanceOf}
-use Rattle.torus.specs.Route.{outputOf, hopCycles, follow, routeFrom}
+use Rattle.torus.specs.Torus.{neighbourOf, walks, distanceOf, isVertical}
+use Rattle.torus.specs.Route.{outputOf, hopCycles, follow, routeFrom, linkCycles}
 use Rattle.network.specs.Registers.{reg, sheetLength, sheetIn, movingWords}
-use Rattle.soundness.specs.Sound.{sheetSound, clockSound, orderSound, kindTravels, liesIn, transferSound, cellSound, routerSound, nodeSound, sound}
+use Rattle.soundness.specs.Sound.{sheetSound, clockSound, orderSound, kindTravels, liesIn, transferSound, cellSound, routerSound, extraSound, nodeSound, sound}
+use Rattle.network.specs.Cycle.{hasExtra}
 use Rattle.words.specs.Numbers.{unless, _then_}
 use Rattle.words.proofs.TableLaws.{tab-zeros}
 use Rattle.session.specs.Calls.{stateNumber, isPending, ahead, orderNumber, loaded}
 use Rattle.isolation.specs.Examples.{sheetA, lastPeriod, Example, tableOn, TableHolds}
-use Rattle.sheet.specs.Sheet.{meant, schedulePlace, circuitAt, entriesOf, entryAt, rows, sheetWords}
+use Rattle.sheet.specs.Sheet.{meant, schedulePlace, circuitAt, entriesOf, entryAt, rows, sheetWords, isLong}
 use Rattle.sheet.specs.Wires.{sameWire, same, during, occupied, member, meet}
 use Rattle.sheet.specs.Rules.{rule1, rule2, scheduleFits, rule3, firstBroken, verdict}
 use Rattle.sheet.specs.Rules.{regionFits, circuitFits, rule4, precedes, circuitPrecedes, rule5, apart, receiveApart, rule6}
@@ -27,7 +28,7 @@ abbrev written : List ℕ
 written = 0 ∷ 4294967295 ∷ replicate (movingWords - 2) 0 ++ (17 ∷ sheetA 0 13 [] ++ replicate (sheetWords - 17) 0)
 
 computed : map (λ (r : Example). r .given) (tableOn written) ≡ map (λ (r : Example). r .wanted) (tableOn written)
-unfolding orderNumber stateNumber unless _then_ ahead isPending sound sheetSound clockSound orderSound transferSound kindTravels liesIn routerSound cellSound nodeSound
+unfolding orderNumber stateNumber unless _then_ ahead isPending sound sheetSound clockSound orderSound transferSound kindTravels liesIn routerSound extraSound hasExtra cellSound nodeSound
     loaded tab reg sheetLength sheetIn
     meant verdict firstBroken
     rule1 rule2 scheduleFits rule3
@@ -35,9 +36,9 @@ unfolding orderNumber stateNumber unless _then_ ahead isPending sound sheetSound
     eachEntry entryFits rule7At rule7 entryPrecedes rule8At rule8
     entryRoute entryLeads rule9 entryEnds rule10 entryOccupied rule11At rule11
     serves isServed rule26
-    rows schedulePlace circuitAt entriesOf entryAt
+    rows isLong schedulePlace circuitAt entriesOf entryAt
     sameWire same during occupied member meet
-    neighbourOf walks distanceOf outputOf hopCycles follow routeFrom
+    neighbourOf walks distanceOf outputOf isVertical linkCycles hopCycles follow routeFrom
     leastFrom all any between _and_ _or_ _≤?_ _<?_ _=?_ _≠?_
 computed = refl
 

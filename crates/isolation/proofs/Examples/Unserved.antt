@@ -8,7 +8,7 @@ use native.Mathlib.Omega.{arith}
 use Rattle.words.specs.Words.{word}
 use Rattle.words.specs.Tests.{all, any, between, _and_, _or_, _≤?_, _<?_, _=?_, _≠?_}
 use Rattle.words.proofs.NumberLaws.{then-first}
-use Rattle.sheet.specs.Sheet.{rows, schedulePlace, circuitAt, entriesOf}
+use Rattle.sheet.specs.Sheet.{rows, schedulePlace, circuitAt, entriesOf, isLong}
 use Rattle.sheet.specs.Rules.{rule1, rule2, scheduleFits, rule3, firstBroken, verdict, checkRules, checkNumber}
 use Rattle.sheet.specs.Rules.{regionFits, circuitFits, rule4, rule5, apart, receiveApart, rule6, eachEntry, entryFits, rule7At, rule7, rule8At, rule8}
 use Rattle.sheet.specs.Rules.{rule9, rule10, rule11At, rule11, serves, isServed, rule26}
@@ -32,7 +32,7 @@ unfolding verdict firstBroken
     eachEntry entryFits rule7At rule7 rule8At rule8
     rule9 rule10 rule11At rule11
     serves isServed rule26
-    rows schedulePlace circuitAt entriesOf
+    rows isLong schedulePlace circuitAt entriesOf
     all any between _and_ _or_ _≤?_ _<?_ _=?_ _≠?_
 numbers-are = refl
 

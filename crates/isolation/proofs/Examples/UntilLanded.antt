@@ -10,7 +10,7 @@ use Rattle.words.specs.Words.{leastFrom, lastOf}
 use Rattle.words.specs.Numbers.{unless, _then_}
 use Rattle.words.specs.Tests.{any, _and_, _or_, _≤?_, _<?_, _=?_}
 use Rattle.torus.specs.Torus.{neighbourOf, walks, distanceOf}
-use Rattle.sheet.specs.Sheet.{rows, schedulePlace, circuitAt, entriesOf, entryAt}
+use Rattle.sheet.specs.Sheet.{rows, schedulePlace, circuitAt, entriesOf, entryAt, isLong}
 use Rattle.sheet.specs.Slots.{beginsAt, entryBeginning, slotLength}
 use Rattle.soundness.specs.Sound.{kindTravels, liesIn}
 use Rattle.session.specs.declared.Found.the-variants.{Word as FoundWord}
@@ -24,6 +24,7 @@ use Rattle.isolation.proofs.Reckoning.EventsDecided.{startAnswer, start
 use Rattle.isolation.proofs.Reckoning.Reckons.{as-reckoned}
 use Rattle.isolation.proofs.Examples.Witness.{bad-loads, load-zero, zeros, zeros-long}
 use Rattle.isolation.proofs.Examples.Landings.{sheet, sheet-passes, memories, memories-long}
+use Rattle.sheet.specs.Flight.{verticalOf}
 
 -- the start of two words, eight cycles, a start that is refused, a cycle, and a start that is taken
 abbrev pub calls : List Call
@@ -52,13 +53,13 @@ answers k l =
 -- 0 after cycle 8, and 17 where the last start was taken
 pub wanted : map answerAfter (0 ∷ 1 ∷ 2 ∷ 3 ∷ 4 ∷ 5 ∷ 6 ∷ 7 ∷ 8 ∷ 9 ∷ 10 ∷ 11 ∷ 12 ∷ [])
     ≡ 0 ∷ 17 ∷ 17 ∷ 17 ∷ 17 ∷ 17 ∷ 17 ∷ 17 ∷ 17 ∷ 17 ∷ 17 ∷ 0 ∷ 17 ∷ []
-unfolding rows reckonedLanding leavesIn slotLength entryBeginning beginsAt schedulePlace circuitAt entriesOf entryAt lastOf any _and_ _or_ _≤?_ _<?_ _=?_
+unfolding rows isLong verticalOf reckonedLanding leavesIn slotLength entryBeginning beginsAt schedulePlace circuitAt entriesOf entryAt lastOf any _and_ _or_ _≤?_ _<?_ _=?_
     distanceOf leastFrom walks neighbourOf kindTravels liesIn unless _then_ underWay
 wanted = refl
 
 -- no words are left to send after three cycles, which is point 4
 none-owed : owed (reckon sheet 0 memories (decided sheet memories (take 4 calls) [])) ≡ 0
-unfolding rows reckonedLanding leavesIn slotLength entryBeginning beginsAt schedulePlace circuitAt entriesOf entryAt lastOf any _and_ _or_ _≤?_ _<?_ _=?_
+unfolding rows isLong verticalOf reckonedLanding leavesIn slotLength entryBeginning beginsAt schedulePlace circuitAt entriesOf entryAt lastOf any _and_ _or_ _≤?_ _<?_ _=?_
     distanceOf leastFrom walks neighbourOf kindTravels liesIn unless _then_ underWay
 none-owed = refl
 

@@ -9,7 +9,8 @@ use native.Mathlib.Omega.{arith}
 use Rattle.words.proofs.TestLaws.{and-left, and-right, and-both, is=, yes=}
 use Rattle.packet.specs.Header.{addressOf}
 use Rattle.sheet.specs.declared.circuits.Region.{Region}
-use Rattle.sheet.specs.Sheet.{circuits, circuitAt}
+use Rattle.torus.specs.Route.{linkCycles}
+use Rattle.sheet.specs.Sheet.{isLong, circuits, circuitAt}
 use Rattle.sheet.specs.Slots.{destinationOf}
 use Rattle.sheet.specs.Rules.{verdict}
 use Rattle.network.specs.View.{View}
@@ -21,7 +22,7 @@ use Rattle.isolation.proofs.Routes.Way.{header-address}
 use Rattle.isolation.proofs.Routes.Ways.{Ways}
 use Rattle.isolation.proofs.Routes.SheetWays.{ways-of, routers-few}
 use Rattle.isolation.proofs.Flights.Flight.{Flights, Paths, outStage, InStage}
-use Rattle.isolation.proofs.Flights.Period.{delay-on}
+use Rattle.isolation.proofs.Flights.Period.{link-on}
 use Rattle.isolation.proofs.Flights.Trajectory.{Trajectory}
 use Rattle.isolation.proofs.Flights.Send.{Opening, flights, leads-of, paths}
 use Rattle.isolation.proofs.Flights.Deliver.{first, written, header-back}
@@ -95,16 +96,16 @@ module _ (z : List ℕ) (passes : verdict z ≡ 0) (S : ℕ → View) (J : Traje
       and-both (yes= (header-bound f k l))
       (subst (λ a. inRegion (circuitAt z (f .circuit) .receive) a ≡ true) address (address-inside f 0 (P .some-size f)))
 
-  -- a packet's word in a stage of a router that is read as a header and comes into a circuit's receive region is that packet's header: it has
+  -- a packet's word in a stage of a router, or of the link behind it, that is read as a header and comes into a circuit's receive region is that packet's header: it has
   -- left, and the packet is one of the circuit's and not wholly landed
-  pub stage-on-way : (T stage circuit : ℕ) (f : Opening z S) (k j node output w : ℕ) → 1 ≤ stage → stage ≤ outStage → InStage F T stage f k j
+  pub stage-on-way : (T stage circuit : ℕ) (f : Opening z S) (k j node output w : ℕ) → 1 ≤ stage
+      → stage ≤ outStage + linkCycles (isLong z) (F .output f k) → InStage F T stage f k j
       → circuit < circuits z → j ≡ 0 → F .node f k ≡ node → F .output f k ≡ output → F .headerAt f (suc k) ≡ w
       → comesInto z (circuitAt z circuit .receive) node output w ≡ true → OnWay T circuit
   stage-on-way T stage circuit f k j node output w low high s inside j-first at-node by word e =
       let r : Region = circuitAt z circuit .receive in
       let last : ℕ = F .routers f - 1 in
       let ends : suc last ≡ F .routers f = omega (arith, s .on-way) in
-      let there : k + (last - k) ≡ last = omega (arith, s .on-way) in
       let comes : comesInto z r (F .node f k) (F .output f k) (F .headerAt f (suc k)) ≡ true =
       ap (λ i. comesInto z r i (F .output f k) (F .headerAt f (suc k))) at-node
       ∙ ap (λ o. comesInto z r node o (F .headerAt f (suc k))) by ∙ ap (comesInto z r node output) word ∙ e in
@@ -116,8 +117,8 @@ module _ (z : List ℕ) (passes : verdict z ≡ 0) (S : ℕ → View) (J : Traje
             omega (
               arith,
               s .time,
-              delay-on z F P f k (last - k),
-              ap (F .delay f) there,
+              high,
+              link-on z F P f k last (s .on-way) ends,
               leads-of z (sheet-bounds z passes) W S J f .last-delay last ends,
             );
       }

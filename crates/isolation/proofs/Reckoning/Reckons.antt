@@ -12,12 +12,15 @@ use Rattle.words.specs.Tests.{_and_, _≤?_}
 use Rattle.words.specs.Words.{pick}
 use Rattle.words.proofs.TestLaws.{and-right, and-both, yes≤, yes<, yes=}
 use Rattle.torus.proofs.WalkLaws.{distance-least}
+use Rattle.torus.proofs.VerticalLaws.{vertical-is}
 use Rattle.sheet.specs.declared.circuits.Region.{Region}
-use Rattle.sheet.specs.Sheet.{columns, rows, memoryWords, circuits, schedules, nodes, circuitAt, entriesOf, entryCount, entryAt}
+use Rattle.sheet.specs.Sheet.{columns, rows, isLong, memoryWords, circuits, schedules, nodes, circuitAt, entriesOf, entryCount, entryAt}
 use Rattle.sheet.specs.Slots.{sourceOf, destinationOf}
-use Rattle.sheet.specs.Rules.{entryRoute, routeHops}
+use Rattle.sheet.specs.Rules.{entryRoute, routeHops, routeVertical}
 use Rattle.sheet.specs.Inner.Passed.{CircuitSmall}
-use Rattle.sheet.proofs.VerdictLaws.{passed}
+use Rattle.sheet.specs.Flight.{verticalOf}
+use Rattle.sheet.proofs.PassedLaws.{entry-small}
+use Rattle.sheet.proofs.VerdictLaws.{passed, routed}
 use Rattle.network.specs.View.{View, Landing, nothing, landed as landing}
 use Rattle.network.specs.Registers.{reg, leftRow, toGoRow, rowCount}
 use Rattle.session.specs.declared.Found.the-variants.{Word as FoundWord}
@@ -33,7 +36,7 @@ use Rattle.isolation.specs.Sessions.{LoadsRefused, Session, afterLoad, s
 use Rattle.isolation.specs.Calendar.{Calendar, calendarAtLoad, nextCalendar, calendarAfter, calendarAt, cyclesDone}
 use Rattle.isolation.specs.Reckoning.{Item, none, item, Reckoned, hopsOf, flightCycles, reckonedLanding, lastReckoned, leavesIn, cycleOn, atLoad, reckon}
 use Rattle.isolation.specs.Demand.{inRegion, itemWithin, reckonedAt, isItem, reckonedBusy, CycleAt, answerAtDestination, circuitLanding, AsReckoned}
-use Rattle.isolation.proofs.Routes.Apart.{entry-way, entryHops}
+use Rattle.isolation.proofs.Routes.Apart.{entry-way, entryHops, entryVertical}
 use Rattle.isolation.proofs.Reckoning.Dates.{Dated, next-cycles, calendar-append, after-all-at, point-opened, point-at, never-refused}
 use Rattle.isolation.proofs.Reckoning.Landed.{landing-kept, landing-opened}
 use Rattle.isolation.proofs.Reckoning.StartAnswers.{fitsIn, state-zero, start-17, start-0, StartsBy}
@@ -196,7 +199,16 @@ module _ (l : Session) (circuit : ℕ) (inside : circuit < circuits (l .sheet)) 
   side-outputs j i jl il own =
       let w = entry-way z (passed z (session-passes l) .rule9-kept) j jl i il in
       let same : hopsOf z (entryAt (entriesOf z j) i .circuit) ≡ hopsOf z circuit = ap (hopsOf z) own in
-      omega (arith, w .short, distance-least (columns z) (rows z) _ _ _ _ _ (w .leading), same)
+      omega (arith, w .short, distance-least (columns z) (rows z) (isLong z) _ _ _ _ _ _ (w .leading), same)
+
+  -- and as many of them over long links
+  long-links : (j i : ℕ) → j < schedules z → i < entryCount (entriesOf z j) → entryAt (entriesOf z j) i .circuit ≡ circuit
+      → routeVertical (entryRoute z (entryAt (entriesOf z j) i)) ≡ verticalOf z circuit
+  unfolding entryVertical verticalOf
+  long-links j i jl il own =
+      let w = entry-way z (passed z (session-passes l) .rule9-kept) j jl i il in
+      let from = entry-small z (routed z (session-passes l) .ranged) j jl i il .source-inside in
+      vertical-is (columns z) (rows z) (isLong z) _ _ from _ _ _ _ (w .leading) (w .short) ∙ ap (verticalOf z) own
 
   -- what landed last in the receive region
   landings : (k : ℕ) → circuitLanding l circuit k ≡ lastReckoned z circuit (reckonedAt l circuit k) (cyclesDone l k)
@@ -264,6 +276,7 @@ module _ (l : Session) (circuit : ℕ) (inside : circuit < circuits (l .sheet)) 
   pub as-reckoned : AsReckoned l circuit
   as-reckoned = record {
     side-outputs = side-outputs;
+    long-links = long-links;
     words-left = λ k p.
         let a = at-point k in
         left-answer (standing l k) (fine-at k) ∙ ap FoundWord (sym (a .now .sending .left-is));

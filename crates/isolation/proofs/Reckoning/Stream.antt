@@ -15,7 +15,7 @@ use Rattle.sheet.specs.Rules.{verdict}
 use Rattle.network.specs.View.{View, empty, Receiver, Order, noOrder, pending, ports}
 use Rattle.network.specs.Cycle.{tick, faulty}
 use Rattle.network.specs.Registers.{reg, sheetIn, stateWords, clockRow, cyclePlace, numberPlace, inForcePlace, orderMarkPlace, orderSchedulePlace, rowCount, rowWords}
-use Rattle.network.specs.Registers.{orderPeriodPlace, linkMark, linkWord, headMark, headWord, choiceRow, latchRow, outMark, outWord, receiveMark}
+use Rattle.network.specs.Registers.{orderPeriodPlace, linkMark, linkWord, headMark, headWord, choiceRow, latchRow, outMark, outWord, extraMark, extraWord, receiveMark}
 use Rattle.network.specs.Registers.{receiveKind, receiveAddress, leftRow, readRow, writeRow, kindRow, toGoRow, at}
 use Rattle.network.specs.Seen.{seenSender, seenCell, seenChoice, marked, view, Agree}
 use Rattle.network.proofs.RowLaws.{sheet-kept, sender-same}
@@ -94,7 +94,7 @@ isCycle (ask question) = false
 
 -- a call that changes no register of routers, nodes and the clock's time
 module _ (z s m s′ m′ : List ℕ) (few-nodes : nodes z ≤ 16)
-    (same : (row k : ℕ) → row < leftRow → k < rowWords → (row ≡ 0 → k < 3) → reg s′ row k ≡ reg s row k)
+    (same : (row k : ℕ) → (leftRow ≤ row → row ≤ toGoRow → ⊥) → k < rowWords → (row ≡ 0 → k < 3) → reg s′ row k ≡ reg s row k)
     (order-kept : OrderInside z (view s m .order) → OrderInside z (view s′ m′ .order))
     (busy-kept : (circuit : ℕ) → circuit < circuits z → 0 < reg s leftRow circuit → seenSender s′ circuit ≡ seenSender s circuit)
     (to-go-kept : (circuit : ℕ) → circuit < circuits z → reg s′ toGoRow circuit ≡ reg s toGoRow circuit)
@@ -102,10 +102,14 @@ module _ (z s m s′ m′ : List ℕ) (few-nodes : nodes z ≤ 16)
     → TransferParts (circuitAt z circuit) (seenSender s′ circuit)) where
   router-same : (row node input : ℕ) → 1 ≤ row → row < leftRow → node < nodes z → input < ports
       → reg s′ row (at node input) ≡ reg s row (at node input)
-  router-same row node input low high n i = same row (at node input) high (omega arith) (λ e. absurd (omega arith))
+  router-same row node input low high n i = same row (at node input) (λ a b. omega arith) (omega arith) (λ e. absurd (omega arith))
+
+  extra-same : (row node output : ℕ) → extraMark ≤ row → node < nodes z → output < ports
+      → reg s′ row (at node output) ≡ reg s row (at node output)
+  extra-same row node output low n i = same row (at node output) (λ a b. omega arith) (omega arith) (λ e. absurd (omega arith))
 
   node-same : (row node : ℕ) → 1 ≤ row → row < leftRow → node < nodes z → reg s′ row node ≡ reg s row node
-  node-same row node low high n = same row node high (omega arith) (λ e. absurd (omega arith))
+  node-same row node low high n = same row node (λ a b. omega arith) (omega arith) (λ e. absurd (omega arith))
 
   between-registers : Between z (view s m) (view s′ m′)
   between-registers = record {
@@ -121,6 +125,8 @@ module _ (z s m s′ m′ : List ℕ) (few-nodes : nodes z ≤ 16)
       out = λ node input n i.
           ap₂ seenCell (sym (router-same outMark node input (omega arith) (omega arith) n i))
           (sym (router-same outWord node input (omega arith) (omega arith) n i));
+      extra = λ node output n i has.
+          ap₂ seenCell (sym (extra-same extraMark node output (omega arith) n i)) (sym (extra-same extraWord node output (omega arith) n i));
     };
     receiver = λ node n.
         rw (
@@ -128,9 +134,9 @@ module _ (z s m s′ m′ : List ℕ) (few-nodes : nodes z ≤ 16)
           node-same receiveKind node (omega arith) (omega arith) n,
           node-same receiveAddress node (omega arith) (omega arith) n,
         ) refl;
-    cycle = same clockRow cyclePlace (omega arith) (omega arith) (λ e. omega arith);
-    periodNumber = same clockRow numberPlace (omega arith) (omega arith) (λ e. omega arith);
-    schedule = same clockRow inForcePlace (omega arith) (omega arith) (λ e. omega arith);
+    cycle = same clockRow cyclePlace (λ a b. omega arith) (omega arith) (λ e. omega arith);
+    periodNumber = same clockRow numberPlace (λ a b. omega arith) (omega arith) (λ e. omega arith);
+    schedule = same clockRow inForcePlace (λ a b. omega arith) (omega arith) (λ e. omega arith);
     order = order-kept;
     busy = busy-kept;
     to-go = to-go-kept;
@@ -147,6 +153,7 @@ agree-sym z v w a = record {
   choice = λ node input n i. sym (a .choice node input n i);
   latch = λ node input n i. sym (a .latch node input n i);
   out = λ node o n i. sym (a .out node o n i);
+  extra = λ node o n i has. sym (a .extra node o n i has);
   memory = λ node address n l. sym (a .memory node address n l);
   cycle = sym (a .cycle);
   periodNumber = sym (a .periodNumber);
@@ -172,7 +179,7 @@ module _ (z : List ℕ) (w : Lent) (f : Fine z w) where
       let parts = fine-parts z (does (start circuit readAddress writeAddress count kind) w)
       (fine-does z (start circuit readAddress writeAddress count kind) w refl e f) in
       between-registers z s (w .memory) (started s circuit readAddress writeAddress count kind) (w .memory) (b .few-nodes)
-      (λ row k rl kl c. other row k kl (λ low. absurd (omega arith)))
+      (λ row k no kl c. other row k kl (λ low high q. no low (omega arith)))
       (order-same z (seen w .order) (seen (does (start circuit readAddress writeAddress count kind) w) .order)
       (rw (
         other clockRow orderMarkPlace (omega arith) (λ low. absurd (omega arith)),
@@ -383,6 +390,7 @@ module _ (l : Session) where
           link = λ node input n i. sym (first .routers .link node input n i) ∙ empty-at linkMark _ node input (omega arith) n i;
           head = λ node input n i. sym (first .routers .head node input n i) ∙ empty-at headMark _ node input (omega arith) n i;
           out = λ node input n i. sym (first .routers .out node input n i) ∙ empty-at outMark _ node input (omega arith) n i;
+          extra = λ node o n i has. sym (first .routers .extra node o n i has) ∙ empty-at extraMark _ node o (omega arith) n i;
         };
         none-arriving = λ node n.
             ap (λ (r : Receiver). r .arriving) (first .receiver node n)

@@ -130,7 +130,7 @@ module _ (a b : Session) (c d n : ℕ) (ha : AsReckoned a c) (hb : AsReckoned b 
       }
 
   flight-equal : flightCycles (a .sheet) c ≡ flightCycles (b .sheet) d
-  flight-equal = flight-same (a .sheet) (b .sheet) c d (x .same-columns) (x .same-rows) (x .same-record)
+  flight-equal = flight-same (a .sheet) (b .sheet) c d (x .same-columns) (x .same-rows) (x .same-kind) (x .same-record)
 
   -- the sheets in cycle t
   sheets-at : (t : ℕ) → t < n → Sheets (a .sheet) (b .sheet) c d (calendarBefore a t) (calendarBefore b t)

@@ -13,16 +13,16 @@ use Rattle.words.proofs.AllLaws.{all-at}
 use Rattle.torus.specs.Route.{Wire, source, Use, Route, leads, nowhere, routeFrom, routerCycles}
 use Rattle.torus.specs.Inner.Delays.{delayAt, lastDelay}
 use Rattle.sheet.specs.declared.entries.Entry.{Entry}
-use Rattle.sheet.specs.Sheet.{columns, rows, schedules, circuitAt, entriesOf, entryCount, entryAt}
+use Rattle.sheet.specs.Sheet.{columns, rows, isLong, schedules, circuitAt, entriesOf, entryCount, entryAt}
 use Rattle.sheet.specs.Flight.{hopsOf}
 use Rattle.sheet.specs.Wires.{member, meet}
-use Rattle.sheet.specs.Rules.{eachEntry, entryRoute, reaches, entryLeads, rule9, routeHops, usesOf, entryOccupied, rule11At, rule11}
+use Rattle.sheet.specs.Rules.{eachEntry, entryRoute, reaches, entryLeads, rule9, routeHops, routeVertical, usesOf, entryOccupied, rule11At, rule11}
 use Rattle.sheet.specs.Inner.Passed.{Routed}
 use Rattle.isolation.proofs.Routes.Way.{wireAt, outputWire, wayNode, wayInput, wayOutput, wayDelay, Way, way}
 use Rattle.isolation.proofs.Routes.Simple.{use-once}
 use Rattle.isolation.proofs.Routes.Meet.{wireIn, occupied-at, meet-yes}
 
--- an entry'z ends, uses and hops
+-- an entry'z ends, uses, hops, and hops over long links
 abbrev pub entrySource : List ℕ → Entry → ℕ
 entrySource z e = circuitAt z (e .circuit) .read .node
 
@@ -35,6 +35,9 @@ entryUses z e = usesOf (entryRoute z e)
 unfoldable pub entryHops : List ℕ → Entry → ℕ
 entryHops z e = routeHops (entryRoute z e)
 
+unfoldable pub entryVertical : List ℕ → Entry → ℕ
+entryVertical z e = routeVertical (entryRoute z e)
+
 -- its way: node, input, output and delay of router k
 abbrev pub entryNode : List ℕ → Entry → ℕ → ℕ
 entryNode z e k = wayNode (columns z) (rows z) (entrySource z e) (e .route) k
@@ -46,26 +49,28 @@ abbrev pub entryOutput : List ℕ → Entry → ℕ → ℕ
 entryOutput z e k = wayOutput (columns z) (rows z) (entrySource z e) (e .route) k
 
 abbrev pub entryDelay : List ℕ → Entry → ℕ → ℕ
-entryDelay z e k = wayDelay (columns z) (rows z) (entrySource z e) (e .route) k
+entryDelay z e k = wayDelay (columns z) (rows z) (isLong z) (entrySource z e) (e .route) k
 
 -- number 9 at an entry: its route leads along its way to its circuit'z destination, in no more hops than the distance
 pub record EntryWay (z : List ℕ) (e : Entry) : Type 0 where
-  pub leading : routeFrom (columns z) (rows z) (entrySource z e) (e .route) ≡ leads (entryUses z e) (entryEnd z e) (entryHops z e)
-  pub along : Way (columns z) (rows z) (entrySource z e) (e .route) (entryUses z e) (entryEnd z e) (entryHops z e)
+  pub leading : routeFrom (columns z) (rows z) (isLong z) (entrySource z e) (e .route)
+      ≡ leads (entryUses z e) (entryEnd z e) (entryHops z e) (entryVertical z e)
+  pub along : Way (columns z) (rows z) (isLong z) (entrySource z e) (e .route) (entryUses z e) (entryEnd z e) (entryHops z e)
   pub short : entryHops z e ≤ hopsOf z (e .circuit)
 
-reached : (r : Route) (to most : ℕ) → reaches r to most ≡ true → (r ≡ leads (usesOf r) to (routeHops r)) × (routeHops r ≤ most)
-reached (leads uses node hops) to most e =
-    (ap (λ (n : ℕ). leads uses n hops) (is= node to (and-left _ _ e)), is≤ hops most (and-right (node =? to) (hops ≤? most) e))
+reached : (r : Route) (to most : ℕ) → reaches r to most ≡ true
+    → (r ≡ leads (usesOf r) to (routeHops r) (routeVertical r)) × (routeHops r ≤ most)
+reached (leads uses node hops vertical) to most e =
+    (ap (λ (n : ℕ). leads uses n hops vertical) (is= node to (and-left _ _ e)), is≤ hops most (and-right (node =? to) (hops ≤? most) e))
 reached nowhere to most e = absurd (false≢true e)
 
 led-way : (z : List ℕ) (e : Entry) → entryLeads z e ≡ true → EntryWay z e
-unfolding entryLeads entryRoute entryUses entryHops
+unfolding entryLeads entryRoute entryUses entryHops entryVertical
 led-way z e h =
     let r = reached (entryRoute z e) (entryEnd z e) (hopsOf z (e .circuit)) h in
     record {
       leading = r .0;
-      along = way (columns z) (rows z) (entrySource z e) (e .route) (entryUses z e) (entryEnd z e) (entryHops z e) (r .0);
+      along = way (columns z) (rows z) (entrySource z e) (e .route) (isLong z) (entryUses z e) (entryEnd z e) (entryHops z e) (entryVertical z e) (r .0);
       short = r .1;
     }
 

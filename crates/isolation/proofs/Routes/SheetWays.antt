@@ -7,12 +7,13 @@ use mathlib.Core.List.{List}
 use mathlib.Core.Path.{_≡_, refl, _∙_, ap}
 use native.Mathlib.Omega.{arith}
 use Rattle.torus.proofs.WalkLaws.{distance-least}
+use Rattle.torus.proofs.VerticalLaws.{vertical-is}
 use Rattle.torus.proofs.TravelLaws.{last-delay-is}
 use Rattle.torus.proofs.DistanceLaws.{distance-most}
 use Rattle.torus.specs.Route.{routerCycles}
-use Rattle.sheet.specs.Sheet.{columns, rows, circuits}
+use Rattle.sheet.specs.Sheet.{columns, rows, isLong, circuits}
 use Rattle.sheet.specs.Slots.{slotLength, slotRoute, sourceOf, destinationOf}
-use Rattle.sheet.specs.Flight.{hopsOf, flightCycles}
+use Rattle.sheet.specs.Flight.{hopsOf, verticalOf, flightCycles}
 use Rattle.sheet.specs.Rules.{rule11, verdict}
 use Rattle.sheet.specs.Inner.Passed.{Routed}
 use Rattle.sheet.proofs.PassedLaws.{in-grid}
@@ -20,7 +21,7 @@ use Rattle.sheet.proofs.VerdictLaws.{passed, routed}
 use Rattle.soundness.proofs.SheetLaws.{sheet-bounds, circuit-bounds}
 use Rattle.isolation.specs.Reckoning.{hopsOf, flightCycles}
 use Rattle.isolation.proofs.Routes.Way.{wayNode, wayInput, wayOutput, wayDelay, node-first, input-first, delay-first, node-next, input-next, delay-next, way-inside, header-output}
-use Rattle.isolation.proofs.Routes.Apart.{entryHops, entry-last-delay, shared-output, shared-source}
+use Rattle.isolation.proofs.Routes.Apart.{entryHops, entryVertical, entry-last-delay, shared-output, shared-source}
 use Rattle.isolation.proofs.Routes.Slotted.{slotEntry, slot-small, slot-way, slot-ends, slot-far, slots-apart}
 use Rattle.isolation.proofs.Routes.Ways.{Slot, Course, Leads, Ways}
 
@@ -34,7 +35,7 @@ courseAt z schedule cycle circuit = record {
   node = wayNode (columns z) (rows z) (sourceOf z circuit) (slotRoute z schedule cycle circuit);
   input = wayInput (columns z) (rows z) (sourceOf z circuit) (slotRoute z schedule cycle circuit);
   output = wayOutput (columns z) (rows z) (sourceOf z circuit) (slotRoute z schedule cycle circuit);
-  delay = wayDelay (columns z) (rows z) (sourceOf z circuit) (slotRoute z schedule cycle circuit);
+  delay = wayDelay (columns z) (rows z) (isLong z) (sourceOf z circuit) (slotRoute z schedule cycle circuit);
 }
 
 module _ (z : List ℕ) (g : Routed z) where
@@ -44,7 +45,16 @@ module _ (z : List ℕ) (g : Routed z) where
   unfolding slotEntry
   slot-hops schedule cycle circuit s =
       let w = slot-way z g schedule (s .schedule-inside) cycle circuit (s .begins) in
-      omega (arith, w .short, distance-least (columns z) (rows z) _ _ _ _ _ (w .leading))
+      omega (arith, w .short, distance-least (columns z) (rows z) (isLong z) _ _ _ _ _ _ (w .leading))
+
+  -- as many of them over long links
+  slot-vertical : (schedule cycle circuit : ℕ) → Slot z schedule cycle circuit
+      → entryVertical z (slotEntry z schedule cycle circuit) ≡ verticalOf z circuit
+  unfolding slotEntry verticalOf
+  slot-vertical schedule cycle circuit s =
+      let small = slot-small z g schedule (s .schedule-inside) cycle circuit (s .begins) in
+      let w = slot-way z g schedule (s .schedule-inside) cycle circuit (s .begins) in
+      vertical-is (columns z) (rows z) (isLong z) _ _ (small .source-inside) _ _ _ _ (w .leading) (w .short)
 
   -- and the output of its last router is its circuit's flight away from its source
   slot-travel : (schedule cycle circuit : ℕ) → Slot z schedule cycle circuit → (k : ℕ) → suc k ≡ routersOf z circuit
@@ -60,7 +70,8 @@ module _ (z : List ℕ) (g : Routed z) where
         same,
         ap (courseAt z schedule cycle circuit .delay) last,
         w .along .output-delay hops (omega arith),
-        last-delay-is (columns z) (rows z) _ _ _ _ _ (w .leading),
+        last-delay-is (columns z) (rows z) (isLong z) _ _ _ _ _ _ (w .leading),
+        slot-vertical schedule cycle circuit s,
       )
 
   slot-leads : (schedule cycle circuit : ℕ) → Slot z schedule cycle circuit
@@ -91,8 +102,8 @@ module _ (z : List ℕ) (g : Routed z) where
             let last : k ≡ hops = omega (arith, same) in
             ap (wayNode (columns z) (rows z) from route) last ∙ w .arrives;
         asked-output = λ word k e l. header-output (columns z) (rows z) from route word e k;
-        first-delay = delay-first (columns z) (rows z) from route;
-        next-delay = delay-next (columns z) (rows z) from route;
+        first-delay = delay-first (columns z) (rows z) from route (isLong z);
+        next-delay = delay-next (columns z) (rows z) from route (isLong z);
         last-delay = slot-travel schedule cycle circuit s;
         rule10 = λ k e.
             let last : k ≡ hops = omega (arith, same) in

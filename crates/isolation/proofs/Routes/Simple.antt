@@ -69,7 +69,7 @@ output-no-source node output = go (output =? 4)
 pub source-no-output : (from node output : ℕ) → source from ≡ outputWire node output → ⊥
 source-no-output from node output e = false≢true (sym (output-no-source node output) ∙ ap isSource (sym e))
 
-module _ {cols rows from route : ℕ} {uses : List Use} {end hops : ℕ} (w : Way cols rows from route uses end hops) where
+module _ {cols rows : ℕ} {long : Bool} {from route : ℕ} {uses : List Use} {end hops : ℕ} (w : Way cols rows long from route uses end hops) where
   abbrev node : ℕ → ℕ
   node k = wayNode cols rows from route k
 

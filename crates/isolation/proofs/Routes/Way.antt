@@ -16,7 +16,7 @@ use Rattle.packet.specs.Header.{kindOf, addressOf, routeOf, firstCode, laterCod
 use Rattle.packet.proofs.HeaderLaws.{shifted-kind, shifted-address}
 use Rattle.torus.specs.Torus.{neighbourOf, oppositeOf}
 use Rattle.torus.specs.Inner.Grid.{InGrid}
-use Rattle.torus.specs.Route.{Wire, source, side, memory, Use, Route, leads, nowhere, outputOf, ending, overSide, fromSource, follow, routeFrom, routerCycles, hopCycles, codes, noSide}
+use Rattle.torus.specs.Route.{Wire, source, side, memory, Use, Route, leads, nowhere, outputOf, ending, overSide, fromSource, follow, routeFrom, routerCycles, linkCycles, hopCycles, codes, noSide}
 use Rattle.torus.specs.Inner.Delays.{delayAt}
 use Rattle.torus.proofs.RouteLaws.{next-inside, side-small, follow-memory, follow-side}
 use Rattle.torus.proofs.NeighbourLaws.{neighbour-back, opposite-side, opposite-back}
@@ -57,9 +57,9 @@ stopAfter cols rows stop zero = stop
 stopAfter cols rows stop (suc k) = nextStop cols rows (stopAfter cols rows stop k)
 
 -- the cycles of those k hops
-unfoldable pub cyclesAfter : ℕ → ℕ → Stop → ℕ → ℕ
-cyclesAfter cols rows stop zero = 0
-cyclesAfter cols rows stop (suc k) = cyclesAfter cols rows stop k + hopCycles (stopOutput (stopAfter cols rows stop k))
+unfoldable pub cyclesAfter : ℕ → ℕ → Bool → Stop → ℕ → ℕ
+cyclesAfter cols rows long stop zero = 0
+cyclesAfter cols rows long stop (suc k) = cyclesAfter cols rows long stop k + hopCycles long (stopOutput (stopAfter cols rows stop k))
 
 -- a header word after k routers
 unfoldable pub headerAfter : ℕ → ℕ → ℕ
@@ -94,7 +94,7 @@ pub wire-side : (node output : ℕ) → output < 4 → outputWire node output �
 unfolding outputWire
 wire-side node output l = rw (no= {a = output} {b = 4} (λ e. let z : ⊥ = omega arith in z), outputWire) refl
 
-module _ (cols rows : ℕ) where
+module _ (cols rows : ℕ) (long : Bool) where
   -- the first step may be taken first
   step-first : (stop : Stop) (k : ℕ) → stopAfter cols rows (nextStop cols rows stop) k ≡ stopAfter cols rows stop (suc k)
   unfolding stopAfter
@@ -102,10 +102,10 @@ module _ (cols rows : ℕ) where
   step-first stop (suc k) = ap (nextStop cols rows) (step-first stop k)
 
   cycles-first : (stop : Stop) (k : ℕ)
-      → hopCycles (stopOutput stop) + cyclesAfter cols rows (nextStop cols rows stop) k ≡ cyclesAfter cols rows stop (suc k)
+      → hopCycles long (stopOutput stop) + cyclesAfter cols rows long (nextStop cols rows stop) k ≡ cyclesAfter cols rows long stop (suc k)
   unfolding cyclesAfter stopAfter
   cycles-first stop zero = omega arith
-  cycles-first stop (suc k) = omega (arith, cycles-first stop k, ap (λ (s : Stop). hopCycles (stopOutput s)) (step-first stop k))
+  cycles-first stop (suc k) = omega (arith, cycles-first stop k, ap (λ (s : Stop). hopCycles long (stopOutput s)) (step-first stop k))
 
   -- what holds from a router on, whose output has the given delay
   record WayLed (stop : Stop) (delay : ℕ) (uses : List Use) (end hops : ℕ) : Type 0 where
@@ -115,11 +115,11 @@ module _ (cols rows : ℕ) where
     arrives : stopAfter cols rows stop hops .node ≡ end
     wires : (k : ℕ) → k ≤ hops
         → wireAt uses k ≡ outputWire (stopAfter cols rows stop k .node) (stopOutput (stopAfter cols rows stop k))
-    delays : (k : ℕ) → k ≤ hops → delayAt uses k ≡ delay + cyclesAfter cols rows stop k
+    delays : (k : ℕ) → k ≤ hops → delayAt uses k ≡ delay + cyclesAfter cols rows long stop k
 
   -- and nothing where the route leads nowhere
   abbrev WayFollowed : Stop → ℕ → Route → Type 0
-  WayFollowed stop delay (leads uses end hops) = WayLed stop delay uses end hops
+  WayFollowed stop delay (leads uses end hops vertical) = WayLed stop delay uses end hops
   WayFollowed stop delay nowhere = Unit {0}
 
   followed-out : (stop : Stop) (delay : ℕ) → stopOutput stop ≡ memoryOutput → (b : Bool)
@@ -140,15 +140,15 @@ module _ (cols rows : ℕ) where
       wires (suc k) l = absurd (omega arith)
 
       delays : (k : ℕ) → k ≤ 0 → delayAt (record { wire = memory (stop .node); delay = delay } ∷ []) k
-          ≡ delay + cyclesAfter cols rows stop k
+          ≡ delay + cyclesAfter cols rows long stop k
       delays zero l = omega arith
       delays (suc k) l = absurd (omega arith)
   followed-out stop delay e false = tt
 
-  followed-on : (stop : Stop) (delay : ℕ) → stopOutput stop < 4 → (r : Route) → WayFollowed (nextStop cols rows stop) (delay + hopCycles (stopOutput stop)) r
-      → WayFollowed stop delay (overSide (record { wire = side (stop .node) (stopOutput stop); delay = delay }) r)
+  followed-on : (stop : Stop) (delay : ℕ) → stopOutput stop < 4 → (r : Route) → WayFollowed (nextStop cols rows stop) (delay + hopCycles long (stopOutput stop)) r
+      → WayFollowed stop delay (overSide (record { wire = side (stop .node) (stopOutput stop); delay = delay }) (linkCycles long (stopOutput stop)) r)
   unfolding stopAfter cyclesAfter wireAt delayAt
-  followed-on stop delay l (leads uses end hops) f = record {
+  followed-on stop delay l (leads uses end hops vertical) f = record {
     counted = omega (arith, f .counted);
     sides = sides;
     last-out = rw add-one (ap stopOutput (sym (step-first stop hops)) ∙ f .last-out);
@@ -167,31 +167,31 @@ module _ (cols rows : ℕ) where
       wires (suc k) h = f .wires k (omega arith) ∙ ap (λ (s : Stop). outputWire (s .node) (stopOutput s)) (step-first stop k)
 
       delays : (k : ℕ) → k ≤ hops + 1
-          → delayAt (record { wire = side (stop .node) (stopOutput stop); delay = delay } ∷ uses) k ≡ delay + cyclesAfter cols rows stop k
+          → delayAt (record { wire = side (stop .node) (stopOutput stop); delay = delay } ∷ uses) k ≡ delay + cyclesAfter cols rows long stop k
       delays zero h = omega arith
       delays (suc k) h = omega (arith, f .delays k (omega arith), cycles-first stop k)
   followed-on stop delay l nowhere f = tt
 
   abbrev followAt : ℕ → Stop → ℕ → Route
-  followAt left stop delay = follow left cols rows (stop .node) (stop .input) delay (stop .codes)
+  followAt left stop delay = follow left cols rows long (stop .node) (stop .input) delay (stop .codes)
 
   followed : (left : ℕ) (stop : Stop) (delay : ℕ) → WayFollowed stop delay (followAt left stop delay)
   unfolding follow stopOutput
   followed zero stop delay = tt
   followed (suc left) stop delay =
-      go (ℕ-discrete (stopOutput stop) memoryOutput) (followed left (nextStop cols rows stop) (delay + hopCycles (stopOutput stop)))
+      go (ℕ-discrete (stopOutput stop) memoryOutput) (followed left (nextStop cols rows stop) (delay + hopCycles long (stopOutput stop)))
     where
       go : Dec (stopOutput stop ≡ memoryOutput)
-          → WayFollowed (nextStop cols rows stop) (delay + hopCycles (stopOutput stop))
-          (followAt left (nextStop cols rows stop) (delay + hopCycles (stopOutput stop)))
+          → WayFollowed (nextStop cols rows stop) (delay + hopCycles long (stopOutput stop))
+          (followAt left (nextStop cols rows stop) (delay + hopCycles long (stopOutput stop)))
           → WayFollowed stop delay (followAt (suc left) stop delay)
       go (yes e) r =
-          subst (WayFollowed stop delay) (sym (follow-memory cols rows (stop .node) (stop .input) delay (stop .codes) left e))
+          subst (WayFollowed stop delay) (sym (follow-memory cols rows long (stop .node) (stop .input) delay (stop .codes) left e))
           (followed-out stop delay e (laterCodes (stop .codes) =? 0))
       go (no ne) r =
-          subst (WayFollowed stop delay) (sym (follow-side cols rows (stop .node) (stop .input) delay (stop .codes) left ne))
+          subst (WayFollowed stop delay) (sym (follow-side cols rows long (stop .node) (stop .input) delay (stop .codes) left ne))
           (followed-on stop delay (side-small (stop .input) (firstCode (stop .codes)) (mod-lt (stop .codes) (omega arith)) ne)
-          (followAt left (nextStop cols rows stop) (delay + hopCycles (stopOutput stop))) r)
+          (followAt left (nextStop cols rows stop) (delay + hopCycles long (stopOutput stop))) r)
 
 -- a packet at its first router, which it enters from the source
 abbrev pub startOf : ℕ → ℕ → Stop
@@ -207,17 +207,17 @@ wayInput cols rows from route k = stopAfter cols rows (startOf from route) k .in
 unfoldable pub wayOutput : ℕ → ℕ → ℕ → ℕ → ℕ → ℕ
 wayOutput cols rows from route k = stopOutput (stopAfter cols rows (startOf from route) k)
 
-unfoldable pub wayDelay : ℕ → ℕ → ℕ → ℕ → ℕ → ℕ
-wayDelay cols rows from route k = cyclesAfter cols rows (startOf from route) k
+unfoldable pub wayDelay : ℕ → ℕ → Bool → ℕ → ℕ → ℕ → ℕ
+wayDelay cols rows long from route k = cyclesAfter cols rows long (startOf from route) k
 
 -- the uses of a route along its way, and where it ends
-pub record Way (cols rows from route : ℕ) (uses : List Use) (end hops : ℕ) : Type 0 where
+pub record Way (cols rows : ℕ) (long : Bool) (from route : ℕ) (uses : List Use) (end hops : ℕ) : Type 0 where
   pub counted : length uses ≡ hops + 2
   pub source-wire : wireAt uses 0 ≡ source from
   pub source-delay : delayAt uses 0 ≡ 0
   pub output-wire : (k : ℕ) → k ≤ hops
       → wireAt uses (suc k) ≡ outputWire (wayNode cols rows from route k) (wayOutput cols rows from route k)
-  pub output-delay : (k : ℕ) → k ≤ hops → delayAt uses (suc k) ≡ wayDelay cols rows from route k + routerCycles
+  pub output-delay : (k : ℕ) → k ≤ hops → delayAt uses (suc k) ≡ wayDelay cols rows long from route k + routerCycles
   pub side-output : (k : ℕ) → k < hops → wayOutput cols rows from route k < 4
   pub memory-output : wayOutput cols rows from route hops ≡ memoryOutput
   pub arrives : wayNode cols rows from route hops ≡ end
@@ -243,13 +243,14 @@ module _ (cols rows from route : ℕ) where
   input-next k = refl
 
   -- the delay is the sum of the hops' cycles
-  pub delay-first : wayDelay cols rows from route 0 ≡ 0
+  pub delay-first : (long : Bool) → wayDelay cols rows long from route 0 ≡ 0
   unfolding wayDelay cyclesAfter
-  delay-first = refl
+  delay-first long = refl
 
-  pub delay-next : (k : ℕ) → wayDelay cols rows from route (suc k) ≡ wayDelay cols rows from route k + hopCycles (wayOutput cols rows from route k)
+  pub delay-next : (long : Bool) (k : ℕ)
+      → wayDelay cols rows long from route (suc k) ≡ wayDelay cols rows long from route k + hopCycles long (wayOutput cols rows from route k)
   unfolding wayDelay wayOutput cyclesAfter
-  delay-next k = refl
+  delay-next long k = refl
 
   -- over nodes of the grid
   pub way-inside : InGrid cols rows from → (k : ℕ) → InGrid cols rows (wayNode cols rows from route k)
@@ -274,14 +275,14 @@ module _ (cols rows from route : ℕ) where
       (header-codes word e k)
 
   -- where a route leads, that is its way
-  abbrev LeadingWay : Route → Type 0
-  LeadingWay (leads uses end hops) = Way cols rows from route uses end hops
-  LeadingWay nowhere = Unit {0}
+  abbrev LeadingWay : Bool → Route → Type 0
+  LeadingWay long (leads uses end hops vertical) = Way cols rows long from route uses end hops
+  LeadingWay long nowhere = Unit {0}
 
-  leading : (r : Route) → WayFollowed cols rows (startOf from route) routerCycles r
-      → LeadingWay (fromSource (record { wire = source from; delay = 0 }) r)
+  leading : (long : Bool) (r : Route) → WayFollowed cols rows long (startOf from route) routerCycles r
+      → LeadingWay long (fromSource (record { wire = source from; delay = 0 }) r)
   unfolding wayNode wayOutput wayDelay wireAt delayAt
-  leading (leads uses end hops) f = record {
+  leading long (leads uses end hops vertical) f = record {
     counted = omega (arith, f .counted);
     source-wire = refl;
     source-delay = refl;
@@ -291,17 +292,18 @@ module _ (cols rows from route : ℕ) where
     memory-output = f .last-out;
     arrives = f .arrives;
   }
-  leading nowhere f = tt
+  leading long nowhere f = tt
 
   -- a route that leads somewhere leads along its way
-  pub way : (uses : List Use) (end hops : ℕ) → routeFrom cols rows from route ≡ leads uses end hops
-      → Way cols rows from route uses end hops
+  pub way : (long : Bool) (uses : List Use) (end hops vertical : ℕ) → routeFrom cols rows long from route ≡ leads uses end hops vertical
+      → Way cols rows long from route uses end hops
   unfolding routeFrom
-  way uses end hops e =
-      subst LeadingWay e
-      (leading (follow codes cols rows from noSide routerCycles route) (followed cols rows codes (startOf from route) routerCycles))
+  way long uses end hops vertical e =
+      subst (LeadingWay long) e
+      (leading long (follow codes cols rows long from noSide routerCycles route)
+      (followed cols rows long codes (startOf from route) routerCycles))
 
-module _ {cols rows from route : ℕ} {uses : List Use} {end hops : ℕ} (w : Way cols rows from route uses end hops) where
+module _ {cols rows : ℕ} {long : Bool} {from route : ℕ} {uses : List Use} {end hops : ℕ} (w : Way cols rows long from route uses end hops) where
   -- a side output for each hop
   pub side-wire : (k : ℕ) → k < hops
       → wireAt uses (suc k) ≡ side (wayNode cols rows from route k) (wayOutput cols rows from route k)

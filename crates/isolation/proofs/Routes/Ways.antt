@@ -6,7 +6,7 @@ use mathlib.Core.Path.{_≡_}
 use Rattle.packet.specs.Header.{routeOf, routes}
 use Rattle.torus.specs.Torus.{neighbourOf, oppositeOf}
 use Rattle.torus.specs.Route.{routerCycles, hopCycles}
-use Rattle.sheet.specs.Sheet.{columns, rows, schedules, nodes, period}
+use Rattle.sheet.specs.Sheet.{columns, rows, isLong, schedules, nodes, period}
 use Rattle.sheet.specs.Slots.{slotLength, slotRoute, sourceOf, destinationOf}
 use Rattle.network.specs.View.{sourceInput, memoryOutput}
 use Rattle.network.specs.Cycle.{outputFor}
@@ -40,7 +40,7 @@ pub record Leads (z : List ℕ) (schedule cycle circuit routers travel : ℕ) (w
   pub asked-output : (word k : ℕ) → routeOf word ≡ slotRoute z schedule cycle circuit → k < routers
       → outputFor (way .input k) (headerAfter k word) ≡ way .output k
   pub first-delay : way .delay 0 ≡ 0
-  pub next-delay : (k : ℕ) → way .delay (suc k) ≡ way .delay k + hopCycles (way .output k)
+  pub next-delay : (k : ℕ) → way .delay (suc k) ≡ way .delay k + hopCycles (isLong z) (way .output k)
   pub last-delay : (k : ℕ) → suc k ≡ routers → way .delay k + routerCycles ≡ travel
   pub rule10 : (k : ℕ) → suc k ≡ routers
       → cycle + slotLength z schedule cycle circuit + way .delay k ≤ period z schedule + routerCycles

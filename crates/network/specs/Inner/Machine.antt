@@ -11,12 +11,12 @@ use Rattle.torus.specs.Torus.{neighbourOf, oppositeOf}
 use Rattle.sheet.specs.Sheet.{columns, rows, circuits, nodes, period}
 use Rattle.sheet.specs.Slots.{slotLength, slotRoute, sourceOf}
 use Rattle.network.specs.View.{Sender, sourceInput, memoryOutput}
-use Rattle.network.specs.Cycle.{outputFor, Move, rests, opens, sends, move, stepSender, nextNumber}
+use Rattle.network.specs.Cycle.{outputFor, hasExtra, Move, rests, opens, sends, move, stepSender, nextNumber}
 use Rattle.network.specs.Seen.{seenSender}
 use Rattle.network.specs.Registers.{at, reg, sheetIn, room, movingWords, rowWords, clockRow, clockWords, cyclePlace, numberPlace, inForcePlace}
 use Rattle.network.specs.Registers.{orderMarkPlace, orderSchedulePlace, orderPeriodPlace, linkMark, linkWord, headMark, headWord, choiceRow}
 use Rattle.network.specs.Registers.{latchRow, outMark, outWord, receiveMark, receiveKind, receiveAddress, landingMark, landingKind}
-use Rattle.network.specs.Registers.{landingAddress, landingWord, leftRow, readRow, writeRow, kindRow, toGoRow}
+use Rattle.network.specs.Registers.{landingAddress, landingWord, leftRow, readRow, writeRow, kindRow, toGoRow, extraMark, extraWord}
 
 -- the first mark of so many that is not empty, and the word beside it; both 0 where all are empty
 unfoldable pub firstMark : ℕ → (ℕ → ℕ) → ℕ
@@ -68,15 +68,22 @@ sourceMark s node = firstMark (circuits (sheetIn s)) (ownMark s node)
 unfoldable pub sourceWord : List ℕ → List ℕ → ℕ → ℕ
 sourceWord s m node = firstWord (circuits (sheetIn s)) (ownMark s node) (sentWord s m)
 
--- the link registers: the source wire, or the output of the neighbour
+-- the rows of what comes out of an output's link: the extra register, or the output where there is none
+abbrev pub endMark : List ℕ → ℕ → ℕ
+endMark s output = pick (hasExtra (sheetIn s) output) extraMark outMark
+
+abbrev pub endWord : List ℕ → ℕ → ℕ
+endWord s output = pick (hasExtra (sheetIn s) output) extraWord outWord
+
+-- the link registers: the source wire, or what comes out of the neighbour's link
 abbrev pub neighbourPlace : List ℕ → ℕ → ℕ → ℕ
 neighbourPlace s node input = at (neighbourOf (columns (sheetIn s)) (rows (sheetIn s)) node input) (oppositeOf input)
 
 unfoldable pub nextLinkMark : List ℕ → ℕ → ℕ → ℕ
-nextLinkMark s node input = pick (input =? sourceInput) (sourceMark s node) (reg s outMark (neighbourPlace s node input))
+nextLinkMark s node input = pick (input =? sourceInput) (sourceMark s node) (reg s (endMark s (oppositeOf input)) (neighbourPlace s node input))
 
 unfoldable pub nextLinkWord : List ℕ → List ℕ → ℕ → ℕ → ℕ
-nextLinkWord s m node input = pick (input =? sourceInput) (sourceWord s m node) (reg s outWord (neighbourPlace s node input))
+nextLinkWord s m node input = pick (input =? sourceInput) (sourceWord s m node) (reg s (endWord s (oppositeOf input)) (neighbourPlace s node input))
 
 -- the header stage, from the mark and word in the link register and the latch
 unfoldable pub nextHeadWord : ℕ → ℕ → ℕ
@@ -97,6 +104,13 @@ nextOutMark s node output = firstMark 5 (askedMark s node output)
 
 unfoldable pub nextOutWord : List ℕ → ℕ → ℕ → ℕ
 nextOutWord s node output = firstWord 5 (askedMark s node output) (λ input. reg s headWord (at node input))
+
+-- the extra registers, from the output at the same place; a place without one keeps its word
+unfoldable pub nextExtraMark : List ℕ → ℕ → ℕ
+nextExtraMark s k = pick (hasExtra (sheetIn s) (k % 5)) (reg s outMark k) (reg s extraMark k)
+
+unfoldable pub nextExtraWord : List ℕ → ℕ → ℕ
+nextExtraWord s k = pick (hasExtra (sheetIn s) (k % 5)) (reg s outWord k) (reg s extraWord k)
 
 -- the receive unit, by what is on the memory output
 abbrev pub memoryMark : List ℕ → ℕ → ℕ
@@ -183,6 +197,8 @@ nextRows s m =
     ∷ registerRow writeRow (oneACircuit s) (λ k. nextSender s k .writeAddress)
     ∷ registerRow kindRow (oneACircuit s) (λ k. nextSender s k .kind)
     ∷ registerRow toGoRow (oneACircuit s) (λ k. nextSender s k .toGo)
+    ∷ registerRow extraMark (fiveANode s) (λ k. nextExtraMark s k)
+    ∷ registerRow extraWord (fiveANode s) (λ k. nextExtraWord s k)
     ∷ []
 
 -- the row of a number; one that is not listed has no registers

@@ -5,9 +5,10 @@ use mathlib.Core.List.{List, _++_}
 use lib.ListN.{drop}
 use Rattle.words.specs.Tests.{_and_, _≤?_, _<?_, _=?_}
 use Rattle.words.specs.Words.{word, pick, tab}
-use Rattle.network.specs.Registers.{reg, rowWords, movingWords, outMark, outWord, linkMark}
+use Rattle.torus.specs.Torus.{oppositeOf}
+use Rattle.network.specs.Registers.{reg, rowWords, movingWords, outMark, linkMark}
 use Rattle.network.specs.View.{sourceInput}
-use Rattle.network.specs.Inner.Machine.{neighbourPlace}
+use Rattle.network.specs.Inner.Machine.{endMark, endWord, neighbourPlace}
 
 -- words whose register k of each row is f row k; what lies behind the rows stays
 unfoldable pub restate : (ℕ → ℕ → ℕ) → List ℕ → List ℕ
@@ -22,7 +23,8 @@ unfoldable pub linkFrom : List ℕ → List ℕ → List ℕ → ℕ → ℕ →
 linkFrom marks words s row k =
     pick (k % 5 =? sourceInput)
     (pick (row =? linkMark) (word marks (k / 5)) (word words (k / 5)))
-    (pick (row =? linkMark) (reg s outMark (neighbourPlace s (k / 5) (k % 5))) (reg s outWord (neighbourPlace s (k / 5) (k % 5))))
+    (pick (row =? linkMark) (reg s (endMark s (oppositeOf (k % 5))) (neighbourPlace s (k / 5) (k % 5)))
+    (reg s (endWord s (oppositeOf (k % 5))) (neighbourPlace s (k / 5) (k % 5))))
 
 -- the out registers, given what goes on each output
 unfoldable pub outFrom : List ℕ → List ℕ → ℕ → ℕ → ℕ

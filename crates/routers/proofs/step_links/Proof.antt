@@ -1,6 +1,6 @@
 -- `routers::step_links` meets its contract: each turn writes the five inputs of one node; the out registers, which it reads, are never written.
 -- Assumes nothing.
-use Rattle.routers.proofs.LinkLaws.{Linking, linking-start, linking-grid, linking-more, linking-done}
+use Rattle.routers.proofs.LinkLaws.{Linking, linking-start, linking-row, linking-grid, linking-more, linking-done}
 use native.Mathlib.Omega.{arith}
 use Prim.Native.Nat.{_-_}
 use Rattle.sheet.specs.Inner.Passed.{Headed}
@@ -9,10 +9,10 @@ use Rattle.routers.proofs.step_links.Statement.{statement}
 use Rattle.routers.proofs.step_links.Tie as tie
 
 abbrev Inv-loop : tie.InvT-loop
-Inv-loop s₀ marks cells cols rows nodes node₀ s node = Linking s₀ marks cells cols rows nodes node s
+Inv-loop s₀ marks cells cols rows nodes vertical node₀ s node = Linking s₀ marks cells cols rows nodes vertical node s
 
 abbrev μ-loop : tie.MeasureT-loop
-μ-loop s₀ marks cells cols rows nodes node₀ s node = nodes - node
+μ-loop s₀ marks cells cols rows nodes vertical node₀ s node = nodes - node
 
 sheet-of-requires : tie.Need-sheet-of-requires Inv-loop μ-loop
 sheet-of-requires c κs = tt
@@ -26,6 +26,9 @@ rows-of-requires c κs = tt
 nodes-of-requires : tie.Need-nodes-of-requires Inv-loop μ-loop
 nodes-of-requires c κs = subst Headed (sym (c .before .before .sheet-of .ensures)) (c .before .before .before .before .before .before .before .pre .0)
 
+vertical-row-requires : tie.Need-vertical-row-requires Inv-loop μ-loop
+vertical-row-requires c κs = tt
+
 same-length : tie.Need-same-length Inv-loop μ-loop
 same-length c = refl
 
@@ -34,23 +37,33 @@ returns c = absurd (omega arith)
 
 loop-holds : tie.Need-loop-holds Inv-loop μ-loop
 loop-holds c =
-    let pre = c .before .before .before .before .before .before .before .before .before .pre in
-    linking-start _ _ (c .before .before .before .before .sheet-of .ensures) _ _ _ (c .before .before .before .columns-of .ensures)
-    (c .before .before .rows-of .ensures) (c .before .nodes-of .ensures) (pre .0) _ _ (pre .1)
+    let at-vertical-row = c .before in
+    let at-nodes-of = at-vertical-row .before in
+    let at-rows-of = at-nodes-of .before in
+    let at-columns-of = at-rows-of .before in
+    let at-sheet-of = at-columns-of .before in
+    let pre = at-sheet-of .before .before .before .before .before .pre in
+    linking-start _ _ (at-sheet-of .sheet-of .ensures) _ _ _ (at-columns-of .columns-of .ensures) (at-rows-of .rows-of .ensures)
+    (at-nodes-of .nodes-of .ensures) _ (at-vertical-row .vertical-row .ensures) (pre .0) _ _ (pre .1)
 
 step-side-requires : tie.Need-step-side-requires Inv-loop μ-loop
-step-side-requires c κs = (linking-grid _ _ _ _ _ _ _ _ (c .before .before .loop .inv) (omega arith), omega arith)
+step-side-requires c κs =
+    let at-loop = c .before .before in
+    (linking-grid _ _ _ _ _ _ _ _ _ (at-loop .loop .inv) (omega arith), omega arith, linking-row _ _ _ _ _ _ _ _ _ (at-loop .loop .inv))
 
 step-side-requires-2 : tie.Need-step-side-requires-2 Inv-loop μ-loop
-step-side-requires-2 c κs = (linking-grid _ _ _ _ _ _ _ _ (c .before .before .before .before .before .before .loop .inv) (omega arith), omega arith)
+step-side-requires-2 c κs =
+    (linking-grid _ _ _ _ _ _ _ _ _ (c .before .before .before .before .before .before .loop .inv) (omega arith), omega arith, omega arith)
 
 step-side-requires-3 : tie.Need-step-side-requires-3 Inv-loop μ-loop
-step-side-requires-3 c κs = (linking-grid _ _ _ _ _ _ _ _ (c .before .before .before .before .before .before .before .before .before .before .loop .inv) (omega arith), omega arith)
+step-side-requires-3 c κs =
+    let at-loop = c .before .before .before .before .before .before .before .before .before .before in
+    (linking-grid _ _ _ _ _ _ _ _ _ (at-loop .loop .inv) (omega arith), omega arith, linking-row _ _ _ _ _ _ _ _ _ (at-loop .loop .inv))
 
 step-side-requires-4 : tie.Need-step-side-requires-4 Inv-loop μ-loop
 step-side-requires-4 c κs =
     let at-loop = c .before .before .before .before .before .before .before .before .before .before .before .before .before .before in
-    (linking-grid _ _ _ _ _ _ _ _ (at-loop .loop .inv) (omega arith), omega arith)
+    (linking-grid _ _ _ _ _ _ _ _ _ (at-loop .loop .inv) (omega arith), omega arith, omega arith)
 
 cast-get : tie.Need-cast-get Inv-loop μ-loop
 cast-get c = omega arith
@@ -105,7 +118,7 @@ loop-again c =
     let at-step-side = at-step-side2 .before .before .before .before in
     let at-loop-test = at-step-side .before .before in
     let at-loop = at-loop-test .before in
-    linking-more _ _ _ _ _ _ _ _ (at-loop .loop .inv) (at-loop-test .loop-test .taken) _ _ _ _ _ (at-step-side .step-side .ensures)
+    linking-more _ _ _ _ _ _ _ _ _ (at-loop .loop .inv) (at-loop-test .loop-test .taken) _ _ _ _ _ (at-step-side .step-side .ensures)
     (at-step-side2 .step-side2 .ensures) (at-step-side3 .step-side3 .ensures) (at-step-side4 .step-side4 .ensures) _ _
     (at-get .get .ensures) (at-get2 .get2 .ensures) (at-put-link .put-link .ensures)
 
@@ -113,7 +126,7 @@ same-length-2 : tie.Need-same-length-2 Inv-loop μ-loop
 same-length-2 c = c .before .loop .inv .so-far .same-length
 
 returns-2 : tie.Need-returns-2 Inv-loop μ-loop
-returns-2 c = linking-done _ _ _ _ _ _ _ _ (c .before .loop .inv) (omega arith)
+returns-2 c = linking-done _ _ _ _ _ _ _ _ _ (c .before .loop .inv) (omega arith)
 
 pub step-links-spec : {M : Type 1} → statement M
 step-links-spec =
@@ -125,6 +138,7 @@ step-links-spec =
     columns-of-requires
     rows-of-requires
     nodes-of-requires
+    vertical-row-requires
     same-length
     returns
     loop-holds

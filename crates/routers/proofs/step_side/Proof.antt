@@ -22,6 +22,9 @@ add-from-2 c = let b = bounds (c .before .before .pre .0) in omega (arith, neigh
 reg-requires : tie.Need-reg-requires
 reg-requires c κs = search needs
 
+add-reg : tie.Need-add-reg
+add-reg c = search needs
+
 reg-requires-2 : tie.Need-reg-requires-2
 reg-requires-2 c κs = search needs
 
@@ -44,7 +47,7 @@ returns c =
     let at-reg = at-reg2 .before .before in
     let at-neighbour = at-reg .before .before in
     let entry = at-neighbour .before .before in
-    side-is _ _ _ _ (entry .pre .0) _ _ _ _ _ _ (at-neighbour .neighbour .ensures) (at-reg .reg .ensures) (at-reg2 .reg2 .ensures)
+    side-is _ _ _ _ (entry .pre .0) _ _ _ _ _ _ _ (at-neighbour .neighbour .ensures) (at-reg .reg .ensures) (at-reg2 .reg2 .ensures)
     (omega arith) (at-put-link .put-link .ensures)
 
 pub step-side-spec : {M : Type 1} → statement M
@@ -56,6 +59,7 @@ step-side-spec =
     add-from
     add-from-2
     reg-requires
+    add-reg
     reg-requires-2
     mul-put-link
     add-put-link

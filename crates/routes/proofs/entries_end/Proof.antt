@@ -13,10 +13,10 @@ use Rattle.routes.proofs.entries_end.Statement.{statement}
 use Rattle.routes.proofs.entries_end.Tie as tie
 
 abbrev Inv-loop : tie.InvT-loop
-Inv-loop z distances j period entries count i₀ i = (i ≤ count) × (all i (λ k. entryEnds z period (entryAt entries k)) ≡ true)
+Inv-loop z spans j period entries count i₀ i = (i ≤ count) × (all i (λ k. entryEnds z period (entryAt entries k)) ≡ true)
 
 abbrev μ-loop : tie.MeasureT-loop
-μ-loop z distances j period entries count i₀ i = count - i
+μ-loop z spans j period entries count i₀ i = count - i
 
 schedule-period-requires : tie.Need-schedule-period-requires Inv-loop μ-loop
 schedule-period-requires c κs = (c .before .before .pre .0 .ranged .framed, c .before .before .pre .1)

@@ -13,10 +13,10 @@ use Rattle.routes.proofs.entries_lead.Statement.{statement}
 use Rattle.routes.proofs.entries_lead.Tie as tie
 
 abbrev Inv-loop : tie.InvT-loop
-Inv-loop z distances j entries count i₀ i = (i ≤ count) × (all i (λ k. entryLeads z (entryAt entries k)) ≡ true)
+Inv-loop z spans j entries count i₀ i = (i ≤ count) × (all i (λ k. entryLeads z (entryAt entries k)) ≡ true)
 
 abbrev μ-loop : tie.MeasureT-loop
-μ-loop z distances j entries count i₀ i = count - i
+μ-loop z spans j entries count i₀ i = count - i
 
 entries-of-requires : tie.Need-entries-of-requires Inv-loop μ-loop
 entries-of-requires c κs = (c .before .before .pre .0 .framed, c .before .before .pre .1)

@@ -1,8 +1,8 @@
--- `routes::entry_ends` meets its contract: Number 10 at one entry: a route that leads to the destination has as many hops as the distance.
+-- `routes::entry_ends` meets its contract: Number 10 at one entry: the hops of a route that leads to the destination take its circuit's span.
 -- Assumes nothing.
 use native.Mathlib.Omega.{arith}
 use Rattle.words.specs.Tests.{_≤?_}
-use Rattle.routes.proofs.RouteRules.{distance-read, hops-are, ending}
+use Rattle.routes.proofs.RouteRules.{span-read, span-few, ending}
 use borrow.Author.Needs.{needs}
 use Rattle.routes.proofs.entry_ends.Statement.{statement}
 use Rattle.routes.proofs.entry_ends.Tie as tie
@@ -19,22 +19,13 @@ add-result c = search needs
 sub-result : tie.Need-sub-result
 sub-result c = search needs
 
-mul-result : tie.Need-mul-result
-mul-result c =
-    let entry = c .before .before .before .before .before in
-    omega (
-      arith,
-      hops-are _ _ (entry .pre .0 .joined) (entry .pre .1) _
-          (distance-read _ _ (entry .pre .0 .joined) _ (entry .pre .2) _ (c .before .get .ensures)) .1,
-    )
-
 add-result-2 : tie.Need-add-result-2
 add-result-2 c =
-    let entry = c .before .before .before .before .before in
+    let at-get = c .before in
+    let entry = at-get .before .before .before .before in
     omega (
       arith,
-      hops-are _ _ (entry .pre .0 .joined) (entry .pre .1) _
-          (distance-read _ _ (entry .pre .0 .joined) _ (entry .pre .2) _ (c .before .get .ensures)) .1,
+      span-few _ _ (entry .pre .0 .joined) _ (span-read _ _ (entry .pre .0 .joined) _ (entry .pre .2) _ (at-get .get .ensures)),
     )
 
 add-result-3 : tie.Need-add-result-3
@@ -43,19 +34,11 @@ add-result-3 c = search needs
 returns : tie.Need-returns
 unfolding _≤?_
 returns c =
-    let entry = c .before .before .before .before .before in
-    ending _ _ (entry .pre .0 .joined) (entry .pre .1) _
-    (distance-read _ _ (entry .pre .0 .joined) _ (entry .pre .2) _ (c .before .get .ensures)) _
+    let at-get = c .before in
+    let entry = at-get .before .before .before .before in
+    ending _ _ (entry .pre .0 .joined) _ (span-read _ _ (entry .pre .0 .joined) _ (entry .pre .2) _ (at-get .get .ensures)) (entry .pre .1) (entry .args .period)
 
 pub entry-ends-spec : {M : Type 1} → statement M
 entry-ends-spec =
     tie.close
-    (tie.spec
-    cast-get
-    get-requires
-    add-result
-    sub-result
-    mul-result
-    add-result-2
-    add-result-3
-    returns)
+    (tie.spec cast-get get-requires add-result sub-result add-result-2 add-result-3 returns)

@@ -13,10 +13,10 @@ use Rattle.routes.proofs.keeps_rule10.Statement.{statement}
 use Rattle.routes.proofs.keeps_rule10.Tie as tie
 
 abbrev Inv-loop : tie.InvT-loop
-Inv-loop z distances count j₀ j = (j ≤ count) × (all j (λ k. eachEntry z k (entryEnds z (period z k))) ≡ true)
+Inv-loop z spans count j₀ j = (j ≤ count) × (all j (λ k. eachEntry z k (entryEnds z (period z k))) ≡ true)
 
 abbrev μ-loop : tie.MeasureT-loop
-μ-loop z distances count j₀ j = count - j
+μ-loop z spans count j₀ j = count - j
 
 schedules-of-requires : tie.Need-schedules-of-requires Inv-loop μ-loop
 schedules-of-requires c κs = search needs

@@ -1,14 +1,15 @@
 -- What the rules 4 and 7 settle of an entry that the rules 9 and 10 ask: its circuit joins two nodes of the grid.
-use Prim.Native.Nat.{ℕ, _<_, _≤_}
+use Prim.Native.Nat.{ℕ, _+_, _*_, _<_, _≤_}
 use mathlib.Core.List.{List}
 use mathlib.Core.Bool.{true}
 use mathlib.Core.Path.{_≡_}
 use Rattle.words.specs.Tests.{_<?_}
 use Rattle.words.specs.Words.{pick, tab}
+use Rattle.torus.specs.Route.{routerCycles}
 use Rattle.torus.specs.Inner.Grid.{InGrid}
 use Rattle.sheet.specs.declared.entries.Entry.{Entry}
 use Rattle.sheet.specs.Sheet.{columns, rows, circuits, circuitAt}
-use Rattle.sheet.specs.Flight.{hopsOf}
+use Rattle.sheet.specs.Flight.{hopsOf, verticalOf}
 use Rattle.sheet.specs.Rules.{rule9}
 use Rattle.sheet.specs.Inner.Passed.{Ranged}
 
@@ -31,6 +32,10 @@ pub record Leading (z : List ℕ) : Type 0 where
   pub ranged : Ranged z
   pub routes-lead : rule9 z ≡ true
 
--- the distances of all circuits, 0 for the numbers that no circuit has
-unfoldable pub circuitDistances : List ℕ → List ℕ
-circuitDistances z = tab 64 (λ k. pick (k <? circuits z) (hopsOf z k) 0)
+-- the cycles of the hops between a circuit's nodes, which are a router's cycles fewer than its flight
+unfoldable pub circuitSpan : List ℕ → ℕ → ℕ
+circuitSpan z k = routerCycles * hopsOf z k + verticalOf z k
+
+-- the spans of all circuits, 0 for the numbers that no circuit has
+unfoldable pub circuitSpans : List ℕ → List ℕ
+circuitSpans z = tab 64 (λ k. pick (k <? circuits z) (circuitSpan z k) 0)

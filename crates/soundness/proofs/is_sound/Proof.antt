@@ -1,9 +1,8 @@
 -- `soundness::is_sound` meets its contract: the sheet's length and verdict, then clause by clause.
 -- Assumes nothing.
 use mathlib.Core.Path.{refl, sym, _∙_}
-use Rattle.words.proofs.TestLaws.{and-no, and-on}
 use Rattle.sheet.proofs.VerdictLaws.{routed}
-use Rattle.soundness.proofs.SoundnessLaws.{long-sheet, sound-long, sound-refused, sound-rest}
+use Rattle.soundness.proofs.SoundnessLaws.{long-sheet, sound-long, sound-refused, sound-unclocked, sound-unordered, sound-rest}
 use borrow.Author.Needs.{needs}
 use Rattle.soundness.proofs.is_sound.Statement.{statement}
 use Rattle.soundness.proofs.is_sound.Tie as tie
@@ -52,9 +51,8 @@ returns-3 c =
     let at-if1 = at-sheet-of .before in
     let at-get = at-if1 .before in
     sound-rest _ _ (at-sheet-of .sheet-of .ensures) _ (long-sheet _ _ (at-get .get .ensures)) (at-if1 .if1 .left) _
-    (at-rules-number .rules-number .ensures) (at-if2 .if2 .left)
-    (and-on (sym (at-clock-sound .clock-sound .ensures) ∙ at-if3 .if3 .taken)
-    (and-on (sym (at-order-sound .order-sound .ensures) ∙ c .before .if4 .taken) (c .parts-sound .ensures)))
+    (at-rules-number .rules-number .ensures) (at-if2 .if2 .left) (at-clock-sound .clock-sound .ensures) (at-if3 .if3 .taken)
+    (at-order-sound .order-sound .ensures) (c .before .if4 .taken) (c .parts-sound .ensures)
 
 returns-4 : tie.Need-returns-4
 returns-4 c =
@@ -65,10 +63,9 @@ returns-4 c =
     let at-sheet-of = at-rules-number .before in
     let at-if1 = at-sheet-of .before in
     let at-get = at-if1 .before in
-    sound-rest _ _ (at-sheet-of .sheet-of .ensures) _ (long-sheet _ _ (at-get .get .ensures)) (at-if1 .if1 .left) _
-    (at-rules-number .rules-number .ensures) (at-if2 .if2 .left)
-    (and-on (sym (at-clock-sound .clock-sound .ensures) ∙ at-if3 .if3 .taken)
-    (and-no _ (sym (c .before .order-sound .ensures) ∙ c .if4 .left)))
+    sound-unordered _ _ (at-sheet-of .sheet-of .ensures) _ (long-sheet _ _ (at-get .get .ensures)) (at-if1 .if1 .left) _
+    (at-rules-number .rules-number .ensures) (at-if2 .if2 .left) (at-clock-sound .clock-sound .ensures) (at-if3 .if3 .taken)
+    (c .before .order-sound .ensures) (c .if4 .left)
 
 returns-5 : tie.Need-returns-5
 returns-5 c =
@@ -77,8 +74,8 @@ returns-5 c =
     let at-sheet-of = at-rules-number .before in
     let at-if1 = at-sheet-of .before in
     let at-get = at-if1 .before in
-    sound-rest _ _ (at-sheet-of .sheet-of .ensures) _ (long-sheet _ _ (at-get .get .ensures)) (at-if1 .if1 .left) _
-    (at-rules-number .rules-number .ensures) (at-if2 .if2 .left) (and-no _ (sym (c .before .clock-sound .ensures) ∙ c .if3 .left))
+    sound-unclocked _ _ (at-sheet-of .sheet-of .ensures) _ (long-sheet _ _ (at-get .get .ensures)) (at-if1 .if1 .left) _
+    (at-rules-number .rules-number .ensures) (at-if2 .if2 .left) (c .before .clock-sound .ensures) (c .if3 .left)
 
 pub is-sound-spec : {M : Type 1} → statement M
 is-sound-spec =

@@ -11,5 +11,5 @@ delayAt (u ∷ uses) (suc k) = delayAt uses k
 
 -- the delay of a route's last use, which is its memory output
 abbrev pub lastDelay : Route → ℕ
-lastDelay (leads uses node hops) = delayAt uses (suc hops)
+lastDelay (leads uses node hops vertical) = delayAt uses (suc hops)
 lastDelay nowhere = 0

@@ -22,11 +22,12 @@ mostUses = 9
 
 -- the answer, from where a route leads: a route of h hops uses the first h + 2 places of its two lists, and the others are 0
 abbrev pub pathOf : Route → Path
-pathOf (leads uses node hops) = record {
+pathOf (leads uses node hops vertical) = record {
   leads = true;
   node = node;
   hops = hops;
+  vertical = vertical;
   wires = putAll (replicate mostUses 0) 0 (map (λ (u : Use). wireNumber (u .wire)) uses);
   delays = putAll (replicate mostUses 0) 0 (map (λ (u : Use). u .delay) uses);
 }
-pathOf nowhere = record { leads = false; node = 0; hops = 0; wires = replicate mostUses 0; delays = replicate mostUses 0 }
+pathOf nowhere = record { leads = false; node = 0; hops = 0; vertical = 0; wires = replicate mostUses 0; delays = replicate mostUses 0 }

@@ -4,14 +4,15 @@
 use Prim.Native.Nat.{ℕ, _*_}
 use mathlib.Core.List.{List}
 use mathlib.Core.Path.{sym, _∙_, ap}
-use Rattle.sheet.specs.Sheet.{nodes, memoryWords, rows}
+use Rattle.words.specs.Tests.{_≤?_}
+use Rattle.sheet.specs.Sheet.{nodes, memoryWords, rows, isLong}
 use Rattle.sheet.proofs.VerdictLaws.{passed-framed}
 use Rattle.sheet.proofs.MeantLaws.{meant-none, meant-some, number-some}
 use Rattle.landings.proofs.input.memory_size.Statement.{statement}
 use Rattle.landings.proofs.input.memory_size.Tie as tie
 
 returns : tie.Need-returns
-unfolding rows
+unfolding rows isLong _≤?_
 returns c = sym (ap (λ (z : List ℕ). nodes z * memoryWords z) (meant-none _ (c .if1 .taken)))
 
 whole-memory-of-requires : tie.Need-whole-memory-of-requires

@@ -2,14 +2,15 @@
 -- Assumes nothing.
 use mathlib.Core.Path.{sym, _∙_, ap}
 use native.Mathlib.Omega.{arith}
-use Rattle.sheet.specs.Sheet.{nodes, rows}
+use Rattle.words.specs.Tests.{_≤?_}
+use Rattle.sheet.specs.Sheet.{nodes, rows, isLong}
 use Rattle.sheet.proofs.VerdictLaws.{passed-framed}
 use Rattle.sheet.proofs.MeantLaws.{meant-none, meant-some, number-some}
 use Rattle.landings.proofs.input.nodes_of.Statement.{statement}
 use Rattle.landings.proofs.input.nodes_of.Tie as tie
 
 returns : tie.Need-returns
-unfolding rows
+unfolding rows isLong _≤?_
 returns c = (sym (ap nodes (meant-none _ (c .if1 .taken))), omega arith)
 
 nodes-of-requires : tie.Need-nodes-of-requires

@@ -1,19 +1,20 @@
--- `torus::follow_route` meets its contract: what is written so far, with what the rest of the route leads to, is always the answer.
+-- `torus::follow_short` meets its contract: what is written so far, with what the rest of the route leads to, is always the answer.
 -- The measure is how many routers are left. Assumes nothing.
-use mathlib.Core.Path.{_∙_}
+use mathlib.Core.Bool.{false}
+use mathlib.Core.Path.{refl, _∙_}
 use Prim.Native.Nat.{_-_}
 use native.Mathlib.Nat.{mod-lt}
 use native.Mathlib.Omega.{arith}
 use Rattle.torus.specs.Route.{routeFrom}
 use Rattle.torus.specs.Inner.Paths.{pathOf}
 use Rattle.torus.proofs.NeighbourLaws.{bounds}
-use Rattle.torus.proofs.RouteLaws.{Going, going-start, going-out, going-lost, going-on, going-end, output-small, hop-high}
-use Rattle.torus.proofs.follow_route.Statement.{statement}
-use Rattle.torus.proofs.follow_route.Tie as tie
+use Rattle.torus.proofs.RouteLaws.{Going, going-start, going-out, going-lost, going-on, going-end, output-small, link-short}
+use Rattle.torus.proofs.follow_short.Statement.{statement}
+use Rattle.torus.proofs.follow_short.Tie as tie
 
 abbrev Inv-loop : tie.InvT-loop
 Inv-loop cols rows source route wires₀ delays₀ node₀ entry₀ delay₀ rest₀ hops₀ wires delays node entry delay rest hops =
-    Going (pathOf (routeFrom cols rows source route)) cols rows wires delays node entry delay rest hops
+    Going (pathOf (routeFrom cols rows false source route)) cols rows false wires delays node entry delay rest hops 0
 
 abbrev μ-loop : tie.MeasureT-loop
 μ-loop cols rows source route wires₀ delays₀ node₀ entry₀ delay₀ rest₀ hops₀ wires delays node entry delay rest hops =
@@ -29,7 +30,7 @@ array-write-wires : tie.Need-array-write-wires Inv-loop μ-loop
 array-write-wires c = omega arith
 
 loop-holds : tie.Need-loop-holds Inv-loop μ-loop
-loop-holds c = going-start _ _ _ _ (c .pre)
+loop-holds c = going-start _ _ _ _ _ (c .pre)
 
 add-at : tie.Need-add-at Inv-loop μ-loop
 add-at c = omega arith
@@ -94,11 +95,8 @@ neighbour-requires c κs = c .before .before .before .loop .inv .here
 add-entry : tie.Need-add-entry Inv-loop μ-loop
 add-entry c = omega (arith, output-small _ _ _ (c .before .before .output-of .ensures) (mod-lt _ (omega arith)))
 
-hop-cycles-requires : tie.Need-hop-cycles-requires Inv-loop μ-loop
-hop-cycles-requires c κs = tt
-
 add-delay : tie.Need-add-delay Inv-loop μ-loop
-add-delay c = omega (arith, hop-high _ _ (c .hop-cycles .ensures))
+add-delay c = omega arith
 
 add-hops : tie.Need-add-hops Inv-loop μ-loop
 add-hops c = omega arith
@@ -108,9 +106,9 @@ loop-less c = omega arith
 
 loop-again : tie.Need-loop-again Inv-loop μ-loop
 loop-again c =
-    let on = c .before .before in
+    let on = c .before in
     going-on (on .before .before .before .loop .inv) (on .before .before .loop-test .taken) (on .before .output-of .ensures)
-    (on .if1 .left) (c .before .neighbour .ensures) (omega arith) (c .hop-cycles .ensures)
+    (on .if1 .left) (c .neighbour .ensures) (omega arith) (link-short false _ refl)
 
 nowhere-path-requires-2 : tie.Need-nowhere-path-requires-2 Inv-loop μ-loop
 nowhere-path-requires-2 c κs = tt
@@ -118,8 +116,8 @@ nowhere-path-requires-2 c κs = tt
 returns-3 : tie.Need-returns-3 Inv-loop μ-loop
 returns-3 c = c .nowhere-path2 .ensures ∙ going-end (c .before .before .loop .inv) (c .before .loop-test .left)
 
-pub follow-route-spec : {M : Type 1} → statement M
-follow-route-spec =
+pub follow-short-spec : {M : Type 1} → statement M
+follow-short-spec =
     tie.close
     (tie.spec
     Inv-loop
@@ -146,7 +144,6 @@ follow-route-spec =
     array-write-wires-3
     neighbour-requires
     add-entry
-    hop-cycles-requires
     add-delay
     add-hops
     loop-less
