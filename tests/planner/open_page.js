@@ -1,6 +1,6 @@
 // What the tests of the page share: one browser with the page open, and what they do with it again and again.
 import { after, before } from 'node:test';
-import { mkdtempSync, rmSync, writeFileSync } from 'node:fs';
+import { mkdtempSync, readFileSync, rmSync, statSync, writeFileSync } from 'node:fs';
 import { tmpdir } from 'node:os';
 import { dirname, join } from 'node:path';
 import { fileURLToPath, pathToFileURL } from 'node:url';
@@ -49,6 +49,20 @@ export async function choose(path) {
 export async function upload(path) {
   await choose(path);
   await drawn();
+}
+
+// What the page saves under a name. The browser first puts an empty file there, so that its bytes are waited for, and until there are no more.
+export async function saved(name) {
+  const path = join(browser.downloads, name);
+  const bytes = () => statSync(path, { throwIfNoEntry: false })?.size ?? 0;
+  rmSync(path, { force: true });
+  await browser.click(await browser.find('#save'));
+  let before = 0;
+  for (let wait = 0; wait < 400 && (before === 0 || bytes() !== before); wait++) {
+    before = bytes();
+    await new Promise((go) => setTimeout(go, 50));
+  }
+  return readFileSync(path, 'utf8');
 }
 
 // Writes a file for the page to read.

@@ -1,9 +1,8 @@
 // The page in a real Chromium: files, editing, explanation, both pictures, landings, comparing and saving.
 import test from 'node:test';
 import assert from 'node:assert/strict';
-import { readFileSync, readdirSync } from 'node:fs';
-import { join } from 'node:path';
-import { browser, cell, drawn, example, isMarked, page, paste, rowsOf, says, select, textOf, type, upload, verdict, written } from './open_page.js';
+import { readFileSync } from 'node:fs';
+import { browser, cell, drawn, example, isMarked, page, paste, rowsOf, saved, says, select, textOf, type, upload, verdict, written } from './open_page.js';
 
 test('it opens with an example that passes, and answers the question at once', async () => {
   assert.match(await verdict(), /passes/);
@@ -243,14 +242,8 @@ test('the plan is saved as CSV, with what a spreadsheet would reckon with quoted
   const script = '<script>alert(1)</script>';
   await upload(written('odd.csv', `network;2;2;8\ncircuit;${script};0;1;0;4;0;4\nmode;"=1+1";9\nslot;=1+1;${script};0;3;E\n`));
   await says('passes');
-  await browser.click(await browser.find('#save'));
-  let saved = [];
-  for (let wait = 0; wait < 100 && !saved.includes('odd.csv'); wait++) {
-    await new Promise((go) => setTimeout(go, 50));
-    saved = readdirSync(browser.downloads);
-  }
   assert.equal(
-    readFileSync(join(browser.downloads, 'odd.csv'), 'utf8'),
+    await saved('odd.csv'),
     `network;2;2;8\r\ncircuit;${script};0;1;0;4;0;4\r\nmode;"'=1+1";9\r\nslot;"'=1+1";${script};0;3;E\r\n`,
   );
   // The name is a text in the tables and in the pictures.

@@ -1,9 +1,8 @@
 // The page in a real Chromium: what could be lost, mixed up or said of another file while one edits and opens files.
 import test from 'node:test';
 import assert from 'node:assert/strict';
-import { readFileSync, readdirSync, rmSync } from 'node:fs';
-import { join } from 'node:path';
-import { browser, cell, drawn, example, isMarked, paste, rowsOf, says, select, textOf, type, upload, written } from './open_page.js';
+import { readFileSync } from 'node:fs';
+import { browser, cell, drawn, example, isMarked, paste, rowsOf, saved, says, select, textOf, type, upload, written } from './open_page.js';
 // The tests of the week and of long vertical links need no browser of their own.
 import './page_week.js';
 import './page_long.js';
@@ -12,14 +11,6 @@ const focusedId = async () => browser.property(await browser.focused(), 'id');
 // What the browser would print now.
 function printed() {
   return browser.script("dispatchEvent(new Event('beforeprint')); return document.getElementById('certificate').textContent");
-}
-
-// What the page saves, read from the folder of downloads.
-async function saved(name) {
-  rmSync(join(browser.downloads, name), { force: true });
-  await browser.click(await browser.find('#save'));
-  for (let wait = 0; wait < 400 && !readdirSync(browser.downloads).includes(name); wait++) await new Promise((go) => setTimeout(go, 50));
-  return readFileSync(join(browser.downloads, name), 'utf8');
 }
 
 test('the order of a file of words stays, and its certificate is of its words', async () => {
