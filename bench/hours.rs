@@ -1,8 +1,10 @@
 //! Times our hours of a minute against the same walk from edge to edge in Rust, and against a search in Rust that looks through the
 //! windows at each minute. There are 64 windows, and the change lies behind them all; where they have gaps, at the last one's start.
 
+mod bars;
 mod timing;
 
+use bars::{Bars, JUDGED};
 use std::process::ExitCode;
 use timing::times;
 
@@ -103,19 +105,16 @@ fn with_gaps() -> Vec<u32> {
 }
 
 fn main() -> ExitCode {
-    let mut good = true;
-    println!("{:<22} {:>10} {:>10} {:>6} {:>12} {:>7}", "64 windows", "ours, ns", "walk, ns", "ratio", "search, ns", "ratio");
+    let mut bars = Bars::default();
+    println!("the hours of a minute, medians of many rounds in turn");
+    println!("{:<18} {:>10} {:>10} {JUDGED} {:>10} {JUDGED}", "64 windows", "ours, ns", "walk, ns", "search, ns");
     for (name, list, expected) in [("one behind another", adjoining(), 10_048), ("with gaps", with_gaps(), 9_892)] {
-        let found = [ours(&list), walk(&list), search(&list)];
-        if found != [expected; 3] {
-            println!("{name}: {found:?}, not {expected}");
-            good = false;
-            continue;
-        }
+        assert_eq!([ours(&list), walk(&list), search(&list)], [expected; 3], "{name}");
         let (ours_time, walk_time, walk_ratio) = times(&list, ours, walk);
         let (_, search_time, search_ratio) = times(&list, ours, search);
-        println!("{name:<22} {ours_time:>10.1} {walk_time:>10.1} {walk_ratio:>6.2} {search_time:>12.1} {search_ratio:>7.4}");
-        good &= walk_ratio <= MOST_OF_THE_WALK && search_ratio <= MOST_OF_THE_SEARCH;
+        let of_walk = bars.at_most(walk_ratio, MOST_OF_THE_WALK);
+        let of_search = bars.at_most(search_ratio, MOST_OF_THE_SEARCH);
+        println!("{name:<18} {ours_time:>10.1} {walk_time:>10.1} {of_walk} {search_time:>10.1} {of_search}");
     }
-    if good { ExitCode::SUCCESS } else { ExitCode::FAILURE }
+    bars.exit()
 }

@@ -1,6 +1,6 @@
 //! A sheet on grids of both kinds, with and without long vertical links, so that the two can be timed on the same circuits and entries.
 
-use super::sheets::{Occupied, Plan};
+use second::sheets::{Occupied, Plan};
 
 /// How many times as long a grid with long vertical links may take as one without.
 pub const MOST_LONG_RATIO: f64 = 1.15;

@@ -1,199 +1,147 @@
-//! Times the proved program `landings` against the same program in plain Rust, whose paths
-//! are the arguments: 65,536 cycles on three sheets, the least of several runs in turn; and on
-//! grids with long vertical links against those without. Then the exported cycle call against
-//! its parts. Exits 1 where a bar is missed.
+//! Times the proved program `landings` against the same program in Rust, on the second machine (machine.rs) and with a list of the words
+//! in flight (flights.rs), whose paths are the arguments: 65,536 cycles, the least of nine runs in turn, process start included; and on
+//! grids with long vertical links against those without. Processor time is taken, as a run of many milliseconds is never undisturbed on a
+//! machine that has other work. Exits 1 where a bar is missed.
 
-#[path = "../tests/exports.rs"]
-mod exports;
+mod bars;
+mod inputs;
 mod kinds;
 
-use exports::Exports;
+use bars::{Bars, JUDGED};
+use inputs::{input_of, inputs, sheets, Input, ONE_WORD_A_PERIOD, SHEET_A};
 use kinds::{on_both_kinds, MOST_LONG_RATIO};
-use second::calls::Calls;
-use second::inputs::{
-    all_transfers, bytes_of, input_words, largest_in_small_memory, middle_in_small_memory, some_memory, Transfer,
-};
-use second::lent::STATE_WORDS;
-use second::sheets::{self, sheet_a, Plan, Random};
+use second::inputs::{bytes_of, input_words};
 use std::fs::{self, File};
-use std::hint::black_box;
 use std::path::{Path, PathBuf};
 use std::process::{Command, ExitCode, Stdio};
-use std::time::Instant;
 
-const MOST_RATIO: f64 = 2.0;
-const MOST_CYCLE_RATIO: f64 = 1.3;
 const CYCLES: u32 = 65_536;
 const RUNS: usize = 9;
-const ROUNDS: usize = 41;
-const NANOSECONDS_PER_ROUND: f64 = 2_000_000.0;
-
-extern "C" {
-    fn argo_verdict(sheet: *const u32, length: usize) -> u32;
-}
-
-struct Subject {
-    name: &'static str,
-    plan: Plan,
-    memory: Vec<u32>,
-    transfers: Vec<Transfer>,
-}
-
-fn plans() -> [(&'static str, Plan); 3] {
-    [
-        ("sheet A", sheet_a()),
-        ("middle sheet", middle_in_small_memory(1)),
-        ("largest sheet", largest_in_small_memory(1)),
-    ]
-}
-
-fn subject_of(name: &'static str, plan: Plan) -> Subject {
-    let memory = some_memory(&mut Random::new(3), &plan);
-    let transfers = all_transfers(&plan);
-    Subject { name, plan, memory, transfers }
-}
-
-fn subjects() -> Vec<Subject> {
-    plans().into_iter().map(|(name, plan)| subject_of(name, plan)).collect()
-}
+const MOST_OF_FLIGHTS: f64 = 1.5;
 
 fn main() -> ExitCode {
     let arguments: Vec<String> = std::env::args().skip(1).collect();
-    let [ours, rust] = &arguments[..] else {
-        eprintln!("usage: landings PATH_OF_LANDINGS PATH_OF_RUST_PROGRAM");
+    let [ours, machine, flights] = &arguments[..] else {
+        eprintln!("usage: landings PATH_OF_LANDINGS PATH_OF_MACHINE PATH_OF_FLIGHTS");
         return ExitCode::FAILURE;
     };
-    let subjects = subjects();
-    match time_programs(ours, rust, &subjects) {
-        Ok((seconds, good)) => {
-            let good = good & time_kinds(ours, rust).unwrap_or_else(|complaint| {
-                println!("{complaint}");
-                false
-            });
-            if time_public_cycles(&subjects, &seconds) & good {
-                ExitCode::SUCCESS
-            } else {
-                ExitCode::FAILURE
-            }
-        }
-        Err(complaint) => {
-            println!("{complaint}");
-            ExitCode::FAILURE
-        }
+    let mut bars = Bars::default();
+    println!("{CYCLES} cycles of the program landings, the least of {RUNS} runs in turn, milliseconds of a processor");
+    println!(
+        "{:<14} {:>8} {:>8} {:>8} {JUDGED} {:>8} {JUDGED}",
+        "sheet", "landings", "ours", "machine", "flights"
+    );
+    for input in inputs() {
+        time_programs(&mut bars, &input, ours, machine, flights);
+    }
+    println!("{:<14} {:>8} {:>8} {:>8} {JUDGED}", "both kinds", "landings", "long", "short");
+    for (name, plan) in sheets() {
+        let [short, long] = on_both_kinds(&plan).map(|plan| input_of(name, plan));
+        time_kinds(&mut bars, ours, &long, &short);
+    }
+    bars.exit()
+}
+
+/// Where little lands, the start of the process is most of the time.
+fn most_of_machine(name: &str) -> f64 {
+    if [SHEET_A, ONE_WORD_A_PERIOD].contains(&name) { 0.35 } else { 0.15 }
+}
+
+fn time_programs(bars: &mut Bars, input: &Input, ours: &str, machine: &str, flights: &str) {
+    let file = Lent::new(input);
+    let printed = run(ours, &file.path).1;
+    for program in [machine, flights] {
+        assert!(run(program, &file.path).1 == printed, "{program} prints another listing: {}", input.name);
+    }
+    let landings = lines_behind_heading(&printed);
+    let [our_time, machine_time, flights_time] = least_runs([(ours, &file), (machine, &file), (flights, &file)]);
+    let of_machine = bars.at_most(our_time / machine_time, most_of_machine(input.name));
+    let of_flights = bars.at_most(our_time / flights_time, MOST_OF_FLIGHTS);
+    println!(
+        "{:<14} {landings:>8} {our_time:>8.3} {machine_time:>8.3} {of_machine} {flights_time:>8.3} {of_flights}",
+        input.name
+    );
+}
+
+/// Long vertical links against none, with the same circuits and entries.
+fn time_kinds(bars: &mut Bars, ours: &str, long: &Input, short: &Input) {
+    let [long_file, short_file] = [Lent::new(long), Lent::new(short)];
+    let landings = lines_behind_heading(&run(ours, &long_file.path).1);
+    let [long_time, short_time] = least_runs([(ours, &long_file), (ours, &short_file)]);
+    let judged = bars.at_most(long_time / short_time, MOST_LONG_RATIO);
+    println!("{:<14} {landings:>8} {long_time:>8.3} {short_time:>8.3} {judged}", long.name);
+}
+
+fn lines_behind_heading(text: &[u8]) -> usize {
+    text.iter().filter(|&&byte| byte == b'\n').count() - 1
+}
+
+/// An input in a file that goes with this value.
+struct Lent {
+    path: PathBuf,
+}
+
+impl Lent {
+    fn new(input: &Input) -> Lent {
+        let name = format!("landings_{}_{}", std::process::id(), input.plan.long_links);
+        let path = std::env::temp_dir().join(name);
+        let words = input_words(&input.plan.words(), &input.memory, &input.transfers, CYCLES);
+        fs::write(&path, bytes_of(&words)).expect("a file can be written");
+        Lent { path }
     }
 }
 
-/// Seconds of our program's cycles on each subject, and whether the bar is kept on all.
-fn time_programs(ours: &str, rust: &str, subjects: &[Subject]) -> Result<(Vec<f64>, bool), String> {
-    println!("{CYCLES} cycles, the least of {RUNS} runs");
-    println!("{:<14} {:>8} {:>12} {:>12} {:>6}", "sheet", "landings", "ours, s", "Rust, s", "ratio");
-    let mut seconds = Vec::new();
-    let mut good = true;
-    for subject in subjects {
-        let (our_seconds, rust_seconds, landings) = time_input(ours, rust, subject, CYCLES)?;
-        let (our_start, _, _) = time_input(ours, rust, subject, 0)?;
-        let ratio = our_seconds / rust_seconds;
-        println!("{:<14} {landings:>8} {our_seconds:>12.4} {rust_seconds:>12.4} {ratio:>6.2}", subject.name);
-        good &= ratio <= MOST_RATIO;
-        seconds.push(our_seconds - our_start);
+impl Drop for Lent {
+    fn drop(&mut self) {
+        let _ = fs::remove_file(&self.path);
     }
-    Ok((seconds, good))
 }
 
-/// Whether the bar is kept on all: long vertical links against none, with the same circuits and entries.
-fn time_kinds(ours: &str, rust: &str) -> Result<bool, String> {
-    println!("{:<14} {:>8} {:>12} {:>12} {:>6}", "on both kinds", "landings", "long, s", "short, s", "ratio");
-    let mut good = true;
-    for (name, plan) in plans() {
-        let [short, long] = on_both_kinds(&plan).map(|plan| subject_of(name, plan));
-        let (short_seconds, _, _) = time_input(ours, rust, &short, CYCLES)?;
-        let (long_seconds, _, landings) = time_input(ours, rust, &long, CYCLES)?;
-        let ratio = long_seconds / short_seconds;
-        println!("{name:<14} {landings:>8} {long_seconds:>12.4} {short_seconds:>12.4} {ratio:>6.2}");
-        good &= ratio <= MOST_LONG_RATIO;
-    }
-    Ok(good)
-}
-
-fn time_input(ours: &str, rust: &str, subject: &Subject, cycles: u32) -> Result<(f64, f64, usize), String> {
-    let words = input_words(&subject.plan.words(), &subject.memory, &subject.transfers, cycles);
-    let file = std::env::temp_dir().join(format!("landings_input_{}", std::process::id()));
-    fs::write(&file, bytes_of(&words)).map_err(|error| error.to_string())?;
-    let timed = time_both(ours, rust, &file);
-    let _ = fs::remove_file(&file);
-    timed.map_err(|what| format!("{}: {what}", subject.name))
-}
-
-/// Least seconds of both programs, run in turn on one input, and the landings printed.
-fn time_both(ours: &str, rust: &str, input: &PathBuf) -> Result<(f64, f64, usize), String> {
-    let (mut our_least, mut rust_least) = (f64::INFINITY, f64::INFINITY);
-    let mut landings = 0;
+/// The least milliseconds of each program on its input; a turn runs all, one after the other.
+fn least_runs<const COUNT: usize>(runs: [(&str, &Lent); COUNT]) -> [f64; COUNT] {
+    let mut least = [f64::INFINITY; COUNT];
     for _ in 0..RUNS {
-        let (our_seconds, our_output) = time_run(ours, input)?;
-        let (rust_seconds, rust_output) = time_run(rust, input)?;
-        if our_output != rust_output {
-            return Err("the two programs print different listings".to_string());
+        for ((program, file), least) in runs.iter().zip(&mut least) {
+            *least = least.min(run(program, &file.path).0);
         }
-        our_least = our_least.min(our_seconds);
-        rust_least = rust_least.min(rust_seconds);
-        landings = our_output.iter().filter(|&&byte| byte == b'\n').count() - 1;
     }
-    Ok((our_least, rust_least, landings))
+    least
 }
 
-fn time_run(program: &str, input: &Path) -> Result<(f64, Vec<u8>), String> {
-    let file = File::open(input).map_err(|error| error.to_string())?;
-    let start = Instant::now();
-    let output =
-        Command::new(program).stdin(Stdio::from(file)).output().map_err(|error| format!("{program}: {error}"))?;
-    let seconds = start.elapsed().as_secs_f64();
-    if output.status.success() && !output.stdout.is_empty() {
-        Ok((seconds, output.stdout))
-    } else {
-        Err(format!("{program} ended with {}", output.status))
-    }
+/// Milliseconds of a run, and what it prints.
+fn run(program: &str, input: &Path) -> (f64, Vec<u8>) {
+    let file = File::open(input).expect("the input was written");
+    let before = processor_time();
+    let output = Command::new(program).stdin(Stdio::from(file)).output().expect(program);
+    let milliseconds = processor_time() - before;
+    assert!(output.status.success() && !output.stdout.is_empty(), "{program} ended with {}", output.status);
+    (milliseconds, output.stdout)
 }
 
-/// Whether the bar is kept on all: a cycle through the exports tests the state first, so it should cost about a verdict and
-/// an inner cycle. The inner cycle on lent words is the call's time less that of the period number, which tests the same state;
-/// in our program, whose arrays have lengths that the compiler knows, it takes less, which is shown beside.
-fn time_public_cycles(subjects: &[Subject], seconds: &[f64]) -> bool {
-    println!("an exported cycle call against its parts, the least of {ROUNDS} rounds in turn, nanoseconds");
-    println!("{:<14} {:>10} {:>10} {:>12} {:>6} {:>12}", "sheet", "cycle", "verdict", "inner cycle", "ratio", "in landings");
-    let mut good = true;
-    for (subject, seconds) in subjects.iter().zip(seconds) {
-        let sheet = subject.plan.words();
-        let mut state = vec![0; STATE_WORDS];
-        let mut memory = subject.memory.clone();
-        assert_eq!(Exports.load(&sheet, &mut state, &memory), 0, "the sheet passes");
-        for &[circuit, read, write, count, kind] in &subject.transfers {
-            assert_eq!(Exports.start(&mut state, circuit, read, write, count, kind), 0, "a right start");
-        }
-        let (mut verdict, mut test, mut cycle) = (f64::INFINITY, f64::INFINITY, f64::INFINITY);
-        for _ in 0..ROUNDS {
-            // The pointer and the length are those of a live slice.
-            verdict = verdict.min(time(|| black_box(unsafe { argo_verdict(sheet.as_ptr(), sheet.len()) })));
-            test = test.min(time(|| black_box(Exports.period_number(&state))));
-            cycle = cycle.min(time(|| black_box(Exports.cycle(&mut state, &mut memory))));
-        }
-        let inner = cycle - test;
-        let ratio = cycle / (verdict + inner);
-        let in_landings = seconds / f64::from(CYCLES) * 1e9;
-        println!("{:<14} {cycle:>10.0} {verdict:>10.0} {inner:>12.0} {ratio:>6.2} {in_landings:>12.0}", subject.name);
-        good &= ratio <= MOST_CYCLE_RATIO;
-    }
-    good
+/// What the C library's getrusage fills.
+#[repr(C)]
+#[derive(Default)]
+struct Usage {
+    /// Seconds and microseconds.
+    user: [i64; 2],
+    system: [i64; 2],
+    counts: [i64; 14],
 }
 
-/// Nanoseconds a call, over some calls.
-fn time<Answer>(mut call: impl FnMut() -> Answer) -> f64 {
-    let mut round = |calls: u32| {
-        let start = Instant::now();
-        for _ in 0..calls {
-            call();
-        }
-        start.elapsed().as_nanos() as f64 / f64::from(calls)
+extern "C" {
+    fn getrusage(who: i32, usage: *mut Usage) -> i32;
+}
+
+/// Milliseconds that this program, which starts the others, and those that it has run took of a processor.
+fn processor_time() -> f64 {
+    const OWN: i32 = 0;
+    const CHILDREN: i32 = -1;
+    let taken = |who: i32| {
+        let mut usage = Usage::default();
+        // The pointer is that of a live record, as long as the C library's.
+        assert_eq!(unsafe { getrusage(who, &mut usage) }, 0);
+        let [seconds, microseconds] = [0, 1].map(|place| (usage.user[place] + usage.system[place]) as f64);
+        seconds * 1e3 + microseconds / 1e3
     };
-    let calls = ((NANOSECONDS_PER_ROUND / round(3)) as u32).max(3);
-    round(calls)
+    taken(OWN) + taken(CHILDREN)
 }

@@ -1,6 +1,6 @@
-//! A checker of circuit sheets, linear in the sheet and in the wires' use, against which ours is timed: a pass over the
-//! circuits, a pass over the entries, and a table of the wires in use. No heap. The table is a parameter: bytes one at a
-//! time, as one writes it first, or tuned, sixteen bytes at once.
+//! Frozen, so that ours is timed against the same code for ever: a checker of circuit sheets, linear in the sheet and in
+//! the wires' use: a pass over the circuits, a pass over the entries, and a table of the wires in use. No heap. The table is
+//! a parameter: bytes one at a time, as one writes it first, or tuned, sixteen bytes at once.
 
 use std::cell::RefCell;
 

@@ -1,5 +1,5 @@
-//! The program `landings` in plain Rust, on the second machine of the tests: the same input
-//! and the same output. Sheets are judged by the linear checker. It is what the proved program is timed against.
+//! Frozen, so that the proved program is timed against the same code for ever: the program `landings` in plain Rust, on the
+//! second machine of the tests: the same input and the same output. Sheets are judged by the linear checker.
 
 #[allow(dead_code)]
 mod linear;

@@ -1,26 +1,25 @@
-//! Times our verdict against a linear Rust checker, in one run and on the same sheets, then on grids with long vertical links against those
-//! without, and measures the stack that our verdict takes on the largest sheet. The bar holds against the plain table; the tuned one is
-//! shown beside it.
+//! Times our verdict against the two linear Rust checkers on the same sheets, the least of nine rounds in turn; then on grids with long
+//! vertical links against those without, and measures the stack that our verdict takes on the largest sheet.
 
+mod bars;
 mod kinds;
+mod least;
 mod linear;
-#[allow(dead_code)]
-#[path = "../tests/second/sheets.rs"]
-mod sheets;
-mod timing;
 
+use bars::{Bars, JUDGED};
 use kinds::{on_both_kinds, MOST_LONG_RATIO};
+use least::{least, ROUNDS};
+use second::sheets;
 use std::alloc::{alloc, dealloc, handle_alloc_error, Layout};
 use std::ffi::c_void;
 use std::hint::black_box;
 use std::process::ExitCode;
-use timing::{times, times_of};
 
 extern "C" {
     fn argo_verdict(sheet: *const u32, length: usize) -> u32;
 }
 
-const MOST_RATIO: f64 = 2.0;
+const MOST_OF_TUNED: f64 = 0.6;
 const STACK_LIMIT: usize = 512 * 1024;
 
 fn our_verdict(sheet: &[u32]) -> u32 {
@@ -29,51 +28,49 @@ fn our_verdict(sheet: &[u32]) -> u32 {
 }
 
 fn main() -> ExitCode {
-    let largest = sheets::largest(1).words();
+    let mut bars = Bars::default();
+    println!("our verdict against two linear checkers in Rust, the least of {ROUNDS} rounds in turn");
+    println!("{:<14} {:>6} {:>10} {:>10} {JUDGED} {:>10} {JUDGED}", "sheet", "words", "ours, ns", "tuned, ns", "plain, ns");
+    // No bar is set for mixed slots against the plain table.
     let timed = [
-        ("sheet A", sheets::sheet_a().words()),
-        ("middle sheet", sheets::middle(1).words()),
-        ("largest sheet", largest.clone()),
+        ("sheet A", sheets::sheet_a(), Some(0.6)),
+        ("middle", sheets::middle(1), Some(0.35)),
+        ("largest", sheets::largest(1), Some(0.25)),
+        ("mixed lengths", sheets::largest_mixed(1), None),
     ];
-    let mut good = true;
-    println!(
-        "{:<14} {:>6} {:>12} {:>12} {:>6} {:>12} {:>6}",
-        "sheet", "words", "ours, ns", "Rust, ns", "ratio", "tuned, ns", "ratio"
-    );
-    for (name, sheet) in &timed {
-        let verdicts = [our_verdict(sheet), linear::verdict(sheet), linear::tuned_verdict(sheet)];
-        if verdicts != [0, 0, 0] {
-            println!("{name} has to pass: {verdicts:?}");
-            good = false;
-            continue;
-        }
-        let (ours, rust, ratio) = times(sheet, our_verdict, linear::verdict);
-        let (_, tuned, tuned_ratio) = times(sheet, our_verdict, linear::tuned_verdict);
-        println!(
-            "{name:<14} {:>6} {ours:>12.1} {rust:>12.1} {ratio:>6.2} {tuned:>12.1} {tuned_ratio:>6.2}",
-            sheet.len()
-        );
-        good &= ratio <= MOST_RATIO;
+    for (name, plan, most_of_plain) in timed {
+        time_verdicts(&mut bars, name, &plan.words(), most_of_plain);
     }
 
-    println!("{:<14} {:>6} {:>12} {:>12} {:>6}", "on both kinds", "words", "long, ns", "short, ns", "ratio");
-    let plans = [("sheet A", sheets::sheet_a()), ("middle sheet", sheets::middle(1)), ("largest sheet", sheets::largest(1))];
-    for (name, plan) in &plans {
-        let [short, long] = on_both_kinds(plan).map(|plan| plan.words());
+    println!("{:<14} {:>6} {:>10} {:>10} {JUDGED}", "both kinds", "words", "long, ns", "short, ns");
+    for (name, plan) in [("sheet A", sheets::sheet_a()), ("middle", sheets::middle(1)), ("largest", sheets::largest(1))] {
+        let [short, long] = on_both_kinds(&plan).map(|plan| plan.words());
         assert_eq!([our_verdict(&short), our_verdict(&long)], [0, 0], "the entries pass on either kind");
-        let (long_time, short_time, ratio) = times_of((&long, our_verdict), (&short, our_verdict));
-        println!("{name:<14} {:>6} {long_time:>12.1} {short_time:>12.1} {ratio:>6.2}", long.len());
-        good &= ratio <= MOST_LONG_RATIO;
+        let [long_time, short_time] = least([
+            &mut || our_verdict(black_box(&long)).into(),
+            &mut || our_verdict(black_box(&short)).into(),
+        ]);
+        let judged = bars.at_most(long_time / short_time, MOST_LONG_RATIO);
+        println!("{name:<14} {:>6} {long_time:>10.1} {short_time:>10.1} {judged}", long.len());
     }
 
-    let bytes = stack_bytes(&largest);
-    println!("stack of our verdict on the largest sheet: {bytes} bytes");
-    good &= bytes < STACK_LIMIT;
-    if good {
-        ExitCode::SUCCESS
-    } else {
-        ExitCode::FAILURE
-    }
+    let bytes = stack_bytes(&sheets::largest(1).words());
+    let judged = bars.at_most(bytes as f64 / STACK_LIMIT as f64, 1.0);
+    println!("stack of our verdict on the largest sheet: {bytes} bytes of {STACK_LIMIT} {judged}");
+    bars.exit()
+}
+
+fn time_verdicts(bars: &mut Bars, name: &str, sheet: &[u32], most_of_plain: Option<f64>) {
+    let verdicts = [our_verdict(sheet), linear::tuned_verdict(sheet), linear::verdict(sheet)];
+    assert_eq!(verdicts, [0, 0, 0], "{name} has to pass");
+    let [ours, tuned, plain] = least([
+        &mut || our_verdict(black_box(sheet)).into(),
+        &mut || linear::tuned_verdict(black_box(sheet)).into(),
+        &mut || linear::verdict(black_box(sheet)).into(),
+    ]);
+    let of_tuned = bars.at_most(ours / tuned, MOST_OF_TUNED);
+    let of_plain = most_of_plain.map_or(format!("{:>8.4}", ours / plain), |most| bars.at_most(ours / plain, most));
+    println!("{name:<14} {:>6} {ours:>10.1} {tuned:>10.1} {of_tuned} {plain:>10.1} {of_plain}", sheet.len());
 }
 
 // The C library's threads, since only they take a stack of the caller's.

@@ -70,10 +70,14 @@ fn schedules_number(z: &[u32]) -> u32
     7
 }
 
-// The first of the numbers 1 to 11 that applies to a sheet's words as they stand, which is how a state holds them, or 0.
+// The first of the numbers 1 to 11 that applies to a sheet's words as they stand, which is how a state holds them, or 0. A sheet that the quick
+// pass accepts keeps them all; any other is judged rule by rule.
 pub fn rules_number(z: &[u32]) -> u32
     ensures { λ r. ⌜ r ≡ sheetVerdict (now (z .entry)) ⌝ }
 {
+    if accept::accepts(z) {
+        return 0;
+    }
     let frame = frame_number(z);
     if frame != 0 {
         return frame;

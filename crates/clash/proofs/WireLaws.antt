@@ -83,11 +83,11 @@ module _ (stride : ℕ) where
   meet-places (x ∷ xs) ys f g = ap₂ _or_ (member-place x ys (f .0) (f .1) g) (meet-places xs ys (f .2) g)
 
   -- the places of a wire in some cycles are a row
-  map-append : (xs ys : List WireCycle) → map (placeOf stride) (xs ++ ys) ≡ map (placeOf stride) xs ++ map (placeOf stride) ys
+  pub map-append : (xs ys : List WireCycle) → map (placeOf stride) (xs ++ ys) ≡ map (placeOf stride) xs ++ map (placeOf stride) ys
   map-append [] ys = refl
   map-append (x ∷ xs) ys = ap (λ (l : List ℕ). placeOf stride x ∷ l) (map-append xs ys)
 
-  row-places : (n : ℕ) (wire : Wire) (cycle : ℕ) → map (placeOf stride) (during n wire cycle) ≡ run n (wireNumber wire * stride + cycle)
+  pub row-places : (n : ℕ) (wire : Wire) (cycle : ℕ) → map (placeOf stride) (during n wire cycle) ≡ run n (wireNumber wire * stride + cycle)
   unfolding during run
   row-places zero wire cycle = refl
   row-places (suc n) wire cycle =

@@ -12,12 +12,13 @@ use Rattle.words.specs.Tests.{_=?_}
 use Rattle.words.specs.Words.{pick, tab}
 use Rattle.words.proofs.TestLaws.{yes=, no=, is=}
 use Rattle.words.proofs.WordLaws.{length-tab}
+use Rattle.sheet.specs.Sheet.{meant}
 use Rattle.sheet.specs.Rules.{sheetNumber}
 use Rattle.octets.specs.Octets.{wordIn}
-use Rattle.network.specs.Registers.{stateWords}
+use Rattle.network.specs.Registers.{sheetIn, stateWords}
 use Rattle.session.specs.declared.Answer.{Answer}
 use Rattle.session.specs.Answers.{answerOf, numberOf}
-use Rattle.session.specs.Calls.{stateNumber, memoryNumber, Lent, lend, lendState, Call, load, start, isLoad, number, after}
+use Rattle.session.specs.Calls.{stateNumber, memoryNumber, loaded, Lent, lend, lendState, Call, load, start, isLoad, number, after}
 use Rattle.session.proofs.AnswerLaws.{number-is}
 use Rattle.session.proofs.AloneLaws.{isAlone, after-alone}
 use Rattle.session.proofs.ReadingLaws.{memory-state}
@@ -26,7 +27,9 @@ use Rattle.landings.specs.declared.input.Message.the-variants.{Runs}
 use Rattle.landings.specs.Input.{statedLength, sheetOf, memorySize, memoryOf, transfersPlace, transfers, transferPlace}
 use Rattle.landings.specs.Messages.{Called, called, inputMessage, startAt, startsOn, callsOn, calls, refusalOf, message, behind}
 use Rattle.landings.proofs.MessageLaws.{whole}
-use Rattle.session.proofs.ReadyLaws.{ready-loaded, ready-after, passes-after}
+use Rattle.session.proofs.ReadyLaws.{ready-loaded, after-has, ready-after, passes-after}
+use Rattle.session.proofs.WritingLaws.{state-written}
+use Rattle.session.proofs.KeptLaws.{loaded-sheet, sheet-same}
 
 -- five words at a place
 same-five : {A : Type 0} (f : ℕ → ℕ → ℕ → ℕ → ℕ → A) {a b c d e a′ b′ c′ d′ e′ : ℕ}
@@ -219,6 +222,44 @@ calls-ready bytes s m e = go (number (load (sheetOf bytes)) (lend s m) =? 0) ref
         → memoryNumber (pick t starts (called (load (sheetOf bytes)) (lend s m)) .state) m ≡ 0
     go true q h = starts-ready bytes _ m (transfers bytes) (ready-loaded (sheetOf bytes) s m (is= _ _ q))
     go false q h = absurd (false≢true (sym q ∙ yes= h))
+
+-- the load is carried out where no call is refused, and the starts upon it
+pub load-first : (bytes s m : List ℕ) → callsOn bytes s m .refusal ≡ 0
+    → (number (load (sheetOf bytes)) (lend s m) ≡ 0)
+    × (callsOn bytes s m ≡ startsOn bytes (loaded (meant (sheetOf bytes)) s) (transfers bytes))
+unfolding callsOn
+load-first bytes s m e = go (number (load (sheetOf bytes)) (lend s m) =? 0) refl e
+  where
+    starts : List ℕ → Called
+    starts x = startsOn bytes x (transfers bytes)
+
+    go : (t : Bool) → (number (load (sheetOf bytes)) (lend s m) =? 0) ≡ t
+        → pick t (starts (after (load (sheetOf bytes)) (lend s m) .state)) (called (load (sheetOf bytes)) (lend s m)) .refusal ≡ 0
+        → (number (load (sheetOf bytes)) (lend s m) ≡ 0)
+        × (pick t (starts (after (load (sheetOf bytes)) (lend s m) .state)) (called (load (sheetOf bytes)) (lend s m))
+        ≡ starts (loaded (meant (sheetOf bytes)) s))
+    go true q h = (is= _ _ q, ap starts (sym (state-written (load (sheetOf bytes)) (lend s m) refl (is= _ _ q) refl)))
+    go false q h = absurd (false≢true (sym q ∙ yes= h))
+
+-- the sheet stays that of the load
+starts-sheet : (bytes s : List ℕ) (k : ℕ) → sheetIn (startsOn bytes s k .state) ≡ sheetIn s
+unfolding startsOn
+starts-sheet bytes s zero = refl
+starts-sheet bytes s (suc k) = go (startsOn bytes s k .refusal =? 0) (starts-sheet bytes s k)
+  where
+    next : (r : List ℕ) (x : Call) → isLoad x ≡ false → sheetIn (after x (lendState r) .state) ≡ sheetIn r
+    next r x n = after-has (λ (w : Lent). sheetIn (w .state) ≡ sheetIn r) x (lendState r) (λ e. sheet-same x (lendState r) n e) refl
+
+    go : (t : Bool) → sheetIn (startsOn bytes s k .state) ≡ sheetIn s
+        → sheetIn (pick t (called (startAt bytes (transferPlace bytes k)) (lendState (startsOn bytes s k .state))) (startsOn bytes s k) .state) ≡ sheetIn s
+    go true before = next _ (startAt bytes (transferPlace bytes k)) (start-loads-not bytes _) ∙ before
+    go false before = before
+
+pub calls-sheet : (bytes s m : List ℕ) → callsOn bytes s m .refusal ≡ 0 → sheetIn (callsOn bytes s m .state) ≡ meant (sheetOf bytes)
+calls-sheet bytes s m e =
+    ap (λ (c : Called). sheetIn (c .state)) (load-first bytes s m e .1)
+    ∙ starts-sheet bytes (loaded (meant (sheetOf bytes)) s) (transfers bytes)
+    ∙ loaded-sheet (meant (sheetOf bytes)) s
 
 -- all of it upon a state of zeros and the memories of the input
 module _ (bytes s m : List ℕ) {s′ : List ℕ} {r : ℕ} (e : inputMessage bytes ≡ Runs) (p : s ≡ replicate stateWords 0) (q : m ≡ memoryOf bytes)

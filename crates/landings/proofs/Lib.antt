@@ -3,5 +3,6 @@ pub mod PageLaws
 pub mod CarriedLaws
 pub mod CallLaws
 pub mod OutputLaws
+pub mod RestLaws
 pub mod PagingLaws
 pub mod SessionLaws

@@ -11,7 +11,7 @@ use lib.Seq.{take-append-seam, drop-at, length-take-le}
 use Rattle.words.specs.Inner.Puts.{putAll}
 use Rattle.words.proofs.WordLaws.{length-putAll, putAll-front}
 use Rattle.sheet.specs.Sheet.{meant, nodes}
-use Rattle.network.specs.Registers.{stateWords}
+use Rattle.network.specs.Registers.{sheetIn, stateWords}
 use Rattle.soundness.proofs.SheetLaws.{sheet-bounds}
 use Rattle.session.specs.Calls.{memoryNumber, Lent, cycle, after, lend}
 use Rattle.listing.specs.Text.{lineEnd, field}
@@ -27,7 +27,7 @@ use Rattle.landings.specs.Output.{heading, beforeCycles, allLines, print
 use Rattle.landings.proofs.MessageLaws.{whole, isRuns}
 use Rattle.landings.proofs.PageLaws.{lines-short}
 use Rattle.landings.proofs.CarriedLaws.{carried-most, last-short}
-use Rattle.landings.proofs.CallLaws.{calls-ready}
+use Rattle.landings.proofs.CallLaws.{calls-ready, calls-sheet}
 
 -- a text has a part between two others
 pub has-between : (before part behind : List ℕ) {text : List ℕ} {place : ℕ}
@@ -216,6 +216,11 @@ unfolding beforeCycles calls
 before-ready bytes e f =
     ap (λ (x : Lent). memoryNumber (x .state) (x .memory)) f
     ∙ calls-ready bytes (replicate stateWords 0) (memoryOf bytes) (runs-called bytes e)
+
+-- and hold the input's sheet
+pub before-sheet : (bytes : List ℕ) → message bytes ≡ Runs → sheetIn (beforeCycles bytes .state) ≡ meant (sheetOf bytes)
+unfolding beforeCycles calls
+before-sheet bytes e = calls-sheet bytes (replicate stateWords 0) (memoryOf bytes) (runs-called bytes e)
 
 -- the output is the heading and the lines, by the nodes and cycles of the input
 pub lines-are : (bytes : List ℕ) (n last : ℕ) → message bytes ≡ Runs → n ≡ nodes (meant (sheetOf bytes)) → last ≡ cyclesAsked bytes

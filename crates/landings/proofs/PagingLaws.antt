@@ -7,13 +7,16 @@ use native.Mathlib.Omega.{arith}
 use native.Mathlib.Nat.{add-zero, zero-add}
 use native.Mathlib.Decide.{decLt}
 use lib.ListN.{length, length-append}
+use Rattle.sheet.specs.Sheet.{nodes}
+use Rattle.network.specs.Registers.{sheetIn}
 use Rattle.session.specs.Calls.{memoryNumber, Lent, lend, cycle, number}
 use Rattle.landings.specs.Lines.{cyclesLines, cyclesOn, carriedOut, refusedLine, lastLine}
 use Rattle.landings.specs.Inner.Pages.{ReadyToList, Paged}
 use Rattle.landings.specs.Output.{heading, beforeCycles, printout, HasAt}
 use Rattle.landings.specs.Inner.Ended.{cyclesListed}
 use Rattle.landings.proofs.CarriedLaws.{carried-past, carried-stop, carried-all, last-none, last-refused}
-use Rattle.landings.proofs.OutputLaws.{has-between, has-back, cycles-behind, lines-behind, before-ready, lines-are}
+use Rattle.landings.proofs.OutputLaws.{has-between, has-back, cycles-behind, lines-behind, before-ready, before-sheet, lines-are}
+use Rattle.landings.proofs.RestLaws.{cycles-sheet}
 
 pub record Paging (bytes : List ℕ) (n last : ℕ) (s₀ m₀ buffer₀ s m buffer : List ℕ) (place time : ℕ) : Type 0 where
   pub in-time : time ≤ last
@@ -40,6 +43,18 @@ page-start bytes n last s m buffer place g p = record {
   memory-long = refl;
   long = refl;
 }
+
+-- the state's sheet has the input's nodes
+pub page-nodes : (bytes : List ℕ) (n last : ℕ) (s₀ m₀ buffer₀ s m buffer : List ℕ) (place time : ℕ)
+    → Paging bytes n last s₀ m₀ buffer₀ s m buffer place time
+    → ReadyToList bytes s₀ m₀ n last
+    → n ≡ nodes (sheetIn s)
+page-nodes bytes n last s₀ m₀ buffer₀ s m buffer place time i g =
+    g .all-nodes
+    ∙ sym (ap nodes
+    (ap (λ (w : Lent). sheetIn (w .state)) (i .words)
+    ∙ cycles-sheet time (beforeCycles bytes)
+    ∙ before-sheet bytes (g .runs)))
 
 -- a page more
 module _ (bytes : List ℕ) (n last : ℕ) (s₀ m₀ buffer₀ s m buffer : List ℕ) (place time : ℕ)

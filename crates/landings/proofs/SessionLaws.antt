@@ -14,7 +14,6 @@ use Rattle.network.specs.Registers.{stateWords}
 use Rattle.sheet.specs.Sheet.{meant}
 use Rattle.session.specs.Calls.{loaded, Lent, lend, lendState, Call, load, cycle, isLoad, number, after, afterAll}
 use Rattle.session.proofs.AloneLaws.{after-alone}
-use Rattle.session.proofs.WritingLaws.{state-written}
 use Rattle.isolation.specs.Sessions.{LoadsRefused, Session, standing}
 use Rattle.isolation.proofs.DemandProved.{demand3}
 use Rattle.landings.specs.declared.input.Message.the-variants.{Runs}
@@ -24,7 +23,7 @@ use Rattle.landings.specs.Lines.{cyclesOn, lastLine}
 use Rattle.landings.specs.Output.{beforeCycles}
 use Rattle.landings.specs.Inner.Ended.{cyclesListed}
 use Rattle.landings.proofs.CarriedLaws.{carried-all, last-none}
-use Rattle.landings.proofs.CallLaws.{start-alone}
+use Rattle.landings.proofs.CallLaws.{start-alone, load-first}
 use Rattle.landings.proofs.OutputLaws.{runs-called}
 
 -- calls one behind the other
@@ -88,24 +87,6 @@ after-all-starts bytes s m (suc k) e = go (startsOn bytes s k .refusal =? 0) ref
         ∙ ap (after (startCall bytes k)) (before (is= _ _ q))
         ∙ after-alone (startsOn bytes s k .state) m (startCall bytes k) (start-alone bytes (transferPlace bytes k))
     go false q h before = absurd (false≢true (sym q ∙ yes= h))
-
--- the load is carried out where no call is refused, and the starts upon it
-load-first : (bytes s m : List ℕ) → callsOn bytes s m .refusal ≡ 0
-    → (number (load (sheetOf bytes)) (lend s m) ≡ 0)
-    × (callsOn bytes s m ≡ startsOn bytes (loaded (meant (sheetOf bytes)) s) (transfers bytes))
-unfolding callsOn
-load-first bytes s m e = go (number (load (sheetOf bytes)) (lend s m) =? 0) refl e
-  where
-    starts : List ℕ → Called
-    starts x = startsOn bytes x (transfers bytes)
-
-    go : (t : Bool) → (number (load (sheetOf bytes)) (lend s m) =? 0) ≡ t
-        → pick t (starts (after (load (sheetOf bytes)) (lend s m) .state)) (called (load (sheetOf bytes)) (lend s m)) .refusal ≡ 0
-        → (number (load (sheetOf bytes)) (lend s m) ≡ 0)
-        × (pick t (starts (after (load (sheetOf bytes)) (lend s m) .state)) (called (load (sheetOf bytes)) (lend s m))
-        ≡ starts (loaded (meant (sheetOf bytes)) s))
-    go true q h = (is= _ _ q, ap starts (sym (state-written (load (sheetOf bytes)) (lend s m) refl (is= _ _ q) refl)))
-    go false q h = absurd (false≢true (sym q ∙ yes= h))
 
 -- the load, the starts and so many cycles, as a session
 take-cycles : (t n : ℕ) → t ≤ n → take t (replicate n cycle) ≡ replicate t cycle

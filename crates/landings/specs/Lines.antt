@@ -4,13 +4,9 @@ use mathlib.Core.List.{List, [], _++_}
 use Rattle.words.specs.Tests.{_≤?_, _=?_}
 use Rattle.words.specs.Words.{pick, leastFrom}
 use Rattle.network.specs.View.{Landing, nothing, landed}
-use Rattle.session.specs.Calls.{Lent, cycle, number, after, lastLanding}
+use Rattle.session.specs.Calls.{Lent, cycle, number, lastLanding}
+unfoldable pub use Rattle.session.specs.Inner.Resting.{cyclesOn}
 use Rattle.listing.specs.Text.{lineEnd, field, landingLine, refused}
-
--- what was lent after so many cycles
-unfoldable pub cyclesOn : ℕ → Lent → Lent
-cyclesOn zero w = w
-cyclesOn (suc k) w = after cycle (cyclesOn k w)
 
 -- a node's line for a cycle, where something landed
 abbrev pub lineFor : ℕ → ℕ → Landing → List ℕ

@@ -3,7 +3,10 @@ ghost use mathlib.Core.Path.{_≡_};
 ghost use Prim.Native.Nat.{_+_, _*_, _≤_};
 ghost use lib.ListN.{length, take};
 ghost use Rattle.words.specs.Inner.Puts.{putAll};
-ghost use Rattle.session.specs.Calls.{memoryNumber, lastLanding, lend};
+ghost use Rattle.sheet.specs.Sheet.{nodes as nodeCount};
+ghost use Rattle.network.specs.Registers.{sheetIn};
+ghost use Rattle.session.specs.Calls.{stateNumber, memoryNumber, lastLanding, lend};
+ghost use Rattle.session.specs.Inner.Resting.{Rested};
 ghost use Rattle.landings.specs.Lines.{lineFor, cycleLines, cyclesLines, cyclesOn};
 ghost use Rattle.landings.specs.Inner.Pages.{Paged};
 use session::Landed;
@@ -50,6 +53,17 @@ fn put_cycle(s: &[u32], nodes: u32, time: u32, buffer: &mut [u8], at: usize) -> 
     place
 }
 
+// Crosses the cycles behind one that has no line, as long as nothing moves; behind one that has, words are likely to move on.
+fn cross(s: &mut [u32], lines: usize, most: u32) -> u32
+    requires { ⌜ stateNumber (now s) ≡ 0 ⌝ }
+    ensures { λ r. ⌜ Rested most (now (s .entry)) (now (s .exit)) r ⌝ }
+{
+    if lines != 0 {
+        return 0;
+    }
+    session::rest(s, most)
+}
+
 // Runs the cycles from `first` on and before `last`, up to one that is refused, and fills the buffer with their lines, as many as surely
 // fit. The program meets the requires: load and starts were carried out.
 pub fn fill(
@@ -60,7 +74,7 @@ pub fn fill(
     last: u32,
     buffer: &mut [u8],
 ) -> Page
-    requires { ⌜ (memoryNumber (now s) (now m) ≡ 0) × (nodes ≤ 16) × (first ≤ last) × (length (now buffer) ≡ 65536) ⌝ }
+    requires { ⌜ (memoryNumber (now s) (now m) ≡ 0) × (nodes ≤ 16) × (first ≤ last) × (length (now buffer) ≡ 65536) × (nodes ≡ nodeCount (sheetIn (now s))) ⌝ }
     ensures cycles { λ r. ⌜ Paged first last (lend (now (s .entry)) (now (m .entry))) (r .cycles) (r .refusal) ⌝ }
     ensures words { λ r. ⌜ lend (now (s .exit)) (now (m .exit)) ≡ cyclesOn (r .cycles) (lend (now (s .entry)) (now (m .entry))) ⌝ }
     ensures lines { λ r. ⌜ take (r .place) (now (buffer .exit)) ≡ cyclesLines nodes first (r .cycles) (lend (now (s .entry)) (now (m .entry))) ⌝ }
@@ -86,8 +100,10 @@ pub fn fill(
                 refusal: number,
             };
         }
-        at = put_cycle(s, nodes, time, buffer, at);
+        let end = put_cycle(s, nodes, time, buffer, at);
         time += 1;
+        time += cross(s, end - at, last - time);
+        at = end;
     }
     Page {
         place: at,

@@ -20,39 +20,26 @@ use Rattle.sheet.specs.Slots.{slotLength}
 use Rattle.sheet.proofs.PassedLaws.{nodes-few, in-grid}
 use Rattle.network.specs.View.{Sender}
 use Rattle.network.specs.Cycle.{hasExtra, move, stepSender}
-use Rattle.network.specs.Registers.{reg, sheetIn, room, movingWords, clockRow, cyclePlace, numberPlace, inForcePlace, orderMarkPlace}
-use Rattle.network.specs.Registers.{orderSchedulePlace, orderPeriodPlace, linkMark, linkWord, outMark, outWord, receiveMark, receiveKind}
+use Rattle.network.specs.Registers.{reg, sheetIn, room, movingWords, clockRow, cyclePlace, inForcePlace}
+use Rattle.network.specs.Registers.{linkMark, linkWord, outMark, outWord, receiveMark, receiveKind}
 use Rattle.network.specs.Registers.{receiveAddress, leftRow, readRow, writeRow, kindRow, toGoRow, at, rowCount, rowWords, clockWords, headMark}
 use Rattle.network.specs.Registers.{headWord, choiceRow, latchRow, landingMark, landingKind, landingAddress, landingWord, extraMark, extraWord}
 use Rattle.network.specs.Seen.{seenSender}
 use Rattle.network.specs.Inner.Machine.{endMark, endWord, neighbourPlace, nextExtraMark, nextExtraWord, slotIn, nextSender, sourceMark, sourceWord, nextLinkMark, nextLinkWord, nextOutMark}
 use Rattle.network.specs.Inner.Machine.{nextOutWord, memoryMark, memoryWord, nextReceiveMark, nextReceiveKind, nextReceiveAddress, nextLandingMark}
-use Rattle.network.specs.Inner.Machine.{memoryAfter, straysIn, turns, isDue, nextClock, rowIn, nextRows, nextInRow, nextState, nextMemory}
+use Rattle.network.specs.Inner.Machine.{memoryAfter, straysIn, nextClock, rowIn, nextRows, nextInRow, nextState, nextMemory}
 use Rattle.network.specs.Inner.Stages.{stage, linkFrom, outFrom}
 use Rattle.network.proofs.RowCases.{Each, that-is-all, _also_, found-number, by-row, clock-extent, router-extent, node-extent, circuit-extent, extra-extent}
-use Rattle.network.proofs.RowLaws.{next-row, next-off, next-rest, sender-same}
+use Rattle.network.proofs.RowLaws.{next-row, next-off, next-rest, sender-same, clock-same}
 use Rattle.network.proofs.ExtraLaws.{end-low, end-high, end-behind}
 use Rattle.network.proofs.StepLaws.{state-length}
-use Rattle.network.proofs.FillLaws.{restated, stage-length, stage-rest, stage-sheet, stage-here, stage-off}
+use Rattle.network.proofs.FillLaws.{same-words, off, here, stage-length, stage-rest, stage-sheet}
 use Rattle.sources.specs.Inner.Slots.{slotTable}
 use Rattle.sources.specs.Inner.Steps.{Sending, Steppable}
 use Rattle.receivers.specs.Inner.Required.{Receivable, Clocked}
 use Rattle.receivers.proofs.StrayLaws.{none-strays}
 use Rattle.machine.specs.Inner.Ready.{Ready}
 use Rattle.machine.specs.Inner.Tables.{Tables}
-
--- words with the same registers and the same behind them are the same
-same-words : (a b : List ℕ) → movingWords ≤ length a → movingWords ≤ length b → drop movingWords a ≡ drop movingWords b
-    → ((row k : ℕ) → row < rowCount → k < rowWords → reg a row k ≡ reg b row k) → a ≡ b
-same-words a b la lb rest e = restated (reg b) b a la rest e ∙ sym (restated (reg b) b b lb refl (λ row k rl kl. refl))
-
--- a stage's words, by the equation that its function ensures
-module _ (low high n : ℕ) (f : ℕ → ℕ → ℕ) (s now : List ℕ) (e : now ≡ stage low high n f s) (row k : ℕ) (rl : row < rowCount) (kl : k < rowWords) where
-  off : (low ≤ row → row ≤ high → k < n → ⊥) → reg now row k ≡ reg s row k
-  off h = ap (λ (x : List ℕ). reg x row k) e ∙ stage-off low high n f s row k rl kl h
-
-  here : low ≤ row → row ≤ high → k < n → reg now row k ≡ f row k
-  here a b l = ap (λ (x : List ℕ). reg x row k) e ∙ stage-here low high n f s row k rl kl a b l
 
 -- The words s and m as the cycle begins, the tables made from them, and the words after each stage: the header stage, the links, the
 -- receive units, the extra registers, the outputs, the senders and the clock.
@@ -386,18 +373,7 @@ module _ (s m slots source-marks source-words out-marks out-words : List ℕ)
 
             -- the clock
             next-clock : (k : ℕ) → k < rowWords → nextClock sent k ≡ nextClock s k
-            unfolding nextClock isDue turns
-            next-clock k l =
-                rw (
-                  sent-sheet,
-                  sent-clock cyclePlace (omega arith),
-                  sent-clock numberPlace (omega arith),
-                  sent-clock inForcePlace (omega arith),
-                  sent-clock orderMarkPlace (omega arith),
-                  sent-clock orderSchedulePlace (omega arith),
-                  sent-clock orderPeriodPlace (omega arith),
-                  sent-clock k l,
-                ) refl
+            next-clock = clock-same s sent sent-sheet sent-clock
 
             -- what the clock requires
             pub sent-ready : Clocked sent

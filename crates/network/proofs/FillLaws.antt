@@ -204,3 +204,16 @@ staged-is low high n f s now long g =
         g .done row k (is≤ low row (and-left _ _ e)) (is≤ row high (and-left _ _ inner)) (is< k n (and-right (row ≤? high) _ inner))
     go row k rl kl false e =
         g .kept row k rl kl (λ a b l. false≢true (sym e ∙ and-both (yes≤ a) (and-both (yes≤ b) (yes< l))))
+
+-- words with the same registers and the same behind them are the same
+pub same-words : (a b : List ℕ) → movingWords ≤ length a → movingWords ≤ length b → drop movingWords a ≡ drop movingWords b
+    → ((row k : ℕ) → row < rowCount → k < rowWords → reg a row k ≡ reg b row k) → a ≡ b
+same-words a b la lb rest e = restated (reg b) b a la rest e ∙ sym (restated (reg b) b b lb refl (λ row k rl kl. refl))
+
+-- a stage's words, by the equation that its function ensures
+module _ (low high n : ℕ) (f : ℕ → ℕ → ℕ) (s now : List ℕ) (e : now ≡ stage low high n f s) (row k : ℕ) (rl : row < rowCount) (kl : k < rowWords) where
+  pub off : (low ≤ row → row ≤ high → k < n → ⊥) → reg now row k ≡ reg s row k
+  off h = ap (λ (x : List ℕ). reg x row k) e ∙ stage-off low high n f s row k rl kl h
+
+  pub here : low ≤ row → row ≤ high → k < n → reg now row k ≡ f row k
+  here a b l = ap (λ (x : List ℕ). reg x row k) e ∙ stage-here low high n f s row k rl kl a b l

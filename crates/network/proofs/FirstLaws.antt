@@ -1,7 +1,8 @@
 -- The first mark that is not empty, and the word beside it: where all are empty it is 0.
 -- Assumes nothing.
-use Prim.Native.Nat.{ℕ, zero, suc}
+use Prim.Native.Nat.{ℕ, zero, suc, _<_}
 use mathlib.Core.Path.{_≡_, refl, _∙_, sym}
+use native.Mathlib.Omega.{arith}
 use native.Mathlib.Decide.{ℕ-discrete}
 use Rattle.words.proofs.TestLaws.{yes=, no=}
 use Rattle.network.specs.Inner.Machine.{firstMark, firstWord}
@@ -19,6 +20,11 @@ module _ (marks : ℕ → ℕ) where
   word-over : (words : ℕ → ℕ) (n : ℕ) → firstMark n marks ≡ 0 → marks n ≡ 0 → firstWord (suc n) marks words ≡ 0
   unfolding firstWord
   word-over words n h e = rw (yes= h, yes= e, firstWord)
+
+  -- all are empty, one by one
+  pub first-empty : (n : ℕ) → ((k : ℕ) → k < n → marks k ≡ 0) → firstMark n marks ≡ 0
+  first-empty zero h = first-none
+  first-empty (suc n) h = first-next n (first-empty n (λ k l. h k (omega arith))) ∙ h n (omega arith)
 
   -- one is not empty: it stays
   first-stays : (n v : ℕ) → firstMark n marks ≡ v → (v ≡ 0 → ⊥) → firstMark (suc n) marks ≡ v

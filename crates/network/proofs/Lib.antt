@@ -12,3 +12,5 @@ pub mod PartLaws
 pub mod PutLaws
 pub mod FillLaws
 pub mod OneMachineProved
+pub mod QuietLaws
+pub mod RestLaws

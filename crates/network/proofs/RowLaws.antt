@@ -161,6 +161,22 @@ clock-after s m = record {
   order-period = next-row s m clockRow orderPeriodPlace (omega arith) (omega arith) (omega arith);
 }
 
+-- the clock's row after a cycle of words with the same clock and the same sheet
+pub clock-same : (s t : List ℕ) → sheetIn t ≡ sheetIn s → ((k : ℕ) → k < rowWords → reg t clockRow k ≡ reg s clockRow k)
+    → (k : ℕ) → k < rowWords → nextClock t k ≡ nextClock s k
+unfolding nextClock isDue turns
+clock-same s t sheet same k l =
+    rw (
+      sheet,
+      same cyclePlace (omega arith),
+      same numberPlace (omega arith),
+      same inForcePlace (omega arith),
+      same orderMarkPlace (omega arith),
+      same orderSchedulePlace (omega arith),
+      same orderPeriodPlace (omega arith),
+      same k l,
+    ) refl
+
 -- a place without an extra register keeps its words
 module _ (s m : List ℕ) (k : ℕ) (kl : k < rowWords) (none : hasExtra (sheetIn s) (k % 5) ≡ false) where
   mark-kept : reg (nextState s m) extraMark k ≡ reg s extraMark k

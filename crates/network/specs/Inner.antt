@@ -1,3 +1,4 @@
 pub mod Machine
 pub mod Paired
 pub mod Stages
+pub mod Quiet

@@ -133,10 +133,10 @@ low-more v b n =
     ∙ one-more (v / 2 ^ b % 2) (v / 2 ^ b / 2 % 2 ^ n) (mod-lt _ (zero-lt-suc 1))
     ∙ ap (λ (m : ℕ). v / 2 ^ b % 2 =? 1 or m % 2 ^ n ≠? 0) (shr-shr v b 1)
 
--- a mask of a slot has at most sixty-four bits
-pub mask-small : (b n : ℕ) → b < 32 → n ≤ 16 → slotMask b n < 2 ^ 64
+-- a mask within sixty-four bits
+pub mask-small : (b n : ℕ) → b + n ≤ 64 → slotMask b n < 2 ^ 64
 unfolding slotMask
-mask-small b n h l =
+mask-small b n h =
     let wide : n + b ≤ 64 = omega arith in
     lt-of-lt-of-le (shl-lt n b (ones-lt n)) (pow-mono wide)
 
@@ -148,4 +148,4 @@ one-shifted n l =
 
 pub mask-shifted : (b n : ℕ) → b < 32 → n ≤ 16 → (1 * 2 ^ n % 2 ^ 64 - 1) * 2 ^ b % 2 ^ 64 ≡ slotMask b n
 unfolding slotMask
-mask-shifted b n h l = ap (λ (m : ℕ). (m - 1) * 2 ^ b % 2 ^ 64) (one-shifted n l) ∙ mod-eq-of-lt (mask-small b n h l)
+mask-shifted b n h l = ap (λ (m : ℕ). (m - 1) * 2 ^ b % 2 ^ 64) (one-shifted n l) ∙ mod-eq-of-lt (mask-small b n (omega arith))

@@ -1,23 +1,23 @@
 -- What a table holds after a run of places is taken: those places besides those before, in words as small as before.
 -- Assumes nothing.
 use Prim.Native.Nat.{ℕ, zero, suc, _+_, _-_, _*_, _/_, _%_, _^_, _<_, _≤_}
-use mathlib.Core.Bool.{Bool, true, false}
+use mathlib.Core.Bool.{Bool, true, false, not, false≢true}
 use mathlib.Core.List.{List, [], _∷_}
-use mathlib.Core.Path.{_≡_, sym, ap, ap₂, _∙_}
+use mathlib.Core.Path.{_≡_, refl, sym, ap, ap₂, _∙_, subst}
 use native.Mathlib.Omega.{arith}
 use native.Mathlib.Decide.{decLt, ℕ-discrete}
 use native.Mathlib.Nat.{mod-lt, zero-div, zero-mul, mod-add-div'}
-use lib.Bits.{bitOr, or-lt, or-comm, or-zero-r}
+use lib.Bits.{bitOr, bitAnd, or-lt, or-comm, or-zero-r}
 use lib.ListN.{length, set, replicate, length-set}
 use lib.Pow.{pow-pos, shr-lt}
 use lib.Seq.{getD-set-same, getD-set-other, set-getD}
-use Rattle.words.specs.Tests.{_and_, _or_, _≤?_, _<?_, _=?_}
+use Rattle.words.specs.Tests.{_and_, _or_, _≤?_, _<?_, _=?_, _≠?_}
 use Rattle.words.specs.Words.{word}
-use Rattle.words.proofs.TestLaws.{and-both, and-no, and-no-right, or-yes, or-on, yes≤, no≤, yes<, no<, yes=, no=}
+use Rattle.words.proofs.TestLaws.{and-both, and-no, and-no-right, or-yes, or-on, yes≤, no≤, yes<, no<, yes=, no=, yes≠, no≠}
 use Rattle.words.proofs.WordLaws.{word-zeros}
-use Rattle.occupancy.specs.Inner.Occupancy.{bitAt, taken, run, listed, window, slotMask, takeRun, Takes}
-use Rattle.occupancy.proofs.BitLaws.{bit-or, bit-mask, mask-small}
-use Rattle.occupancy.proofs.WindowLaws.{window-low, window-high, window-bit}
+use Rattle.occupancy.specs.Inner.Occupancy.{bitAt, taken, run, listed, window, slotMask, anyTaken, takeRun, Takes, TakenIfFree}
+use Rattle.occupancy.proofs.BitLaws.{bit-or, bit-mask, mask-small, and-mask-none}
+use Rattle.occupancy.proofs.WindowLaws.{window-low, window-high, window-bit, any-bits}
 
 -- the range of a run: before it, in it, past it
 module _ (p n x : ℕ) where
@@ -83,62 +83,86 @@ window-small : (table : List ℕ) (q : ℕ) → ((x : ℕ) → word table x < 2 
 unfolding window
 window-small table q small = omega (arith, small q, small (q + 1))
 
-module _ (table : List ℕ) (place size : ℕ) where
+-- the two words from q on written anew, with the ones of a mask besides theirs
+abbrev pub takeMask : List ℕ → ℕ → ℕ → List ℕ
+takeMask table q mask =
+    set (set table q (bitOr (window table q) mask % 2 ^ 32)) (q + 1) (bitOr (window table q) mask / 2 ^ 32)
+
+-- the second word is small
+pub second-small : (table : List ℕ) (q mask : ℕ) → ((x : ℕ) → word table x < 2 ^ 32) → mask < 2 ^ 64 → bitOr (window table q) mask / 2 ^ 32 < 2 ^ 32
+second-small table q mask small h = shr-lt 32 32 (or-lt 64 _ _ (window-small table q small) h)
+
+module _ (table : List ℕ) (q bit size : ℕ) where
   abbrev both : ℕ
-  both = bitOr (window table (place / 32)) (slotMask (place % 32) size)
+  both = bitOr (window table q) (slotMask bit size)
 
-  -- the second word is small, and so the words stay small
-  pub second-small : ((x : ℕ) → word table x < 2 ^ 32) → size ≤ 16 → both / 2 ^ 32 < 2 ^ 32
-  second-small small few =
-      shr-lt 32 32 (or-lt 64 _ _ (window-small table (place / 32) small) (mask-small (place % 32) size (omega arith) few))
-
-  pub words-small : ((x : ℕ) → word table x < 2 ^ 32) → size ≤ 16 → (x : ℕ) → word (takeRun table place size) x < 2 ^ 32
-  unfolding takeRun
-  words-small small few =
-      two-small table (place / 32) (both % 2 ^ 32) (both / 2 ^ 32) (2 ^ 32) small (mod-lt both (pow-pos 32)) (second-small small few)
+  abbrev after : List ℕ
+  after = takeMask table q (slotMask bit size)
 
   -- a place out of the window is as it was
-  taken-other : (x : ℕ) → (x / 32 ≡ place / 32 → ⊥) → (x / 32 ≡ place / 32 + 1 → ⊥) → taken (takeRun table place size) x ≡ taken table x
-  unfolding taken takeRun
+  taken-other : (x : ℕ) → (x / 32 ≡ q → ⊥) → (x / 32 ≡ q + 1 → ⊥) → taken after x ≡ taken table x
+  unfolding taken
   taken-other x other-first other-second =
-      ap (λ (w : ℕ). bitAt w (x % 32) =? 1) (two-other table (place / 32) (both % 2 ^ 32) (both / 2 ^ 32) (x / 32) other-first other-second)
+      ap (λ (w : ℕ). bitAt w (x % 32) =? 1) (two-other table q (both % 2 ^ 32) (both / 2 ^ 32) (x / 32) other-first other-second)
 
   -- the window after is the union of the window before and the mask
-  window-after : 1 ≤ size → place + size + 32 ≤ 32 * length table → window (takeRun table place size) (place / 32) ≡ both
-  unfolding takeRun
-  window-after some fits =
-      two-window table (place / 32) (both % 2 ^ 32) (both / 2 ^ 32) (omega arith) ∙ mod-add-div' both (2 ^ 32)
+  window-after : q + 1 < length table → window after q ≡ both
+  window-after fits = two-window table q (both % 2 ^ 32) (both / 2 ^ 32) fits ∙ mod-add-div' both (2 ^ 32)
 
-  module _ (small : (x : ℕ) → word table x < 2 ^ 32) (some : 1 ≤ size) (few : size ≤ 16) (fits : place + size + 32 ≤ 32 * length table) where
-    -- a place in the window is taken where the mask has its bit, or it was taken before
-    taken-bit : (i : ℕ) → i < 64
-        → taken (takeRun table place size) (32 * (place / 32) + i)
-        ≡ (listed (32 * (place / 32) + i) (run size place) or taken table (32 * (place / 32) + i))
-    taken-bit i h =
-        let e : 32 * (place / 32) + place % 32 ≡ place = omega arith in
-        window-bit (takeRun table place size) (place / 32) (words-small small few (place / 32)) i h
-        ∙ ap (λ (v : ℕ). bitAt v i =? 1) (window-after some fits ∙ or-comm (window table (place / 32)) (slotMask (place % 32) size))
-        ∙ bit-or (slotMask (place % 32) size) (window table (place / 32)) i
-        ∙ ap₂ _or_
-        (bit-mask (place % 32) size i
-        ∙ sym (listed-shift (32 * (place / 32)) size (place % 32) i)
-        ∙ ap (λ (p : ℕ). listed (32 * (place / 32) + i) (run size p)) e)
-        (sym (window-bit table (place / 32) (small (place / 32)) i h))
+  module _ (small : (x : ℕ) → word table x < 2 ^ 32) (wide : bit + size ≤ 64) where
+    -- the words stay small
+    words-small : (x : ℕ) → word after x < 2 ^ 32
+    words-small = two-small table q (both % 2 ^ 32) (both / 2 ^ 32) (2 ^ 32) small (mod-lt both (pow-pos 32))
+        (second-small table q (slotMask bit size) small (mask-small bit size wide))
 
-    taken-after : (x : ℕ) → taken (takeRun table place size) x ≡ (listed x (run size place) or taken table x)
-    taken-after x = go (decLt x (32 * (place / 32))) (decLt x (32 * (place / 32) + 64))
-      where
-        go : Dec (x < 32 * (place / 32)) → Dec (x < 32 * (place / 32) + 64)
-            → taken (takeRun table place size) x ≡ (listed x (run size place) or taken table x)
-        go (yes h) l =
-            or-on (listed-run size place x ∙ range-before place size x (omega arith))
-            (taken-other x (λ e. omega arith) (λ e. omega arith))
-        go (no h) (no l) =
-            or-on (listed-run size place x ∙ range-past place size x (omega arith))
-            (taken-other x (λ e. omega arith) (λ e. omega arith))
-        go (no h) (yes l) =
-            let e : 32 * (place / 32) + (x - 32 * (place / 32)) ≡ x = omega arith in
-            rw e at (taken-bit (x - 32 * (place / 32)) (omega arith))
+    module _ (fits : q + 1 < length table) where
+      -- a place in the window is taken where the mask has its bit, or it was taken before
+      taken-bit : (i : ℕ) → i < 64 → taken after (32 * q + i) ≡ (listed (32 * q + i) (run size (32 * q + bit)) or taken table (32 * q + i))
+      taken-bit i h =
+          window-bit after q (words-small q) i h
+          ∙ ap (λ (v : ℕ). bitAt v i =? 1) (window-after fits ∙ or-comm (window table q) (slotMask bit size))
+          ∙ bit-or (slotMask bit size) (window table q) i
+          ∙ ap₂ _or_ (bit-mask bit size i ∙ sym (listed-shift (32 * q) size bit i)) (sym (window-bit table q (small q) i h))
+
+      taken-after : (x : ℕ) → taken after x ≡ (listed x (run size (32 * q + bit)) or taken table x)
+      taken-after x = go (decLt x (32 * q)) (decLt x (32 * q + 64))
+        where
+          go : Dec (x < 32 * q) → Dec (x < 32 * q + 64) → taken after x ≡ (listed x (run size (32 * q + bit)) or taken table x)
+          go (yes h) l =
+              or-on (listed-run size (32 * q + bit) x ∙ range-before (32 * q + bit) size x (omega arith))
+              (taken-other x (λ e. omega arith) (λ e. omega arith))
+          go (no h) (no l) =
+              or-on (listed-run size (32 * q + bit) x ∙ range-past (32 * q + bit) size x (omega arith))
+              (taken-other x (λ e. omega arith) (λ e. omega arith))
+          go (no h) (yes l) =
+              let e : 32 * q + (x - 32 * q) ≡ x = omega arith in
+              rw e at (taken-bit (x - 32 * q) (omega arith))
+
+      -- the mask's places are taken besides those before
+      pub takes-mask : Takes table after (run size (32 * q + bit))
+      takes-mask = record { same-length = simp length-set; besides = taken-after }
+
+-- the answers of taking a mask's places: one of them was taken, or none was
+module _ (table : List ℕ) (q mask : ℕ) (small : (x : ℕ) → word table x < 2 ^ 32) {v : ℕ} (w : v ≡ window table q) where
+  found : (bit size : ℕ) → mask ≡ slotMask bit size → bit + size ≤ 64 → (bitAnd v mask ≠? 0) ≡ anyTaken table (run size (32 * q + bit))
+  found bit size m wide =
+      ap₂ (λ (x y : ℕ). bitAnd x y ≠? 0) w m ∙ and-mask-none (window table q) bit size ∙ sym (any-bits table q (small q) size bit wide)
+
+  pub mask-taken : (bitAnd v mask ≡ 0 → ⊥) → TakenIfFree table table q mask false
+  mask-taken ne = record {
+    same-length = refl;
+    free = λ bit size m wide. ap not (sym (yes≠ ne) ∙ found bit size m wide);
+    now-taken = λ bit size m wide e. absurd (false≢true e);
+  }
+
+  pub mask-free : q + 1 < length table → bitAnd v mask ≡ 0 → (after : List ℕ) → after ≡ takeMask table q mask → TakenIfFree table after q mask true
+  mask-free fits none after e = record {
+    same-length = ap length e ∙ simp length-set;
+    free = λ bit size m wide. ap not (sym (no≠ none) ∙ found bit size m wide);
+    now-taken = λ bit size m wide t.
+        subst (λ (x : List ℕ). Takes table x (run size (32 * q + bit))) (sym (e ∙ ap (takeMask table q) m))
+        (takes-mask table q bit size small wide fits);
+  }
 
 -- a run of no places changes nothing
 take-none : (table : List ℕ) (place : ℕ) → word table (place / 32) < 2 ^ 32 → takeRun table place 0 ≡ table
@@ -152,21 +176,20 @@ take-none table place small =
     ∙ ap (λ (l : List ℕ). set l (q + 1) (word table (q + 1))) (set-getD table q 0)
     ∙ set-getD table (q + 1) 0
 
--- the places of the run are taken besides those before
-taken-run : (table : List ℕ) (place size : ℕ) → ((x : ℕ) → word table x < 2 ^ 32) → size ≤ 16
-    → place + size + 32 ≤ 32 * length table → (x : ℕ) → taken (takeRun table place size) x ≡ (listed x (run size place) or taken table x)
-unfolding run listed _or_
-taken-run table place zero small few fits x = ap (λ (l : List ℕ). taken l x) (take-none table place (small (place / 32)))
-taken-run table place (suc n) small few fits x = taken-after table place (suc n) small (omega arith) few fits x
-
-length-after : (table : List ℕ) (place size : ℕ) → length (takeRun table place size) ≡ length table
+run-by-mask : (table : List ℕ) (place size : ℕ) → ((x : ℕ) → word table x < 2 ^ 32) → place / 32 + 1 < length table → place % 32 + size ≤ 64
+    → Takes table (takeRun table place size) (run size (32 * (place / 32) + place % 32))
 unfolding takeRun
-length-after table place size = simp length-set
+run-by-mask table place size small fits wide = takes-mask table (place / 32) (place % 32) size small wide fits
 
+-- the places of a run are taken besides those before
 pub takes-run : (table : List ℕ) (place size : ℕ) → ((x : ℕ) → word table x < 2 ^ 32) → size ≤ 16
     → place + size + 32 ≤ 32 * length table → Takes table (takeRun table place size) (run size place)
-takes-run table place size small few fits =
-    record { same-length = length-after table place size; besides = taken-run table place size small few fits }
+unfolding run listed _or_
+takes-run table place zero small few fits = rw (take-none table place (small (place / 32))) (record { same-length = refl; besides = λ x. refl })
+takes-run table place (suc n) small few fits =
+    let e : 32 * (place / 32) + place % 32 ≡ place = omega arith in
+    subst (λ (p : ℕ). Takes table (takeRun table place (suc n)) (run (suc n) p)) e
+    (run-by-mask table place (suc n) small (omega arith) (omega arith))
 
 -- a table of words 0: in it no place is taken
 pub none-small : (n x : ℕ) → word (replicate n 0) x < 2 ^ 32

@@ -47,7 +47,7 @@ module _ (table : List ℕ) (q : ℕ) (small : word table q < 2 ^ 32) where
           (sym (ap (λ (n : ℕ). bitAt n (i - 32)) window-high) ∙ bit-high (window table q) 32 (i - 32) ∙ ap (bitAt (window table q)) g)
 
   -- a run within the window has a taken place where the bits of the run are not all 0
-  any-bits : (n b : ℕ) → b + n ≤ 64 → anyTaken table (run n (32 * q + b)) ≡ (window table q / 2 ^ b % 2 ^ n ≠? 0)
+  pub any-bits : (n b : ℕ) → b + n ≤ 64 → anyTaken table (run n (32 * q + b)) ≡ (window table q / 2 ^ b % 2 ^ n ≠? 0)
   unfolding anyTaken run
   any-bits zero b h = sym (low-none (window table q) b)
   any-bits (suc n) b h =

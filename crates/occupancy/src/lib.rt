@@ -3,7 +3,7 @@
 ghost use mathlib.Core.Path.{_≡_};
 ghost use Prim.Native.Nat.{_+_, _*_, _/_, _%_, _<_, _≤_};
 ghost use lib.ListN.{length};
-ghost use Rattle.occupancy.specs.Inner.Occupancy.{run, anyTaken, window as windowOf, slotMask, takeRun};
+ghost use Rattle.occupancy.specs.Inner.Occupancy.{run, anyTaken, window as windowOf, slotMask, takeRun, TakenIfFree};
 
 // The sixty-four places from word q on.
 fn window(table: &[u32], q: usize) -> u64
@@ -13,8 +13,8 @@ fn window(table: &[u32], q: usize) -> u64
     (table[q] as u64) + (table[q + 1] as u64) * 4294967296
 }
 
-// Ones at so many places from a bit on.
-fn slot_mask(bit: u32, size: u32) -> u64
+// Ones at so many places from a bit on. Whoever has a slot in its range meets the requires.
+pub fn slot_mask(bit: u32, size: u32) -> u64
     requires { ⌜ (bit < 32) × (size ≤ 16) ⌝ }
     ensures { λ r. ⌜ r ≡ slotMask bit size ⌝ }
 {
@@ -40,4 +40,19 @@ pub fn take_run(table: &mut [u32], place: usize, size: u32)
     let both = window(table, q) | slot_mask(bit, size);
     table[q] = (both % 4294967296) as u32;
     table[q + 1] = (both / 4294967296) as u32;
+}
+
+// Takes the places of a mask among the sixty-four from word q on, unless one of them is taken: whether it did.
+pub fn take_free(table: &mut [u32], q: usize, mask: u64) -> bool
+    requires { ⌜ q + 1 < length (now table) ⌝ }
+    ensures { λ r. ⌜ TakenIfFree (now (table .entry)) (now (table .exit)) q mask r ⌝ }
+{
+    let before = window(table, q);
+    if (before & mask) != 0 {
+        return false;
+    }
+    let both = before | mask;
+    table[q] = (both % 4294967296) as u32;
+    table[q + 1] = (both / 4294967296) as u32;
+    true
 }

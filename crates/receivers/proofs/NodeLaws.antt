@@ -1,19 +1,21 @@
 -- One node's part of the stage: its seven registers as the cycle wants them, nothing else.
 -- Assumes nothing.
-use Prim.Native.Nat.{ℕ, _+_, _<_, _≤_}
+use Prim.Native.Nat.{ℕ, _+_, _*_, _<_, _≤_}
 use mathlib.Core.List.{List, []}
 use mathlib.Core.Path.{_≡_, refl, sym, subst, _∙_, ap, ap₂}
 use native.Mathlib.Omega.{arith}
 use native.Mathlib.Decide.{decLe}
 use lib.ListN.{length}
+use lib.Seq.{set-getD}
 use Rattle.words.specs.Tests.{_≤?_, _=?_}
 use Rattle.words.specs.Words.{pick}
 use Rattle.packet.specs.Header.{kindOf, addressOf}
-use Rattle.network.specs.Registers.{reg, movingWords, receiveMark, receiveKind, receiveAddress, landingMark, landingKind, landingAddress, landingWord, outMark, outWord, rowCount, rowWords}
+use Rattle.network.specs.Registers.{reg, put, movingWords, receiveMark, receiveKind, receiveAddress, landingMark, landingKind, landingAddress, landingWord, outMark, outWord, rowCount, rowWords}
 use Rattle.network.specs.Inner.Machine.{memoryMark, memoryWord, nextReceiveMark, nextReceiveKind, nextReceiveAddress, nextLandingMark, rowIn, nextRows, nextInRow}
 use Rattle.network.proofs.FillLaws.{Wrote, wrote-one, wrote-more}
 use Rattle.receivers.specs.Inner.Required.{LandingFits}
 use Rattle.receivers.specs.Inner.Written.{landingPut, receivePut}
+use Rattle.receivers.proofs.UnitLaws.{mark-held, kind-held, address-held}
 
 -- what a node's part reads is in t as it is in s
 pub record SameAt (s t : List ℕ) (node : ℕ) : Type 0 where
@@ -135,3 +137,29 @@ landing-kept s t node size g e =
 pub node-is : (s : List ℕ) (node : ℕ) {between after : List ℕ} → between ≡ landingPut s node → after ≡ receivePut between node
     → after ≡ receivePut (landingPut s node) node
 node-is s node e f = f ∙ ap (λ (x : List ℕ). receivePut x node) e
+
+-- a register that is set to its own word
+put-own : (s : List ℕ) (row k : ℕ) → put s row k (reg s row k) ≡ s
+unfolding reg
+put-own s row k = set-getD s (row * rowWords + k) 0
+
+-- nothing on the memory output: the receive unit stays
+receive-rests : (s : List ℕ) (node : ℕ) → memoryMark s node ≡ 0 → receivePut s node ≡ s
+unfolding receivePut
+receive-rests s node none =
+    let header : _≡_ {A = ℕ} 0 1 → ⊥ = λ z. omega arith in
+    let mark = mark-held s node 0 (sym none) (reg s receiveMark node) refl header (omega arith) in
+    let kind = kind-held s node 0 (sym none) (reg s receiveKind node) refl header in
+    let address = address-held s node 0 (sym none) (reg s receiveAddress node) refl header (omega arith) in
+    ap (λ v. put (put (put s receiveMark node v) receiveKind node (nextReceiveKind s node)) receiveAddress node (nextReceiveAddress s node)) (sym mark)
+    ∙ ap (λ (x : List ℕ). put (put x receiveKind node (nextReceiveKind s node)) receiveAddress node (nextReceiveAddress s node)) (put-own s receiveMark node)
+    ∙ ap (λ v. put (put s receiveKind node v) receiveAddress node (nextReceiveAddress s node)) (sym kind)
+    ∙ ap (λ (x : List ℕ). put x receiveAddress node (nextReceiveAddress s node)) (put-own s receiveKind node)
+    ∙ ap (λ v. put s receiveAddress node v) (sym address)
+    ∙ put-own s receiveAddress node
+
+pub node-rests : (s : List ℕ) (node size mark : ℕ) {after : List ℕ} → LandingFits s node size → mark ≡ memoryMark s node → mark ≡ 0
+    → after ≡ landingPut s node → after ≡ receivePut (landingPut s node) node
+node-rests s node size mark g e z f =
+    let same = landing-same s s node (same-here s node) (g .inside) (g .long) in
+    f ∙ sym (receive-rests (landingPut s node) node (same .mark ∙ sym e ∙ z))

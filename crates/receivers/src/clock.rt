@@ -30,7 +30,7 @@ fn picked(test: bool, a: u32, b: u32) -> u32
 }
 
 // The period of the schedule in force. A sound state meets the requires, here and below.
-fn period_now(s: &[u32]) -> u32
+pub fn period_now(s: &[u32]) -> u32
     requires { ⌜ Clocked (now s) ⌝ }
     ensures { λ r. ⌜ r ≡ period (sheetIn (now (s .entry))) (regOf (now (s .entry)) clockRow inForcePlace) ⌝ }
 {
@@ -63,11 +63,15 @@ fn put_clock(s: &mut [u32], cycle: u32, number: u32, schedule: u32, mark: u32)
 }
 
 // The clock's row after a cycle, in place: behind a period's last cycle the period counter is advanced by wrapping add, and an
-// order for the new period puts its schedule in force. The cycle calls it on a sound state.
+// order for the new period puts its schedule in force. The cycle calls it on a sound state, so that the test of the length is never met; with
+// it a compiler leaves out one at each access.
 pub fn step_clock(s: &mut [u32])
     requires { ⌜ Clocked (now s) ⌝ }
     ensures { λ _. ⌜ now (s .exit) ≡ stage clockRow clockRow clockWords (nextInRow (now (s .entry)) []) (now (s .entry)) ⌝ }
 {
+    if s.len() < network::MOVING_WORDS {
+        return;
+    }
     let period = period_now(s);
     let cycle = reg(s, CLOCK_ROW, CYCLE_PLACE) + 1;
     let turning = cycle == period;

@@ -2,6 +2,7 @@
 mod clock;
 mod receiving;
 
+pub use clock::period_now;
 pub use clock::step_clock;
 pub use receiving::has_stray;
 pub use receiving::step_receivers;

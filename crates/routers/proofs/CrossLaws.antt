@@ -11,16 +11,17 @@ use native.Mathlib.Decide.{ℕ-discrete}
 use lib.ListN.{length}
 use Rattle.words.specs.Tests.{any, _and_, _or_, _≤?_, _<?_, _=?_}
 use Rattle.words.specs.Words.{word, pick, tab, countOf}
-use Rattle.words.proofs.AllLaws.{any-none, any-same, any-more, any-or, any-by-row}
-use Rattle.words.proofs.TestLaws.{and-no-right, or-on, or-false, or-pairs, is=, no=, yes=, yes≤, no≤}
+use Rattle.words.proofs.AllLaws.{any-start, any-none, any-same, any-more, any-or, any-by-row}
+use Rattle.words.proofs.TableLaws.{tab-same}
+use Rattle.words.proofs.TestLaws.{and-no-right, or-on, or-false, or-pairs, is=, no=, yes=, yes≤, no≤, no<}
 use Rattle.words.proofs.WordLaws.{countOf-more, length-tab, tab-at, tab-is}
 use Rattle.sheet.specs.Sheet.{nodes}
-use Rattle.network.specs.Registers.{reg, sheetIn, headMark, headWord, choiceRow, at, rowWords}
+use Rattle.network.specs.Registers.{reg, sheetIn, headMark, headWord, choiceRow, at, rowWords, movingWords}
 use Rattle.network.specs.Inner.Machine.{firstMark, firstWord, askedMark, nextOutMark, nextOutWord, collidesIn, unchosenIn}
 use Rattle.network.proofs.FirstLaws.{word-empty}
 use Rattle.routers.specs.Inner.Crossing.{asking, unchosenAt, Crossed}
 use Rattle.routers.proofs.OrderLaws.{passed, passed-some, passed-own, passed-other, passed-start, passed-end, passed-over}
-use Rattle.routers.proofs.PlaceLaws.{same-pick, zero-pick, some-sum, two-more, and-yes}
+use Rattle.routers.proofs.PlaceLaws.{same-pick, zero-pick, some-sum, two-more, and-yes, no-nodes}
 
 -- what the inputs of the node at a place ask of it, and the words that they have
 abbrev asked : List ℕ → ℕ → ℕ → ℕ
@@ -259,3 +260,25 @@ module _ (s : List ℕ) (n k : ℕ) (marks cells : List ℕ) (faults : ℕ) (own
 -- the tables are as long as they were
 pub same-long : (n : ℕ) (entry : List ℕ) → n ≡ rowWords → entry ≡ tab rowWords (λ k. 0) → n ≡ length entry
 same-long n entry a b = a ∙ sym (ap length b ∙ length-tab rowWords _)
+
+-- a state that is too short for its rows: no fault, and tables of zeros
+module _ (s : List ℕ) (h : length s < movingWords) where
+  short-zeros : (f : ℕ → ℕ) {table : List ℕ} → table ≡ tab rowWords (λ k. 0)
+      → table ≡ tab rowWords (λ k. pick (k <? nodes (sheetIn s) * 5) (f k) 0)
+  short-zeros f e =
+      e ∙ tab-same rowWords (λ k. 0) _ (λ k l.
+      let past : nodes (sheetIn s) * 5 ≤ k = omega (arith, no-nodes s h) in
+      sym (ap (λ (t : Bool). pick t (f k) 0) (no< past)))
+
+  pub short-marks : {marks : List ℕ} → marks ≡ tab rowWords (λ k. 0)
+      → marks ≡ tab rowWords (λ k. pick (k <? nodes (sheetIn s) * 5) (nextOutMark s (k / 5) (k % 5)) 0)
+  short-marks = short-zeros (λ k. nextOutMark s (k / 5) (k % 5))
+
+  pub short-cells : {cells : List ℕ} → cells ≡ tab rowWords (λ k. 0)
+      → cells ≡ tab rowWords (λ k. pick (k <? nodes (sheetIn s) * 5) (nextOutWord s (k / 5) (k % 5)) 0)
+  short-cells = short-zeros (λ k. nextOutWord s (k / 5) (k % 5))
+
+  pub short-calm : false ≡ any (nodes (sheetIn s)) (λ node. any 5 (collidesIn s node)) or any (nodes (sheetIn s)) (λ node. any 5 (unchosenIn s node))
+  short-calm =
+      or-on (any-start (λ node. any 5 (collidesIn s node))) (sym (any-start (λ node. any 5 (unchosenIn s node))))
+      ∙ ap (λ n. any n (λ node. any 5 (collidesIn s node)) or any n (λ node. any 5 (unchosenIn s node))) (sym (no-nodes s h))

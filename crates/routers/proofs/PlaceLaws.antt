@@ -1,13 +1,19 @@
--- Choices and tests of small numbers that come to the same.
+-- Choices and tests of small numbers that come to the same; and a state that is too short for its rows has no nodes.
 -- Assumes nothing.
 use Prim.Native.Nat.{ℕ, _+_, _<_, _≤_}
 use mathlib.Core.Bool.{Bool, true, false}
+use mathlib.Core.List.{List, []}
 use mathlib.Core.Path.{_≡_, refl, sym, _∙_, ap}
 use native.Mathlib.Omega.{arith}
+use native.Mathlib.Nat.{zero-mul}
 use native.Mathlib.Decide.{decLe}
+use lib.ListN.{length}
 use Rattle.words.specs.Tests.{_and_, _or_, _≤?_, _=?_}
 use Rattle.words.specs.Words.{pick}
 use Rattle.words.proofs.TestLaws.{is=, yes≤, no≤, or-yes, or-on}
+use Rattle.sheet.specs.Sheet.{nodes, rows}
+use Rattle.network.specs.Registers.{sheetIn, movingWords}
+use Rattle.network.proofs.PartLaws.{sheet-short}
 
 pub and-yes : (a : Bool) → a and true ≡ a
 unfolding _and_
@@ -56,3 +62,7 @@ two-more c = go (decLe 2 c) (decLe 1 c)
         let none : c < 1 = omega (arith, h) in
         let less : c + 1 < 2 = omega arith in
         or-on (no≤ few) (no≤ less ∙ sym (no≤ none))
+
+-- a state that is too short for its rows has no sheet, and so no nodes
+pub no-nodes : (s : List ℕ) → length s < movingWords → nodes (sheetIn s) ≡ 0
+no-nodes s h = ap nodes (sym (sheet-short s (omega (arith, h)))) ∙ zero-mul (rows [])

@@ -17,18 +17,23 @@ ghost use Rattle.routers.specs.Inner.Stepping.{linked, linkedBy, extende
 use network::put_reg;
 use network::reg;
 
-// The nodes of the largest grid. No sheet has more, nor more places than a row has words; each loop below returns at once where there
-// were more, so that a compiler can know every place to be in its row, and leave out the test at each access.
+// The nodes of the largest grid. No sheet has more, nor more places than a row has words, and no state has fewer words than its rows; each
+// loop below returns at once where that were not so, so that a compiler can know every place to be in its row, and every row in the state,
+// and leave out the test at each access.
 const MOST_NODES: u32 = 16;
 
-// The word in link register k is payload, and the latch holds no choice for it.
-fn is_unheld(s: &[u32], k: u32) -> bool
-    ensures { λ r. ⌜ r ≡ (2 ≤? regOf (now (s .entry)) linkMark k and regOf (now (s .entry)) latchRow k =? 0) ⌝ }
+// 1 for the mark of a payload word and a latch that holds no choice, else 0. Both are read before they are tested, so that the loop over
+// them has no jump.
+fn unheld(mark: u32, latch: u32) -> u32
+    ensures { λ r. ⌜ r ≡ pick (2 ≤? mark and latch =? 0) 1 0 ⌝ }
 {
-    if reg(s, network::LINK_MARK, k) < 2 {
-        return false;
+    if latch != 0 {
+        return 0;
     }
-    reg(s, network::LATCH_ROW, k) == 0
+    if 2 <= mark {
+        return 1;
+    }
+    0
 }
 
 // Number 20: some payload word in a link register finds no choice held. A cycle, which knows its nodes, meets the requires, here and below.
@@ -36,17 +41,21 @@ pub fn has_unheld(s: &[u32], count: u32) -> bool
     requires { ⌜ (count ≡ nodeCount (sheetIn (now s)) * 5) × (count ≤ rowWords) ⌝ }
     ensures { λ r. ⌜ r ≡ any (nodeCount (sheetIn (now (s .entry)))) (λ node. any 5 (unheldIn (now (s .entry)) node)) ⌝ }
 {
+    if s.len() < network::MOVING_WORDS {
+        return false;
+    }
     if network::ROW_WORDS < count as usize {
         return false;
     }
+    let mut faults: u32 = 0;
     let mut k: u32 = 0;
     while k < count {
-        if is_unheld(s, k) {
-            return true;
-        }
+        let mark = reg(s, network::LINK_MARK, k);
+        let latch = reg(s, network::LATCH_ROW, k);
+        faults += unheld(mark, latch);
         k += 1;
     }
-    false
+    1 <= faults
 }
 
 // The word of input k goes to the output that was chosen for it, where no other word is yet; 1 where one is, or where a payload word has
@@ -86,6 +95,9 @@ pub fn cross(s: &[u32], nodes: u32, marks: &mut [u32], cells: &mut [u32]) -> boo
     ensures marks { λ _. ⌜ now (marks .exit) ≡ tab rowWords (λ k. pick (k <? nodeCount (sheetIn (now (s .entry))) * 5) (nextOutMark (now (s .entry)) (k / 5) (k % 5)) 0) ⌝ }
     ensures cells { λ _. ⌜ now (cells .exit) ≡ tab rowWords (λ k. pick (k <? nodeCount (sheetIn (now (s .entry))) * 5) (nextOutWord (now (s .entry)) (k / 5) (k % 5)) 0) ⌝ }
 {
+    if s.len() < network::MOVING_WORDS {
+        return false;
+    }
     let count = nodes * 5;
     if network::ROW_WORDS < count as usize {
         return false;
@@ -149,6 +161,9 @@ pub fn step_heads(s: &mut [u32], count: u32)
     requires { ⌜ (movingWords ≤ length (now s)) × (count ≤ rowWords) ⌝ }
     ensures { λ _. ⌜ now (s .exit) ≡ stage headMark latchRow count (nextInRow (now (s .entry)) []) (now (s .entry)) ⌝ }
 {
+    if s.len() < network::MOVING_WORDS {
+        return;
+    }
     if network::ROW_WORDS < count as usize {
         return;
     }
@@ -198,6 +213,9 @@ pub fn step_links(s: &mut [u32], marks: &[u32], cells: &[u32])
     requires { ⌜ (Headed (sheetIn (now s))) × (movingWords ≤ length (now s)) ⌝ }
     ensures { λ _. ⌜ now (s .exit) ≡ stage linkMark linkWord (nodeCount (sheetIn (now (s .entry))) * 5) (linkFrom (now (marks .entry)) (now (cells .entry)) (now (s .entry))) (now (s .entry)) ⌝ }
 {
+    if s.len() < network::MOVING_WORDS {
+        return;
+    }
     let z = network::sheet_of(s);
     let cols = sheet::columns_of(z);
     let rows = sheet::rows_of(z);
@@ -235,6 +253,9 @@ pub fn step_extras(s: &mut [u32], nodes: u32, long: bool)
     requires { ⌜ (movingWords ≤ length (now s)) × (nodes ≡ nodeCount (sheetIn (now s))) × (nodes ≤ 16) × (long ≡ isLong (sheetIn (now s))) ⌝ }
     ensures { λ _. ⌜ now (s .exit) ≡ stage extraMark extraWord (nodes * 5) (nextInRow (now (s .entry)) []) (now (s .entry)) ⌝ }
 {
+    if s.len() < network::MOVING_WORDS {
+        return;
+    }
     if long {
         if MOST_NODES < nodes {
             return;
@@ -253,6 +274,9 @@ pub fn step_outs(s: &mut [u32], count: u32, marks: &[u32], cells: &[u32])
     requires { ⌜ (movingWords ≤ length (now s)) × (count ≤ rowWords) ⌝ }
     ensures { λ _. ⌜ now (s .exit) ≡ stage outMark outWord count (outFrom (now (marks .entry)) (now (cells .entry))) (now (s .entry)) ⌝ }
 {
+    if s.len() < network::MOVING_WORDS {
+        return;
+    }
     if network::ROW_WORDS < count as usize {
         return;
     }

@@ -19,7 +19,7 @@ use Rattle.torus.specs.Inner.Grid.{InGrid}
 use Rattle.torus.specs.Route.{Use, Route, leads, nowhere, routeFrom, routerCycles}
 use Rattle.torus.specs.Inner.Paths.{pathOf}
 use Rattle.torus.specs.declared.Path.{Path}
-use Rattle.torus.proofs.DistanceLaws.{distance-most}
+use Rattle.torus.proofs.DistanceLaws.{distance-most, vertical-most}
 use Rattle.torus.proofs.RouteLaws.{hops-high, vertical-high}
 use Rattle.torus.proofs.WalkLaws.{distance-least}
 use Rattle.torus.proofs.VerticalLaws.{vertical-least, vertical-is}
@@ -39,7 +39,7 @@ unfolding shorterWay
 way-few n a b way h e = omega (arith, e, mod-lt (b + n - a) h)
 
 -- so a span is small
-span-most : (z : List ℕ) (k : ℕ) → InGrid (columns z) (rows z) (sourceOf z k) → InGrid (columns z) (rows z) (destinationOf z k) → circuitSpan z k ≤ 15
+pub span-most : (z : List ℕ) (k : ℕ) → InGrid (columns z) (rows z) (sourceOf z k) → InGrid (columns z) (rows z) (destinationOf z k) → circuitSpan z k ≤ 14
 unfolding circuitSpan verticalOf
 span-most z k g h = go (isLong z)
   where
@@ -49,8 +49,8 @@ span-most z k g h = go (isLong z)
     far : hopsOf z k ≤ 4
     far = distance-most (columns z) (rows z) (sourceOf z k) (destinationOf z k) g h
 
-    go : (long : Bool) → routerCycles * hopsOf z k + pick long down 0 ≤ 15
-    go true = omega (arith, far, way-few _ _ _ down (omega (arith, g .rows-low)) refl, g .rows-high)
+    go : (long : Bool) → routerCycles * hopsOf z k + pick long down 0 ≤ 14
+    go true = omega (arith, far, vertical-most (columns z) (rows z) (sourceOf z k) (destinationOf z k) g h)
     go false = omega (arith, far)
 
 -- the numbers of an entry's route that leads somewhere
@@ -86,7 +86,7 @@ module _ (z : List ℕ) (e : Entry) (g : Joined z e) (uses : List Use) (node hop
 
     -- its hops take no more cycles than the span exactly where they are no more than the distance: a hop more is three cycles more, and
     -- the long links are never fewer
-    same-test : (routerCycles * hops + vertical ≤? circuitSpan z (e .circuit)) ≡ (hops ≤? hopsOf z (e .circuit))
+    pub same-test : (routerCycles * hops + vertical ≤? circuitSpan z (e .circuit)) ≡ (hops ≤? hopsOf z (e .circuit))
     unfolding circuitSpan
     same-test = go (decLe hops (hopsOf z (e .circuit)))
       where
@@ -162,7 +162,7 @@ module _ (z : List ℕ) (e : Entry) (circuit : Circuit) (c : circuit ≡ circuit
 
 -- number 10 at an entry whose route leads to the destination, by its circuit's span
 module _ (z : List ℕ) (e : Entry) (g : Joined z e) (span : ℕ) (d : span ≡ circuitSpan z (e .circuit)) where
-  pub span-few : span ≤ 15
+  pub span-few : span ≤ 14
   span-few = omega (arith, d, span-most z (e .circuit) (g .source-inside) (g .destination-inside))
 
   -- the hops of such a route take the span

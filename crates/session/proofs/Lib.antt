@@ -9,6 +9,7 @@ pub mod ReadyLaws
 pub mod ReadingLaws
 pub mod WritingLaws
 pub mod CyclingLaws
+pub mod RestLaws
 pub mod LoadingLaws
 pub mod AnswerLaws
 pub mod MachineLaws

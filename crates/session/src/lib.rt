@@ -8,6 +8,7 @@ ghost use mathlib.Core.Path.{_≡_};
 ghost use Rattle.session.specs.Answers.{numberOf};
 pub use cycling::cycle;
 pub use cycling::cycle_sound;
+pub use cycling::rest;
 pub use loading::load;
 pub use reading::fetch;
 pub use reading::landing_at;

@@ -8,7 +8,7 @@ use native.Mathlib.Omega.{arith}
 use native.Mathlib.Nat.{mul-le-mul}
 use lib.ListN.{length, length-take, length-drop}
 use Rattle.words.specs.Tests.{between}
-use Rattle.words.proofs.TestLaws.{and-left, and-right, is≤, is<}
+use Rattle.words.proofs.TestLaws.{and-left, and-right, and-both, yes≤, is≤, is<}
 use Rattle.words.proofs.AllLaws.{all-at}
 use Rattle.torus.specs.Inner.Grid.{InGrid}
 use Rattle.sheet.specs.Sheet.{columns, rows, memoryWords, circuits, schedules, nodes, circuitAt}
@@ -37,6 +37,18 @@ headed z h r =
       schedules-low = is≤ _ _ (and-left _ _ r₄);
       schedules-high = is≤ _ _ (and-right _ _ r₄);
     }
+
+-- and where they are, the rules are kept
+pub head-kept : (z : List ℕ) → Headed z → (rule1 z ≡ true) × (rule2 z ≡ true)
+unfolding rule1 rule2 between
+head-kept z h = (
+  yes≤ (h .five),
+  and-both (and-both (yes≤ (h .columns-low)) (yes≤ (h .columns-high)))
+      (and-both (and-both (yes≤ (h .rows-low)) (yes≤ (h .rows-high)))
+      (and-both (and-both (yes≤ (h .memory-low)) (yes≤ (h .memory-high)))
+      (and-both (and-both (yes≤ (omega arith)) (yes≤ (h .circuits-high)))
+      (and-both (yes≤ (h .schedules-low)) (yes≤ (h .schedules-high)))))),
+)
 
 -- the nodes, from the columns and the rows as they were read
 pub nodes-are : {a b : ℕ} {z y : List ℕ} → a ≡ columns z → b ≡ rows z → z ≡ y → a * b ≡ nodes y

@@ -22,7 +22,7 @@ use Rattle.sheet.specs.Inner.Passed.{Routed}
 use Rattle.sheet.proofs.PassedLaws.{entry-small}
 
 -- number 10 speaks of hops and long links: here they become the delay of the route's last wire
-ends-in-time : (z : List ℕ) (P : ℕ) (e : Entry) → 1 ≤ e .size → entryEnds z P e ≡ true → e .offset + lastDelay (entryRoute z e) + e .size ≤ P + 6
+pub ends-in-time : (z : List ℕ) (P : ℕ) (e : Entry) → 1 ≤ e .size → entryEnds z P e ≡ true → e .offset + lastDelay (entryRoute z e) + e .size ≤ P + 6
 unfolding entryRoute entryEnds
 ends-in-time z P e l h = go (entryRoute z e) refl (is≤ _ _ h)
   where

@@ -96,6 +96,14 @@ passed z h =
       rule11-kept = k₁₁ .0;
     }
 
+-- and one that keeps them has it
+pub verdict-none : (z : List ℕ) → Passed z → verdict z ≡ 0
+unfolding verdict
+verdict-none z p =
+    sym (on z _ _ (p .rule1-kept) (on z _ _ (p .rule2-kept) (on z _ _ (p .rule3-kept) (on z _ _ (p .rule4-kept) (on z _ _ (p .rule5-kept)
+    (on z _ _ (p .rule6-kept) (on z _ _ (p .rule7-kept) (on z _ _ (p .rule8-kept) (on z _ _ (p .rule9-kept) (on z _ _ (p .rule10-kept)
+    (on z _ _ (p .rule11-kept) (done z))))))))))))
+
 -- a sheet with verdict 0 is divided into its parts
 pub passed-framed : (z : List ℕ) → verdict z ≡ 0 → Framed z
 passed-framed z h =

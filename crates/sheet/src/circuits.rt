@@ -36,7 +36,7 @@ impl Region {
     }
 
     // The two regions share no word.
-    fn is_apart(self, other: Region) -> bool
+    pub fn is_apart(self, other: Region) -> bool
         requires { ⌜ (self .offset + self .size < 65536) × (other .offset + other .size < 65536) ⌝ }
         ensures { λ r. ⌜ r ≡ apart self other ⌝ }
     {
@@ -71,7 +71,7 @@ impl Circuit {
     }
 
     // Number 4 at one circuit.
-    fn fits(self, nodes: u32, memory: u32) -> bool
+    pub fn fits(self, nodes: u32, memory: u32) -> bool
         ensures { λ r. ⌜ r ≡ circuitFits nodes memory self ⌝ }
     {
         let read = self.read;

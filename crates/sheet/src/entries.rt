@@ -35,7 +35,7 @@ impl Entry {
     }
 
     // Number 7 at one entry, with the number of circuits and the period.
-    fn fits(self, circuits: u32, period: u32) -> bool
+    pub fn fits(self, circuits: u32, period: u32) -> bool
         ensures { λ r. ⌜ r ≡ entryFits circuits period self ⌝ }
     {
         if period <= self.offset {

@@ -92,7 +92,7 @@ module _ (z : List ℕ) (j cycle : ℕ) where
         or-cases _ _ here (λ less. (let x = is< _ _ less in omega arith)) (λ same. (let x = is= _ _ (and-left _ _ same) in omega arith))
 
     -- so no entry in front of another begins later
-    no-later : (k n : ℕ) → k + n < entryCount (entriesOf z j) → entryAt (entriesOf z j) k .offset ≤ entryAt (entriesOf z j) (k + n) .offset
+    pub no-later : (k n : ℕ) → k + n < entryCount (entriesOf z j) → entryAt (entriesOf z j) k .offset ≤ entryAt (entriesOf z j) (k + n) .offset
     no-later k zero l =
         let q : k ≡ k + 0 = sym (add-zero k) in
         subst (λ (i : ℕ). entryAt (entriesOf z j) k .offset ≤ entryAt (entriesOf z j) i .offset) q (omega arith)

@@ -34,8 +34,9 @@ fn put_slot(entry: Entry, number: u32, cycle: u32, slots: &mut [u32])
     words::put(slots, entry.circuit as usize, number);
 }
 
-// So many entries of schedule j that begin before the cycle, counted in steps of sixteen: by rule 8 the last of a step begins last.
-fn entries_passed(z: &[u32], j: u32, entries: &[u32], cycle: u32) -> u32
+// So many entries of schedule j that begin before the cycle, counted in steps of sixteen: by rule 8 the last of a step begins last. Whoever
+// has a sound state's schedule in force meets the requires.
+pub fn entries_passed(z: &[u32], j: u32, entries: &[u32], cycle: u32) -> u32
     requires { ⌜ (Framed (now z)) × (rule8 (now z) ≡ true) × (j < schedules (now z)) × (now entries ≡ entriesOf (now z) j) ⌝ }
     ensures { λ r. ⌜ BegunBefore (now (entries .entry)) cycle r ⌝ }
 {
@@ -243,6 +244,9 @@ pub fn source_wires(
     ensures marks { λ _. ⌜ now (marks .exit) ≡ tab 16 (sourceMark (now (s .entry))) ⌝ }
     ensures cells { λ _. ⌜ now (cells .exit) ≡ tab 16 (sourceWord (now (s .entry)) (now (m .entry))) ⌝ }
 {
+    if s.len() < network::MOVING_WORDS {
+        return false;
+    }
     let count = sheet::circuits_of(z);
     let mut fault = false;
     let mut c: u32 = 0;
@@ -258,7 +262,7 @@ pub fn source_wires(
 }
 
 // The lesser of two numbers.
-fn lesser(a: u32, b: u32) -> u32
+pub fn lesser(a: u32, b: u32) -> u32
     ensures { λ r. ⌜ r ≡ min a b ⌝ }
 {
     if a <= b {
@@ -307,6 +311,9 @@ pub fn step_senders(s: &mut [u32], slots: &[u32])
     requires { ⌜ (Steppable (now s)) × (now slots ≡ slotTable (now s)) ⌝ }
     ensures { λ _. ⌜ now (s .exit) ≡ stage leftRow toGoRow (circuits (sheetIn (now (s .entry)))) (nextInRow (now (s .entry)) []) (now (s .entry)) ⌝ }
 {
+    if s.len() < network::MOVING_WORDS {
+        return;
+    }
     let count = sheet::circuits_of(network::sheet_of(s));
     let mut c: u32 = 0;
     while c < count {

@@ -38,6 +38,12 @@ distance-most cols rows from to g h =
     subst (λ d. d ≤ 4) (sym (distance-formula cols rows from to g h))
     (le-of-suc-le-suc (ltb→lt _ 5 (at-pair (λ c r n m. ltb (roundDistance c r n m) 5) tt cols rows from to g h)))
 
+-- and its vertical part at most 2
+pub vertical-most : (cols rows from to : ℕ) → InGrid cols rows from → InGrid cols rows to → shorterWay rows (rowOf cols from) (rowOf cols to) ≤ 2
+unfolding shorterWay
+vertical-most cols rows from to g h =
+    le-of-suc-le-suc (ltb→lt _ 3 (at-pair (λ c r n m. ltb (shorterWay r (rowOf c n) (rowOf c m)) 3) tt cols rows from to g h))
+
 -- no way is the shorter between a place and itself
 pub shorter-none : (n place : ℕ) → shorterWay n place place ≡ 0
 unfolding shorterWay

@@ -154,7 +154,7 @@ pub fn is_vertical(side: u32) -> bool
 }
 
 // The cycles that a link by a side takes where the vertical links are long: one by north and south, else none.
-fn link_cycles(side: u32) -> u32
+pub fn link_cycles(side: u32) -> u32
     ensures { λ r. ⌜ r ≡ linkCycles true side ⌝ }
 {
     if is_vertical(side) {

@@ -6,7 +6,7 @@ use native.Mathlib.Omega.{arith}
 use Prim.Native.Nat.{_-_}
 use lib.Seq.{length-take-le}
 use Rattle.landings.proofs.OutputLaws.{few-nodes}
-use Rattle.landings.proofs.PagingLaws.{Paging, page-start, page-has, refusal-has, refusal-done, page-next, page-done}
+use Rattle.landings.proofs.PagingLaws.{Paging, page-start, page-nodes, page-has, refusal-has, refusal-done, page-next, page-done}
 use Rattle.landings.proofs.write_pages.Statement.{statement}
 use Rattle.landings.proofs.write_pages.Tie as tie
 
@@ -28,6 +28,7 @@ fill-requires c κs =
       omega arith,
       omega
           (arith, at-loop .loop .inv .long, entry .pre .2),
+      page-nodes _ _ _ _ _ _ _ _ _ _ _ (at-loop .loop .inv) (entry .pre .0),
     )
 
 slice-reshare-prefix-write-part : tie.Need-slice-reshare-prefix-write-part Inv-loop μ-loop

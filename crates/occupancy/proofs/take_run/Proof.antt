@@ -3,7 +3,9 @@
 use native.Mathlib.Omega.{arith}
 use denote.Ref.{now}
 use lib.ListN.{length-set}
-use Rattle.occupancy.specs.Inner.Occupancy.{takeRun}
+use Prim.Native.Nat.{_/_, _%_}
+use Rattle.occupancy.specs.Inner.Occupancy.{slotMask, takeRun}
+use Rattle.occupancy.proofs.BitLaws.{mask-small}
 use Rattle.occupancy.proofs.TakeLaws.{second-small}
 use borrow.Author.Needs.{needs}
 use Rattle.occupancy.proofs.take_run.Statement.{statement}
@@ -29,12 +31,13 @@ slice-write-table c = search needs
 
 cast-table-2 : tie.Need-cast-table-2
 cast-table-2 c =
+    let entry = c .before .before .before .before in
     rw (c .before .window .ensures, c .slot-mask .ensures)
     (omega (
       arith,
-      second-small (now (c .before .before .before .before .args .table)) (c .before .before .before .before .args .place) _
+      second-small (now (entry .args .table)) (entry .args .place / 32) (slotMask (entry .args .place % 32) (entry .args .size))
           (λ x. c .before .before .before .slice-known .given x .fits)
-          (c .before .before .before .before .pre .1),
+          (mask-small (entry .args .place % 32) (entry .args .size) (omega arith)),
     ))
 
 add-table : tie.Need-add-table

@@ -1,7 +1,7 @@
 -- A table of places that are taken or free: one bit a place, thirty-two places a word.
-use Prim.Native.Nat.{ℕ, zero, suc, _+_, _-_, _*_, _/_, _%_, _^_}
+use Prim.Native.Nat.{ℕ, zero, suc, _+_, _-_, _*_, _/_, _%_, _^_, _≤_}
 use mathlib.Core.List.{List, [], _∷_}
-use mathlib.Core.Bool.{Bool, false}
+use mathlib.Core.Bool.{Bool, true, false, not}
 use mathlib.Core.Path.{_≡_}
 use lib.ListN.{length, set}
 use lib.Bits.{bitOr}
@@ -49,3 +49,10 @@ takeRun table place size =
 pub record Takes (before after places : List ℕ) : Type 0 where
   pub same-length : length after ≡ length before
   pub besides : (x : ℕ) → taken after x ≡ (listed x places or taken before x)
+
+-- the answer is yes where the places of a mask among those from word q on were free and now are taken, a mask of so many places from a bit on
+pub record TakenIfFree (before after : List ℕ) (q mask : ℕ) (answer : Bool) : Type 0 where
+  pub same-length : length after ≡ length before
+  pub free : (bit size : ℕ) → mask ≡ slotMask bit size → bit + size ≤ 64 → answer ≡ not (anyTaken before (run size (32 * q + bit)))
+  pub now-taken : (bit size : ℕ) → mask ≡ slotMask bit size → bit + size ≤ 64 → answer ≡ true
+      → Takes before after (run size (32 * q + bit))

@@ -16,6 +16,9 @@ abbrev μ-loop : tie.MeasureT-loop
 returns : tie.Need-returns Inv-loop μ-loop
 returns c = absurd (omega arith)
 
+returns-2 : tie.Need-returns-2 Inv-loop μ-loop
+returns-2 c = absurd (omega arith)
+
 loop-holds : tie.Need-loop-holds Inv-loop μ-loop
 loop-holds c = extending-start _ _
 
@@ -42,26 +45,27 @@ loop-less c = omega arith
 
 loop-again : tie.Need-loop-again Inv-loop μ-loop
 loop-again c =
-    let at-extra2 = c .before .before in
-    let at-extra = at-extra2 .before .before .before .before in
-    let at-loop = at-extra .before .before .before in
-    let long = at-loop .before .before in
-    let pre = long .before .before .pre in
-    extending-more _ _ (pre .2) (pre .0) (sym (pre .3) ∙ long .if1 .taken) _ _ _ _ (omega arith) (at-loop .loop .inv)
-    (at-extra .step-extra .ensures) (at-extra2 .step-extra2 .ensures)
+    let at-step-extra2 = c .before .before in
+    let at-step-extra = at-step-extra2 .before .before .before .before in
+    let at-loop = at-step-extra .before .before .before in
+    let at-if2 = at-loop .before .before in
+    let entry = at-if2 .before .before .before in
+    extending-more _ _ (entry .pre .2) (entry .pre .0) (sym (entry .pre .3) ∙ at-if2 .if2 .taken) _ _ _ _ (omega arith) (at-loop .loop .inv)
+    (at-step-extra .step-extra .ensures) (at-step-extra2 .step-extra2 .ensures)
 
 same-length : tie.Need-same-length Inv-loop μ-loop
 same-length c = c .before .loop .inv .so-far .same-length
 
-returns-2 : tie.Need-returns-2 Inv-loop μ-loop
-returns-2 c =
-    let pre = c .before .before .before .before .before .pre in
-    extending-done _ _ (pre .2) (pre .0) _ _ (c .before .loop .inv) (omega arith)
-
 returns-3 : tie.Need-returns-3 Inv-loop μ-loop
 returns-3 c =
-    let pre = c .before .before .pre in
-    none-extended _ _ (pre .2) (pre .0) (sym (pre .3) ∙ c .if1 .left)
+    let at-loop = c .before in
+    let entry = at-loop .before .before .before .before .before in
+    extending-done _ _ (entry .pre .2) (entry .pre .0) _ _ (at-loop .loop .inv) (omega arith)
+
+returns-4 : tie.Need-returns-4 Inv-loop μ-loop
+returns-4 c =
+    let entry = c .before .before .before in
+    none-extended _ _ (entry .pre .2) (entry .pre .0) (sym (entry .pre .3) ∙ c .if2 .left)
 
 pub step-extras-spec : {M : Type 1} → statement M
 step-extras-spec =
@@ -70,6 +74,7 @@ step-extras-spec =
     Inv-loop
     μ-loop
     returns
+    returns-2
     loop-holds
     mul-step-extra
     step-extra-requires
@@ -80,5 +85,5 @@ step-extras-spec =
     loop-less
     loop-again
     same-length
-    returns-2
-    returns-3)
+    returns-3
+    returns-4)

@@ -20,17 +20,20 @@ abbrev μ-loop : tie.MeasureT-loop
 returns : tie.Need-returns Inv-loop μ-loop
 returns c = absurd (omega arith)
 
+returns-2 : tie.Need-returns-2 Inv-loop μ-loop
+returns-2 c = absurd (omega arith)
+
 loop-holds : tie.Need-loop-holds Inv-loop μ-loop
 loop-holds c = (omega arith, stage-start _ _ _ _)
 
-cast-if2 : tie.Need-cast-if2 Inv-loop μ-loop
-cast-if2 c = omega arith
+cast-if3 : tie.Need-cast-if3 Inv-loop μ-loop
+cast-if3 c = omega arith
 
 same-length : tie.Need-same-length Inv-loop μ-loop
 same-length c = c .before .before .loop .inv .1 .same-length
 
-returns-2 : tie.Need-returns-2 Inv-loop μ-loop
-returns-2 c = absurd (omega arith)
+returns-3 : tie.Need-returns-3 Inv-loop μ-loop
+returns-3 c = absurd (omega arith)
 
 step-head-requires : tie.Need-step-head-requires Inv-loop μ-loop
 step-head-requires c κs = tt
@@ -45,14 +48,14 @@ loop-again : tie.Need-loop-again Inv-loop μ-loop
 loop-again c =
     let at-step-head = c .before .before in
     let at-loop = at-step-head .before .before .before .before in
-    let entry = at-loop .before .before .before in
+    let entry = at-loop .before .before .before .before in
     (omega arith, heads-more _ _ _ (omega arith) (entry .pre .0) (at-loop .loop .inv .1) _ (at-step-head .step-head .ensures))
 
 same-length-2 : tie.Need-same-length-2 Inv-loop μ-loop
 same-length-2 c = c .before .loop .inv .1 .same-length
 
-returns-3 : tie.Need-returns-3 Inv-loop μ-loop
-returns-3 c = filled _ _ _ _ _ _ _ (c .before .before .before .before .pre .0) (c .before .loop .inv .1) (omega arith) (omega arith)
+returns-4 : tie.Need-returns-4 Inv-loop μ-loop
+returns-4 c = filled _ _ _ _ _ _ _ (c .before .before .before .before .before .pre .0) (c .before .loop .inv .1) (omega arith) (omega arith)
 
 pub step-heads-spec : {M : Type 1} → statement M
 step-heads-spec =
@@ -61,13 +64,14 @@ step-heads-spec =
     Inv-loop
     μ-loop
     returns
-    loop-holds
-    cast-if2
-    same-length
     returns-2
+    loop-holds
+    cast-if3
+    same-length
+    returns-3
     step-head-requires
     add-k
     loop-less
     loop-again
     same-length-2
-    returns-3)
+    returns-4)

@@ -14,6 +14,9 @@ Inv-loop s₀ marks cells cols rows nodes vertical node₀ s node = Linking s₀
 abbrev μ-loop : tie.MeasureT-loop
 μ-loop s₀ marks cells cols rows nodes vertical node₀ s node = nodes - node
 
+returns : tie.Need-returns Inv-loop μ-loop
+returns c = absurd (omega arith)
+
 sheet-of-requires : tie.Need-sheet-of-requires Inv-loop μ-loop
 sheet-of-requires c κs = tt
 
@@ -24,7 +27,10 @@ rows-of-requires : tie.Need-rows-of-requires Inv-loop μ-loop
 rows-of-requires c κs = tt
 
 nodes-of-requires : tie.Need-nodes-of-requires Inv-loop μ-loop
-nodes-of-requires c κs = subst Headed (sym (c .before .before .sheet-of .ensures)) (c .before .before .before .before .before .before .before .pre .0)
+nodes-of-requires c κs =
+    let at-sheet-of = c .before .before in
+    let entry = at-sheet-of .before .before .before .before .before .before in
+    subst Headed (sym (at-sheet-of .sheet-of .ensures)) (entry .pre .0)
 
 vertical-row-requires : tie.Need-vertical-row-requires Inv-loop μ-loop
 vertical-row-requires c κs = tt
@@ -32,19 +38,18 @@ vertical-row-requires c κs = tt
 same-length : tie.Need-same-length Inv-loop μ-loop
 same-length c = refl
 
-returns : tie.Need-returns Inv-loop μ-loop
-returns c = absurd (omega arith)
+returns-2 : tie.Need-returns-2 Inv-loop μ-loop
+returns-2 c = absurd (omega arith)
 
 loop-holds : tie.Need-loop-holds Inv-loop μ-loop
 loop-holds c =
-    let at-vertical-row = c .before in
-    let at-nodes-of = at-vertical-row .before in
+    let at-nodes-of = c .before .before in
     let at-rows-of = at-nodes-of .before in
     let at-columns-of = at-rows-of .before in
     let at-sheet-of = at-columns-of .before in
-    let pre = at-sheet-of .before .before .before .before .before .pre in
+    let entry = at-sheet-of .before .before .before .before .before .before in
     linking-start _ _ (at-sheet-of .sheet-of .ensures) _ _ _ (at-columns-of .columns-of .ensures) (at-rows-of .rows-of .ensures)
-    (at-nodes-of .nodes-of .ensures) _ (at-vertical-row .vertical-row .ensures) (pre .0) _ _ (pre .1)
+    (at-nodes-of .nodes-of .ensures) _ (c .before .vertical-row .ensures) (entry .pre .0) _ _ (entry .pre .1)
 
 step-side-requires : tie.Need-step-side-requires Inv-loop μ-loop
 step-side-requires c κs =
@@ -52,8 +57,11 @@ step-side-requires c κs =
     (linking-grid _ _ _ _ _ _ _ _ _ (at-loop .loop .inv) (omega arith), omega arith, linking-row _ _ _ _ _ _ _ _ _ (at-loop .loop .inv))
 
 step-side-requires-2 : tie.Need-step-side-requires-2 Inv-loop μ-loop
-step-side-requires-2 c κs =
-    (linking-grid _ _ _ _ _ _ _ _ _ (c .before .before .before .before .before .before .loop .inv) (omega arith), omega arith, omega arith)
+step-side-requires-2 c κs = (
+  linking-grid _ _ _ _ _ _ _ _ _ (c .before .before .before .before .before .before .loop .inv) (omega arith),
+  omega arith,
+  omega arith,
+)
 
 step-side-requires-3 : tie.Need-step-side-requires-3 Inv-loop μ-loop
 step-side-requires-3 c κs =
@@ -61,9 +69,13 @@ step-side-requires-3 c κs =
     (linking-grid _ _ _ _ _ _ _ _ _ (at-loop .loop .inv) (omega arith), omega arith, linking-row _ _ _ _ _ _ _ _ _ (at-loop .loop .inv))
 
 step-side-requires-4 : tie.Need-step-side-requires-4 Inv-loop μ-loop
-step-side-requires-4 c κs =
-    let at-loop = c .before .before .before .before .before .before .before .before .before .before .before .before .before .before in
-    (linking-grid _ _ _ _ _ _ _ _ _ (at-loop .loop .inv) (omega arith), omega arith, omega arith)
+step-side-requires-4 c κs = (
+  linking-grid _ _ _ _ _ _ _ _ _
+      (c .before .before .before .before .before .before .before .before .before .before .before .before .before .before .loop .inv)
+      (omega arith),
+  omega arith,
+  omega arith,
+)
 
 cast-get : tie.Need-cast-get Inv-loop μ-loop
 cast-get c = omega arith
@@ -79,15 +91,15 @@ get-requires-2 c κs = tt
 
 mul-put-link : tie.Need-mul-put-link Inv-loop μ-loop
 mul-put-link c =
-    let at-loop-test = c .before .before .before .before .before .before .before .before .before .before .before .before .before .before
-    .before .before .before .before .before in
+    let at-loop-test = c .before .before .before .before .before .before .before .before .before .before .before .before .before .before .before .before
+    .before .before .before in
     let at-loop = at-loop-test .before in
     omega (arith, at-loop .loop .inv .few, at-loop-test .loop-test .taken)
 
 add-put-link : tie.Need-add-put-link Inv-loop μ-loop
 add-put-link c =
-    let at-loop-test = c .before .before .before .before .before .before .before .before .before .before .before .before .before .before
-    .before .before .before .before .before in
+    let at-loop-test = c .before .before .before .before .before .before .before .before .before .before .before .before .before .before .before .before
+    .before .before .before in
     let at-loop = at-loop-test .before in
     omega (arith, at-loop .loop .inv .few, at-loop-test .loop-test .taken)
 
@@ -96,16 +108,15 @@ put-link-requires c κs = tt
 
 add-node : tie.Need-add-node Inv-loop μ-loop
 add-node c =
-    let at-loop-test = c .before .before .before .before .before .before .before .before .before .before .before .before .before .before
-    .before .before .before .before .before .before .before .before in
+    let at-loop-test = c .before .before .before .before .before .before .before .before .before .before .before .before .before .before .before .before
+    .before .before .before .before .before .before in
     let at-loop = at-loop-test .before in
     omega (arith, at-loop .loop .inv .few, at-loop-test .loop-test .taken)
 
 loop-less : tie.Need-loop-less Inv-loop μ-loop
 loop-less c =
-    let at-loop-test = c .before .before .before .before .before .before .before .before .before .before .before .before .before .before
-    .before .before .before .before .before .before .before .before in
-    omega (arith, at-loop-test .loop-test .taken)
+    omega
+    (arith, c .before .before .before .before .before .before .before .before .before .before .before .before .before .before .before .before .before .before .before .before .before .before .loop-test .taken)
 
 loop-again : tie.Need-loop-again Inv-loop μ-loop
 loop-again c =
@@ -125,8 +136,8 @@ loop-again c =
 same-length-2 : tie.Need-same-length-2 Inv-loop μ-loop
 same-length-2 c = c .before .loop .inv .so-far .same-length
 
-returns-2 : tie.Need-returns-2 Inv-loop μ-loop
-returns-2 c = linking-done _ _ _ _ _ _ _ _ _ (c .before .loop .inv) (omega arith)
+returns-3 : tie.Need-returns-3 Inv-loop μ-loop
+returns-3 c = linking-done _ _ _ _ _ _ _ _ _ (c .before .loop .inv) (omega arith)
 
 pub step-links-spec : {M : Type 1} → statement M
 step-links-spec =
@@ -134,13 +145,14 @@ step-links-spec =
     (tie.spec
     Inv-loop
     μ-loop
+    returns
     sheet-of-requires
     columns-of-requires
     rows-of-requires
     nodes-of-requires
     vertical-row-requires
     same-length
-    returns
+    returns-2
     loop-holds
     step-side-requires
     step-side-requires-2
@@ -157,4 +169,4 @@ step-links-spec =
     loop-less
     loop-again
     same-length-2
-    returns-2)
+    returns-3)

@@ -18,6 +18,9 @@ abbrev μ-loop : tie.MeasureT-loop
 returns : tie.Need-returns Inv-loop μ-loop
 returns c = absurd (omega arith)
 
+returns-2 : tie.Need-returns-2 Inv-loop μ-loop
+returns-2 c = absurd (omega arith)
+
 loop-holds : tie.Need-loop-holds Inv-loop μ-loop
 loop-holds c = (omega arith, stage-start _ _ _ _)
 
@@ -52,17 +55,19 @@ loop-again c =
     let at-get2 = at-put-reg .before .before in
     let at-get = at-get2 .before in
     let at-loop = at-get .before .before in
-    let entry = at-loop .before .before .before .before .before in (
+    let entry = at-loop .before .before .before .before .before .before in (
       omega arith,
-      outs-more _ _ _ _ _ (omega arith) (entry .pre .0) (at-loop .loop .inv .1) _ _ (at-get .get .ensures)
-          (at-get2 .get2 .ensures) _ _ (at-put-reg .put-reg .ensures) (at-put-reg2 .put-reg2 .ensures),
+      outs-more _ _ _ _ _ (omega arith) (entry .pre .0) (at-loop .loop .inv .1) _ _ (at-get .get .ensures) (at-get2 .get2 .ensures) _ _
+          (at-put-reg .put-reg .ensures) (at-put-reg2 .put-reg2 .ensures),
     )
 
 same-length : tie.Need-same-length Inv-loop μ-loop
 same-length c = c .before .loop .inv .1 .same-length
 
-returns-2 : tie.Need-returns-2 Inv-loop μ-loop
-returns-2 c = filled _ _ _ _ _ _ _ (c .before .before .before .before .before .before .pre .0) (c .before .loop .inv .1) (omega arith) (omega arith)
+returns-3 : tie.Need-returns-3 Inv-loop μ-loop
+returns-3 c =
+    filled _ _ _ _ _ _ _ (c .before .before .before .before .before .before .before .pre .0) (c .before .loop .inv .1) (omega arith)
+    (omega arith)
 
 pub step-outs-spec : {M : Type 1} → statement M
 step-outs-spec =
@@ -71,6 +76,7 @@ step-outs-spec =
     Inv-loop
     μ-loop
     returns
+    returns-2
     loop-holds
     cast-get
     get-requires
@@ -82,4 +88,4 @@ step-outs-spec =
     loop-less
     loop-again
     same-length
-    returns-2)
+    returns-3)

@@ -13,6 +13,9 @@ Inv-loop s₀ slots count c₀ s c = Stepping s₀ count s c
 abbrev μ-loop : tie.MeasureT-loop
 μ-loop s₀ slots count c₀ s c = count - c
 
+returns : tie.Need-returns Inv-loop μ-loop
+returns c = absurd (let z : ⊥ = omega (arith, c .if1 .taken, c .before .before .before .pre .0 .long) in z)
+
 sheet-of-requires : tie.Need-sheet-of-requires Inv-loop μ-loop
 sheet-of-requires c κs = search needs
 
@@ -25,13 +28,11 @@ loop-holds c = stepping-start _ _ (c .before .sheet-of .ensures) _ (c .circuits-
 step-sender-requires : tie.Need-step-sender-requires Inv-loop μ-loop
 step-sender-requires c κs =
     let at-loop = c .before .before in
-    let entry = at-loop .before .before .before .before .before .before in (
+    let entry = at-loop .before .before .before .before .before .before .before in (
       step-paired _ (entry .pre .0) _ _ _ (at-loop .loop .inv) (omega arith),
-      step-table _ (entry .pre .0) _ _ _ (at-loop .loop .inv)
-          (omega arith) _ (entry .pre .1),
+      step-table _ (entry .pre .0) _ _ _ (at-loop .loop .inv) (omega arith) _ (entry .pre .1),
       step-inside _ (entry .pre .0) _ _ _ (at-loop .loop .inv) (omega arith),
-      step-sending _ (entry .pre .0)
-          _ _ _ (at-loop .loop .inv) (omega arith),
+      step-sending _ (entry .pre .0) _ _ _ (at-loop .loop .inv) (omega arith),
     )
 
 add-c : tie.Need-add-c Inv-loop μ-loop
@@ -44,14 +45,15 @@ loop-again : tie.Need-loop-again Inv-loop μ-loop
 loop-again c =
     let at-step-sender = c .before .before in
     let at-loop = at-step-sender .before .before .before in
-    let entry = at-loop .before .before .before .before .before .before in
+    let entry = at-loop .before .before .before .before .before .before .before in
     stepping-more _ (entry .pre .0) _ _ _ (at-loop .loop .inv) (omega arith) _ (at-step-sender .step-sender .ensures)
 
 same-length : tie.Need-same-length Inv-loop μ-loop
-same-length c = stepping-length _ (c .before .before .before .before .before .before .before .pre .0) _ _ _ (c .before .loop .inv)
+same-length c = stepping-length _ (c .before .before .before .before .before .before .before .before .pre .0) _ _ _ (c .before .loop .inv)
 
-returns : tie.Need-returns Inv-loop μ-loop
-returns c = stepping-done _ (c .before .before .before .before .before .before .before .pre .0) _ _ _ (c .before .loop .inv) (omega arith)
+returns-2 : tie.Need-returns-2 Inv-loop μ-loop
+returns-2 c =
+    stepping-done _ (c .before .before .before .before .before .before .before .before .pre .0) _ _ _ (c .before .loop .inv) (omega arith)
 
 pub step-senders-spec : {M : Type 1} → statement M
 step-senders-spec =
@@ -59,6 +61,7 @@ step-senders-spec =
     (tie.spec
     Inv-loop
     μ-loop
+    returns
     sheet-of-requires
     circuits-of-requires
     loop-holds
@@ -67,4 +70,4 @@ step-senders-spec =
     loop-less
     loop-again
     same-length
-    returns)
+    returns-2)

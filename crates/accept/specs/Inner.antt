@@ -1,0 +1,3 @@
+pub mod Arranged
+pub mod Working
+pub mod Placing

@@ -1,0 +1,4 @@
+pub mod OpeningLaws
+pub mod StillLaws
+pub mod CrossLaws
+pub mod RestingLaws
