@@ -4,7 +4,7 @@
 use Prim.Native.Nat.{ℕ, zero, suc, _+_, _*_, _/_, _%_, _<_, _≤_}
 use mathlib.Core.Bool.{Bool, true, false, false≢true}
 use mathlib.Core.List.{List}
-use mathlib.Core.Path.{_≡_, refl, sym, _∙_, ap, ap₂}
+use mathlib.Core.Path.{_≡_, refl, sym, subst, _∙_, ap, ap₂}
 use native.Mathlib.Omega.{arith}
 use native.Mathlib.Numerals.{add-one}
 use native.Mathlib.Decide.{ℕ-discrete}
@@ -19,7 +19,7 @@ use Rattle.sheet.specs.Sheet.{nodes}
 use Rattle.network.specs.Registers.{reg, sheetIn, headMark, headWord, choiceRow, at, rowWords, movingWords}
 use Rattle.network.specs.Inner.Machine.{firstMark, firstWord, askedMark, nextOutMark, nextOutWord, collidesIn, unchosenIn}
 use Rattle.network.proofs.FirstLaws.{word-empty}
-use Rattle.routers.specs.Inner.Crossing.{asking, unchosenAt, Crossed}
+use Rattle.routers.specs.Inner.Crossing.{asking, unchosenAt, Crossed, CrossedNode}
 use Rattle.routers.proofs.OrderLaws.{passed, passed-some, passed-own, passed-other, passed-start, passed-end, passed-over}
 use Rattle.routers.proofs.PlaceLaws.{same-pick, zero-pick, some-sum, two-more, and-yes, no-nodes}
 
@@ -216,6 +216,25 @@ crossing-more s n k marks cells marks′ cells′ faults fault small l g x = rec
         meets-step (countOf (passed p k) (λ i. 1 ≤? asked s p i)) (word marks p) (asking s k p)
         (count-first (asked s p) (passed p k) ∙ ap (λ m. 1 ≤? m) (sym (g .marks-at p pl)))
         ∙ ap (λ c. 2 ≤? c) (sym (count-step s p k))
+
+-- the five inputs of one node more
+pub crossing-node : (s : List ℕ) (n node : ℕ) (marks cells marks′ cells′ : List ℕ) (faults fault : ℕ) → n ≤ 16 → node < n
+    → Crossing s n (node * 5) marks cells faults → CrossedNode s (node * 5) marks cells marks′ cells′ fault
+    → Crossing s n ((node + 1) * 5) marks′ cells′ (faults + fault)
+crossing-node s n node marks cells marks′ cells′ faults fault few l g x =
+    let k : ℕ = node * 5 in
+    let small : n * 5 < 81 = omega arith in
+    let inside : k + 4 < n * 5 = omega arith in
+    let step : (i i′ : ℕ) (m w m′ w′ : List ℕ) (f f′ : ℕ) → i < n * 5 → i + 1 ≡ i′ → Crossing s n i m w f → Crossed s i m w m′ w′ f′
+    → Crossing s n i′ m′ w′ (f + f′) =
+    λ i i′ m w m′ w′ f f′ il e h y. subst (λ j. Crossing s n j m′ w′ (f + f′)) e (crossing-more s n i m w m′ w′ f f′ small il h y) in
+    let g₁ = step k (k + 1) marks cells (x .marks₁) (x .cells₁) faults (x .fault₁) (omega arith) refl g (x .first) in
+    let g₂ = step (k + 1) (k + 2) (x .marks₁) (x .cells₁) (x .marks₂) (x .cells₂) _ (x .fault₂) (omega arith) (omega arith) g₁ (x .second) in
+    let g₃ = step (k + 2) (k + 3) (x .marks₂) (x .cells₂) (x .marks₃) (x .cells₃) _ (x .fault₃) (omega arith) (omega arith) g₂ (x .third) in
+    let g₄ = step (k + 3) (k + 4) (x .marks₃) (x .cells₃) (x .marks₄) (x .cells₄) _ (x .fault₄) (omega arith) (omega arith) g₃ (x .fourth) in
+    let g₅ = step (k + 4) ((node + 1) * 5) (x .marks₄) (x .cells₄) marks′ cells′ _ (x .fault₅) (omega arith) (omega arith) g₄ (x .fifth) in
+    let sum : faults + x .fault₁ + x .fault₂ + x .fault₃ + x .fault₄ + x .fault₅ ≡ faults + fault = omega (arith, x .sum) in
+    subst (Crossing s n ((node + 1) * 5) marks′ cells′) sum g₅
 
 -- all inputs
 module _ (s : List ℕ) (n k : ℕ) (marks cells : List ℕ) (faults : ℕ) (own : n ≡ nodes (sheetIn s)) (g : Crossing s n k marks cells faults)

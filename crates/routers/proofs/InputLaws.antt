@@ -6,6 +6,7 @@ use mathlib.Core.List.{List}
 use mathlib.Core.Path.{_≡_, refl, sym, subst, _∙_, ap}
 use native.Mathlib.Omega.{arith}
 use native.Mathlib.Decide.{ℕ-discrete}
+use lib.Bits.{bitOr}
 use lib.ListN.{length, set, length-set}
 use lib.Seq.{getD-set-same, getD-set-other}
 use Rattle.words.specs.Tests.{any, _and_, _or_, _≤?_, _=?_}
@@ -13,8 +14,8 @@ use Rattle.words.specs.Words.{word, pick}
 use Rattle.words.proofs.AllLaws.{any-at, any-none}
 use Rattle.words.proofs.TestLaws.{and-no, and-both, and-no-right, or-yes, or-on, is=, yes=, no=, yes≤, no≤}
 use Rattle.network.specs.Registers.{reg, headMark, headWord, choiceRow, rowWords}
-use Rattle.routers.specs.Inner.Crossing.{asking, unchosenAt, Crossed}
-use Rattle.routers.proofs.PlaceLaws.{same-pick, zero-pick}
+use Rattle.routers.specs.Inner.Crossing.{asking, unchosenAt, Crossed, HeadsEmpty, CrossedNode}
+use Rattle.routers.proofs.PlaceLaws.{same-pick, zero-pick, or-left, or-right}
 
 -- what becomes of an output's mark and word where nothing is asked of it
 mark-stays : (mark a : ℕ) → a ≡ 0 → mark ≡ pick (mark =? 0) a mark
@@ -225,3 +226,92 @@ module _ (s : List ℕ) (k : ℕ) (marks cells : List ℕ) (ml : length marks �
     crossed-first old oe free h he marks′ cells′ a b =
         subst (λ m. Crossed s k marks cells m cells′ 0) (sym a)
         (subst (λ w. Crossed s k marks cells (set marks place mark) w 0) (sym b) (stored old oe free h he))
+
+-- the marks of five inputs, joined by or, are 0
+pub heads-empty : (s : List ℕ) (k : ℕ)
+    → bitOr
+    (bitOr
+    (bitOr (bitOr (word s (headMark * rowWords + k)) (word s (headMark * rowWords + k + 1))) (word s (headMark * rowWords + k + 2)))
+    (word s (headMark * rowWords + k + 3)))
+    (word s (headMark * rowWords + k + 4))
+    ≡ 0
+    → HeadsEmpty s k
+unfolding reg
+heads-empty s k e₅ =
+    let m : ℕ = headMark * rowWords + k in
+    let o₂ : ℕ = bitOr (word s m) (word s (m + 1)) in
+    let o₃ : ℕ = bitOr o₂ (word s (m + 2)) in
+    let o₄ : ℕ = bitOr o₃ (word s (m + 3)) in
+    let e₄ = or-left o₄ (word s (m + 4)) e₅ in
+    let e₃ = or-left o₃ (word s (m + 3)) e₄ in
+    let e₂ = or-left o₂ (word s (m + 2)) e₃ in
+    let at₁ : headMark * rowWords + (k + 1) ≡ m + 1 = omega arith in
+    let at₂ : headMark * rowWords + (k + 2) ≡ m + 2 = omega arith in
+    let at₃ : headMark * rowWords + (k + 3) ≡ m + 3 = omega arith in
+    let at₄ : headMark * rowWords + (k + 4) ≡ m + 4 = omega arith in
+    record {
+      first = or-left (word s m) (word s (m + 1)) e₂;
+      second = ap (word s) at₁ ∙ or-right (word s m) (word s (m + 1)) e₂;
+      third = ap (word s) at₂ ∙ or-right o₂ (word s (m + 2)) e₃;
+      fourth = ap (word s) at₃ ∙ or-right o₃ (word s (m + 3)) e₄;
+      fifth = ap (word s) at₄ ∙ or-right o₄ (word s (m + 4)) e₅;
+    }
+
+-- five inputs without a word: the tables stay
+module _ (s : List ℕ) (marks cells : List ℕ) (ml : length marks ≡ rowWords) (cl : length cells ≡ rowWords) where
+  crossed-empty : (k : ℕ) → reg s headMark k ≡ 0 → Crossed s k marks cells marks cells 0
+  crossed-empty k e = crossed-none s k marks cells ml cl (no-payload s k 0 (sym e) (omega arith)) (asks-empty s k 0 (sym e) refl)
+
+  pub node-empty : (k : ℕ) → HeadsEmpty s k → CrossedNode s k marks cells marks cells 0
+  node-empty k h = record {
+    marks₁ = marks;
+    marks₂ = marks;
+    marks₃ = marks;
+    marks₄ = marks;
+    cells₁ = cells;
+    cells₂ = cells;
+    cells₃ = cells;
+    cells₄ = cells;
+    fault₁ = 0;
+    fault₂ = 0;
+    fault₃ = 0;
+    fault₄ = 0;
+    fault₅ = 0;
+    first = crossed-empty k (h .first);
+    second = crossed-empty (k + 1) (h .second);
+    third = crossed-empty (k + 2) (h .third);
+    fourth = crossed-empty (k + 3) (h .fourth);
+    fifth = crossed-empty (k + 4) (h .fifth);
+    sum = refl;
+  }
+
+-- five inputs, one after the other
+pub node-crossed : (s : List ℕ) (k : ℕ) (m m₁ m₂ m₃ m₄ m₅ w w₁ w₂ w₃ w₄ w₅ : List ℕ) (f₁ f₂ f₃ f₄ f₅ : ℕ)
+    → Crossed s k m w m₁ w₁ f₁ → Crossed s (k + 1) m₁ w₁ m₂ w₂ f₂ → Crossed s (k + 2) m₂ w₂ m₃ w₃ f₃ → Crossed s (k + 3) m₃ w₃ m₄ w₄ f₄
+    → Crossed s (k + 4) m₄ w₄ m₅ w₅ f₅ → CrossedNode s k m w m₅ w₅ (f₁ + f₂ + f₃ + f₄ + f₅)
+node-crossed s k m m₁ m₂ m₃ m₄ m₅ w w₁ w₂ w₃ w₄ w₅ f₁ f₂ f₃ f₄ f₅ a b c d e = record {
+  marks₁ = m₁;
+  marks₂ = m₂;
+  marks₃ = m₃;
+  marks₄ = m₄;
+  cells₁ = w₁;
+  cells₂ = w₂;
+  cells₃ = w₃;
+  cells₄ = w₄;
+  fault₁ = f₁;
+  fault₂ = f₂;
+  fault₃ = f₃;
+  fault₄ = f₄;
+  fault₅ = f₅;
+  first = a;
+  second = b;
+  third = c;
+  fourth = d;
+  fifth = e;
+  sum = refl;
+}
+
+-- five faults at most
+pub node-few : (s : List ℕ) (k : ℕ) (m w m′ w′ : List ℕ) (faults : ℕ) → CrossedNode s k m w m′ w′ faults → faults ≤ 5
+node-few s k m w m′ w′ faults g =
+    omega (arith, g .sum, g .first .one, g .second .one, g .third .one, g .fourth .one, g .fifth .one)

@@ -1,7 +1,7 @@
 // The routers' part of a clock cycle, over the words of a session state: number 20's tests of their words, and the three stages, each
 // written in place.
 ghost use mathlib.Core.Path.{_≡_};
-ghost use Prim.Native.Nat.{_*_, _/_, _%_, _<_, _≤_};
+ghost use Prim.Native.Nat.{_+_, _*_, _/_, _%_, _<_, _≤_};
 ghost use mathlib.Core.List.{[]};
 ghost use lib.ListN.{length};
 ghost use Rattle.words.specs.Tests.{any, _and_, _or_, _≤?_, _<?_, _=?_};
@@ -12,8 +12,9 @@ ghost use Rattle.sheet.specs.Inner.Passed.{Headed};
 ghost use Rattle.network.specs.Registers.{reg as regOf, sheetIn, movingWords, linkMark, linkWord, latchRow, rowWords, headMark, outMark, outWord, extraMark, extraWord};
 ghost use Rattle.network.specs.Inner.Machine.{nextChoice, nextOutMark, nextOutWord, collidesIn, unheldIn, unchosenIn, nextInRow};
 ghost use Rattle.network.specs.Inner.Stages.{stage, linkFrom, outFrom};
-ghost use Rattle.routers.specs.Inner.Crossing.{Crossed};
-ghost use Rattle.routers.specs.Inner.Stepping.{linked, linkedBy, extended, headStepped};
+ghost use Rattle.routers.specs.Inner.Crossing.{Crossed, HeadsEmpty, CrossedNode};
+ghost use Rattle.routers.specs.Inner.Stepping.{linked, pushedBy, SidesEmpty, pushedAll, extended, headStepped};
+use network::ROW_WORDS;
 use network::put_reg;
 use network::reg;
 
@@ -21,6 +22,17 @@ use network::reg;
 // loop below returns at once where that were not so, so that a compiler can know every place to be in its row, and every row in the state,
 // and leave out the test at each access.
 const MOST_NODES: u32 = 16;
+
+// Where the rows begin that are read or written by proved indices.
+const LINK_MARKS: usize = network::LINK_MARK as usize * ROW_WORDS;
+
+const LINK_WORDS: usize = network::LINK_WORD as usize * ROW_WORDS;
+
+const HEAD_MARKS: usize = network::HEAD_MARK as usize * ROW_WORDS;
+
+const OUT_MARKS: usize = network::OUT_MARK as usize * ROW_WORDS;
+
+const OUT_WORDS: usize = network::OUT_WORD as usize * ROW_WORDS;
 
 // 1 for the mark of a payload word and a latch that holds no choice, else 0. Both are read before they are tested, so that the loop over
 // them has no jump.
@@ -44,7 +56,7 @@ pub fn has_unheld(s: &[u32], count: u32) -> bool
     if s.len() < network::MOVING_WORDS {
         return false;
     }
-    if network::ROW_WORDS < count as usize {
+    if ROW_WORDS < count as usize {
         return false;
     }
     let mut faults: u32 = 0;
@@ -87,6 +99,32 @@ fn cross_input(s: &[u32], k: u32, marks: &mut [u32], cells: &mut [u32]) -> u32
     0
 }
 
+// The marks of five inputs' header stages from input k on, joined by or: 0 where all of them are 0.
+fn heads_joined(s: &[u32], k: u32) -> u32
+    requires { ⌜ (k + 4 < rowWords) × (movingWords ≤ length (now s)) ⌝ }
+    ensures { λ r. ⌜ (r ≡ 0 → HeadsEmpty (now (s .entry)) k) ⌝ }
+{
+    let from = HEAD_MARKS + k as usize;
+    s[from] | s[from + 1] | s[from + 2] | s[from + 3] | s[from + 4]
+}
+
+// The five inputs of a node, from input k on, one after the other; most nodes have no word there, which one test tells. Answers how many
+// of them have a fault.
+fn cross_node(s: &[u32], k: u32, marks: &mut [u32], cells: &mut [u32]) -> u32
+    requires { ⌜ (k + 4 < rowWords) × (movingWords ≤ length (now s)) × (length (now marks) ≡ rowWords) × (length (now cells) ≡ rowWords) ⌝ }
+    ensures { λ r. ⌜ CrossedNode (now (s .entry)) k (now (marks .entry)) (now (cells .entry)) (now (marks .exit)) (now (cells .exit)) r ⌝ }
+{
+    if heads_joined(s, k) == 0 {
+        return 0;
+    }
+    let first = cross_input(s, k, marks, cells);
+    let second = cross_input(s, k + 1, marks, cells);
+    let third = cross_input(s, k + 2, marks, cells);
+    let fourth = cross_input(s, k + 3, marks, cells);
+    let fifth = cross_input(s, k + 4, marks, cells);
+    first + second + third + fourth + fifth
+}
+
 // The crossbar of all nodes: what goes on each output, into two lent tables of zeros. Number 20: two words want one output, of which the
 // first stays, or a payload word left the header stage with no choice.
 pub fn cross(s: &[u32], nodes: u32, marks: &mut [u32], cells: &mut [u32]) -> bool
@@ -98,15 +136,14 @@ pub fn cross(s: &[u32], nodes: u32, marks: &mut [u32], cells: &mut [u32]) -> boo
     if s.len() < network::MOVING_WORDS {
         return false;
     }
-    let count = nodes * 5;
-    if network::ROW_WORDS < count as usize {
+    if MOST_NODES < nodes {
         return false;
     }
     let mut faults: u32 = 0;
-    let mut k: u32 = 0;
-    while k < count {
-        faults += cross_input(s, k, marks, cells);
-        k += 1;
+    let mut node: u32 = 0;
+    while node < nodes {
+        faults += cross_node(s, node * 5, marks, cells);
+        node += 1;
     }
     1 <= faults
 }
@@ -164,12 +201,12 @@ pub fn step_heads(s: &mut [u32], count: u32)
     if s.len() < network::MOVING_WORDS {
         return;
     }
-    if network::ROW_WORDS < count as usize {
+    if ROW_WORDS < count as usize {
         return;
     }
     let mut k: u32 = 0;
     while k < count {
-        if network::ROW_WORDS <= k as usize {
+        if ROW_WORDS <= k as usize {
             return;
         }
         step_head(s, k);
@@ -196,19 +233,72 @@ fn vertical_row(z: &[u32]) -> u32
     network::OUT_MARK
 }
 
-// The link register of a side's input: what comes out of the neighbour's link by the opposite side, the mark from a row and the word from
-// the row behind it.
-fn step_side(s: &mut [u32], cols: u32, rows: u32, node: u32, side: u32, row: u32)
-    requires { ⌜ (InGrid cols rows node) × (side < 4) × (row ≤ extraMark) ⌝ }
-    ensures { λ _. ⌜ now (s .exit) ≡ linkedBy (now (s .entry)) cols rows node side row ⌝ }
+// Empties the link registers of so many inputs.
+fn clear_links(s: &mut [u32], count: u32)
+    requires { ⌜ (count ≤ rowWords) × (movingWords ≤ length (now s)) ⌝ }
+    ensures { λ _. ⌜ now (s .exit) ≡ stage linkMark linkWord count (λ row k. 0) (now (s .entry)) ⌝ }
 {
-    let from = torus::neighbour(cols, rows, node, side) * 5 + (side + 2) % 4;
+    let end = count as usize;
+    let mut k: usize = 0;
+    while k < end {
+        s[LINK_MARKS + k] = 0;
+        s[LINK_WORDS + k] = 0;
+        k += 1;
+    }
+}
+
+// What comes out of a side's link, the mark from a row and the word from the row behind it, goes into the link register of the neighbour's
+// opposite side; where both are 0, that register is left empty.
+fn push_side(s: &mut [u32], cols: u32, rows: u32, node: u32, side: u32, row: u32)
+    requires { ⌜ (InGrid cols rows node) × (side < 4) × (row ≤ extraMark) ⌝ }
+    ensures { λ _. ⌜ now (s .exit) ≡ pushedBy (now (s .entry)) cols rows node side row ⌝ }
+{
+    let from = node * 5 + side;
     let mark = reg(s, row, from);
     let word = reg(s, row + 1, from);
-    put_link(s, node * 5 + side, mark, word);
+    if mark | word == 0 {
+        return;
+    }
+    let place = torus::neighbour(cols, rows, node, side) * 5 + (side + 2) % 4;
+    put_link(s, place, mark, word);
+}
+
+// The marks and the words that come out of a node's links, joined by or: 0 where all of them are 0. They are read by proved indices, so that
+// nothing is tested on the way.
+fn sides_joined(s: &[u32], node: u32, vertical: u32) -> u32
+    requires { ⌜ (node < 16) × (vertical ≤ extraMark) × (movingWords ≤ length (now s)) ⌝ }
+    ensures { λ r. ⌜ (r ≡ 0 → SidesEmpty (now (s .entry)) node vertical) ⌝ }
+{
+    let marks = (vertical as usize) * ROW_WORDS + (node as usize) * 5;
+    let cells = marks + ROW_WORDS;
+    let level_marks = OUT_MARKS + (node as usize) * 5;
+    let level_cells = OUT_WORDS + (node as usize) * 5;
+    s[marks]
+        | s[cells]
+        | s[level_marks + 1]
+        | s[level_cells + 1]
+        | s[marks + 2]
+        | s[cells + 2]
+        | s[level_marks + 3]
+        | s[level_cells + 3]
+}
+
+// What comes out of a node's four links; of most nodes nothing does, and then no neighbour is looked for.
+fn push_sides(s: &mut [u32], cols: u32, rows: u32, node: u32, vertical: u32)
+    requires { ⌜ (InGrid cols rows node) × (vertical ≤ extraMark) × (movingWords ≤ length (now s)) ⌝ }
+    ensures { λ _. ⌜ now (s .exit) ≡ pushedAll (now (s .entry)) cols rows node vertical ⌝ }
+{
+    if sides_joined(s, node, vertical) == 0 {
+        return;
+    }
+    push_side(s, cols, rows, node, 0, vertical);
+    push_side(s, cols, rows, node, 1, network::OUT_MARK);
+    push_side(s, cols, rows, node, 2, vertical);
+    push_side(s, cols, rows, node, 3, network::OUT_MARK);
 }
 
 // The link registers of all inputs: what comes out of the neighbours' links, and what is on the source wires, a mark and a word a node.
+// They are emptied first, since few words are under way in most cycles.
 pub fn step_links(s: &mut [u32], marks: &[u32], cells: &[u32])
     requires { ⌜ (Headed (sheetIn (now s))) × (movingWords ≤ length (now s)) ⌝ }
     ensures { λ _. ⌜ now (s .exit) ≡ stage linkMark linkWord (nodeCount (sheetIn (now (s .entry))) * 5) (linkFrom (now (marks .entry)) (now (cells .entry)) (now (s .entry))) (now (s .entry)) ⌝ }
@@ -224,12 +314,10 @@ pub fn step_links(s: &mut [u32], marks: &[u32], cells: &[u32])
     if MOST_NODES < nodes {
         return;
     }
+    clear_links(s, nodes * 5);
     let mut node: u32 = 0;
     while node < nodes {
-        step_side(s, cols, rows, node, 0, vertical);
-        step_side(s, cols, rows, node, 1, network::OUT_MARK);
-        step_side(s, cols, rows, node, 2, vertical);
-        step_side(s, cols, rows, node, 3, network::OUT_MARK);
+        push_sides(s, cols, rows, node, vertical);
         let mark = words::get(marks, node as usize);
         let word = words::get(cells, node as usize);
         put_link(s, node * 5 + network::SOURCE_INPUT, mark, word);
@@ -277,7 +365,7 @@ pub fn step_outs(s: &mut [u32], count: u32, marks: &[u32], cells: &[u32])
     if s.len() < network::MOVING_WORDS {
         return;
     }
-    if network::ROW_WORDS < count as usize {
+    if ROW_WORDS < count as usize {
         return;
     }
     let mut k: u32 = 0;

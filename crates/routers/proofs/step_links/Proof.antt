@@ -1,6 +1,7 @@
--- `routers::step_links` meets its contract: each turn writes the five inputs of one node; the out registers, which it reads, are never written.
+-- `routers::step_links` meets its contract: the registers are emptied, and each turn fills those of the five places that one node fills; the out registers and
+-- the extra registers, which it reads, are never written.
 -- Assumes nothing.
-use Rattle.routers.proofs.LinkLaws.{Linking, linking-start, linking-row, linking-grid, linking-more, linking-done}
+use Rattle.routers.proofs.LinkLaws.{Linking, linking-start, linking-row, linking-grid, linking-long, linking-more, linking-length, linking-done}
 use native.Mathlib.Omega.{arith}
 use Prim.Native.Nat.{_-_}
 use Rattle.sheet.specs.Inner.Passed.{Headed}
@@ -27,10 +28,7 @@ rows-of-requires : tie.Need-rows-of-requires Inv-loop μ-loop
 rows-of-requires c κs = tt
 
 nodes-of-requires : tie.Need-nodes-of-requires Inv-loop μ-loop
-nodes-of-requires c κs =
-    let at-sheet-of = c .before .before in
-    let entry = at-sheet-of .before .before .before .before .before .before in
-    subst Headed (sym (at-sheet-of .sheet-of .ensures)) (entry .pre .0)
+nodes-of-requires c κs = subst Headed (sym (c .before .before .sheet-of .ensures)) (c .before .before .before .before .before .before .before .before .pre .0)
 
 vertical-row-requires : tie.Need-vertical-row-requires Inv-loop μ-loop
 vertical-row-requires c κs = tt
@@ -41,41 +39,17 @@ same-length c = refl
 returns-2 : tie.Need-returns-2 Inv-loop μ-loop
 returns-2 c = absurd (omega arith)
 
+mul-clear-links : tie.Need-mul-clear-links Inv-loop μ-loop
+mul-clear-links c = omega arith
+
+clear-links-requires : tie.Need-clear-links-requires Inv-loop μ-loop
+clear-links-requires c κs = (omega arith, c .before .before .before .before .before .before .before .before .before .before .before .before .pre .1)
+
 loop-holds : tie.Need-loop-holds Inv-loop μ-loop
-loop-holds c =
-    let at-nodes-of = c .before .before in
-    let at-rows-of = at-nodes-of .before in
-    let at-columns-of = at-rows-of .before in
-    let at-sheet-of = at-columns-of .before in
-    let entry = at-sheet-of .before .before .before .before .before .before in
-    linking-start _ _ (at-sheet-of .sheet-of .ensures) _ _ _ (at-columns-of .columns-of .ensures) (at-rows-of .rows-of .ensures)
-    (at-nodes-of .nodes-of .ensures) _ (c .before .vertical-row .ensures) (entry .pre .0) _ _ (entry .pre .1)
+loop-holds c = linking-start _ _ (c .before .before .before .before .before .before .before .before .before .sheet-of .ensures) _ _ _ (c .before .before .before .before .before .before .before .before .columns-of .ensures) (c .before .before .before .before .before .before .before .rows-of .ensures) (c .before .before .before .before .before .before .nodes-of .ensures) _ (c .before .before .before .before .before .vertical-row .ensures) (c .before .before .before .before .before .before .before .before .before .before .before .before .before .before .before .pre .0) _ _ (c .before .before .before .before .before .before .before .before .before .before .before .before .before .before .before .pre .1) _ (c .before .before .clear-links .ensures)
 
-step-side-requires : tie.Need-step-side-requires Inv-loop μ-loop
-step-side-requires c κs =
-    let at-loop = c .before .before in
-    (linking-grid _ _ _ _ _ _ _ _ _ (at-loop .loop .inv) (omega arith), omega arith, linking-row _ _ _ _ _ _ _ _ _ (at-loop .loop .inv))
-
-step-side-requires-2 : tie.Need-step-side-requires-2 Inv-loop μ-loop
-step-side-requires-2 c κs = (
-  linking-grid _ _ _ _ _ _ _ _ _ (c .before .before .before .before .before .before .loop .inv) (omega arith),
-  omega arith,
-  omega arith,
-)
-
-step-side-requires-3 : tie.Need-step-side-requires-3 Inv-loop μ-loop
-step-side-requires-3 c κs =
-    let at-loop = c .before .before .before .before .before .before .before .before .before .before in
-    (linking-grid _ _ _ _ _ _ _ _ _ (at-loop .loop .inv) (omega arith), omega arith, linking-row _ _ _ _ _ _ _ _ _ (at-loop .loop .inv))
-
-step-side-requires-4 : tie.Need-step-side-requires-4 Inv-loop μ-loop
-step-side-requires-4 c κs = (
-  linking-grid _ _ _ _ _ _ _ _ _
-      (c .before .before .before .before .before .before .before .before .before .before .before .before .before .before .loop .inv)
-      (omega arith),
-  omega arith,
-  omega arith,
-)
+push-sides-requires : tie.Need-push-sides-requires Inv-loop μ-loop
+push-sides-requires c κs = (linking-grid _ _ _ _ _ _ _ _ _ (c .before .before .loop .inv) (omega arith), linking-row _ _ _ _ _ _ _ _ _ (c .before .before .loop .inv), linking-long _ _ _ _ _ _ _ _ _ (c .before .before .loop .inv))
 
 cast-get : tie.Need-cast-get Inv-loop μ-loop
 cast-get c = omega arith
@@ -90,54 +64,28 @@ get-requires-2 : tie.Need-get-requires-2 Inv-loop μ-loop
 get-requires-2 c κs = tt
 
 mul-put-link : tie.Need-mul-put-link Inv-loop μ-loop
-mul-put-link c =
-    let at-loop-test = c .before .before .before .before .before .before .before .before .before .before .before .before .before .before .before .before
-    .before .before .before in
-    let at-loop = at-loop-test .before in
-    omega (arith, at-loop .loop .inv .few, at-loop-test .loop-test .taken)
+mul-put-link c = omega (arith, c .before .before .before .before .before .before .before .before .loop .inv .few, c .before .before .before .before .before .before .before .loop-test .taken)
 
 add-put-link : tie.Need-add-put-link Inv-loop μ-loop
-add-put-link c =
-    let at-loop-test = c .before .before .before .before .before .before .before .before .before .before .before .before .before .before .before .before
-    .before .before .before in
-    let at-loop = at-loop-test .before in
-    omega (arith, at-loop .loop .inv .few, at-loop-test .loop-test .taken)
+add-put-link c = omega (arith, c .before .before .before .before .before .before .before .before .loop .inv .few, c .before .before .before .before .before .before .before .loop-test .taken)
 
 put-link-requires : tie.Need-put-link-requires Inv-loop μ-loop
 put-link-requires c κs = tt
 
 add-node : tie.Need-add-node Inv-loop μ-loop
-add-node c =
-    let at-loop-test = c .before .before .before .before .before .before .before .before .before .before .before .before .before .before .before .before
-    .before .before .before .before .before .before in
-    let at-loop = at-loop-test .before in
-    omega (arith, at-loop .loop .inv .few, at-loop-test .loop-test .taken)
+add-node c = omega (arith, c .before .before .before .before .before .before .before .before .before .before .before .loop .inv .few, c .before .before .before .before .before .before .before .before .before .before .loop-test .taken)
 
 loop-less : tie.Need-loop-less Inv-loop μ-loop
-loop-less c =
-    omega
-    (arith, c .before .before .before .before .before .before .before .before .before .before .before .before .before .before .before .before .before .before .before .before .before .before .loop-test .taken)
+loop-less c = omega (arith, c .before .before .before .before .before .before .before .before .before .before .loop-test .taken)
 
 loop-again : tie.Need-loop-again Inv-loop μ-loop
-loop-again c =
-    let at-put-link = c .before .before in
-    let at-get2 = at-put-link .before .before in
-    let at-get = at-get2 .before in
-    let at-step-side4 = at-get .before .before .before in
-    let at-step-side3 = at-step-side4 .before .before .before .before in
-    let at-step-side2 = at-step-side3 .before .before .before .before in
-    let at-step-side = at-step-side2 .before .before .before .before in
-    let at-loop-test = at-step-side .before .before in
-    let at-loop = at-loop-test .before in
-    linking-more _ _ _ _ _ _ _ _ _ (at-loop .loop .inv) (at-loop-test .loop-test .taken) _ _ _ _ _ (at-step-side .step-side .ensures)
-    (at-step-side2 .step-side2 .ensures) (at-step-side3 .step-side3 .ensures) (at-step-side4 .step-side4 .ensures) _ _
-    (at-get .get .ensures) (at-get2 .get2 .ensures) (at-put-link .put-link .ensures)
+loop-again c = linking-more _ _ _ _ _ _ _ _ _ (c .before .before .before .before .before .before .before .before .before .before .before .loop .inv) (c .before .before .before .before .before .before .before .before .before .before .loop-test .taken) _ _ (c .before .before .before .before .before .before .before .before .push-sides .ensures) _ _ (c .before .before .before .before .before .get .ensures) (c .before .before .before .before .get2 .ensures) (c .before .before .put-link .ensures)
 
 same-length-2 : tie.Need-same-length-2 Inv-loop μ-loop
-same-length-2 c = c .before .loop .inv .so-far .same-length
+same-length-2 c = linking-length _ _ _ _ _ _ _ _ _ (c .before .loop .inv) _ (c .before .before .before .before .clear-links .ensures) (c .before .before .before .before .before .before .before .before .before .before .before .before .before .before .before .before .before .pre .1)
 
 returns-3 : tie.Need-returns-3 Inv-loop μ-loop
-returns-3 c = linking-done _ _ _ _ _ _ _ _ _ (c .before .loop .inv) (omega arith)
+returns-3 c = linking-done _ _ _ _ _ _ _ _ _ (c .before .loop .inv) _ (c .before .before .before .before .clear-links .ensures) (c .before .before .before .before .before .before .before .before .before .before .before .before .before .before .before .before .before .pre .1) (omega arith)
 
 pub step-links-spec : {M : Type 1} → statement M
 step-links-spec =
@@ -153,11 +101,10 @@ step-links-spec =
     vertical-row-requires
     same-length
     returns-2
+    mul-clear-links
+    clear-links-requires
     loop-holds
-    step-side-requires
-    step-side-requires-2
-    step-side-requires-3
-    step-side-requires-4
+    push-sides-requires
     cast-get
     get-requires
     cast-get-2
