@@ -62,9 +62,9 @@ fn carry_out(
     let room = sheet::memory_of(z);
     let long = sheet::is_long(z);
     routers::step_heads(s, nodes * 5);
-    routers::step_links(s, marks, cells);
+    links::step_links(s, marks, cells);
     receivers::step_receivers(s, m, nodes, room);
-    routers::step_extras(s, nodes, long);
+    links::step_extras(s, nodes, long);
     routers::step_outs(s, nodes * 5, outs, values);
     sources::step_senders(s, slots);
     receivers::step_clock(s);

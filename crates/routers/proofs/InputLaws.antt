@@ -15,7 +15,8 @@ use Rattle.words.proofs.AllLaws.{any-at, any-none}
 use Rattle.words.proofs.TestLaws.{and-no, and-both, and-no-right, or-yes, or-on, is=, yes=, no=, yes≤, no≤}
 use Rattle.network.specs.Registers.{reg, headMark, headWord, choiceRow, rowWords}
 use Rattle.routers.specs.Inner.Crossing.{asking, unchosenAt, Crossed, HeadsEmpty, CrossedNode}
-use Rattle.routers.proofs.PlaceLaws.{same-pick, zero-pick, or-left, or-right}
+use Rattle.routers.proofs.PlaceLaws.{same-pick, zero-pick}
+use Rattle.links.proofs.PairLaws.{or-left, or-right}
 
 -- what becomes of an output's mark and word where nothing is asked of it
 mark-stays : (mark a : ℕ) → a ≡ 0 → mark ≡ pick (mark =? 0) a mark

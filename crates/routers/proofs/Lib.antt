@@ -5,5 +5,3 @@ pub mod OrderLaws
 pub mod CrossLaws
 pub mod HeadLaws
 pub mod OutLaws
-pub mod ExtraStageLaws
-pub mod LinkLaws

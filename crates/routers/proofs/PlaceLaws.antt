@@ -1,11 +1,10 @@
--- Choices and tests of small numbers that come to the same; a state that is too short for its rows has no nodes; and words joined by or.
+-- Choices and tests of small numbers that come to the same; and a state that is too short for its rows has no nodes.
 -- Assumes nothing.
 use Prim.Native.Nat.{ℕ, _+_, _<_, _≤_}
 use mathlib.Core.Bool.{Bool, true, false}
 use mathlib.Core.List.{List, []}
 use mathlib.Core.Path.{_≡_, refl, sym, _∙_, ap}
 use native.Mathlib.Omega.{arith}
-use lib.Bits.{bitOr, or-add-and, and-le-l, and-le-r}
 use native.Mathlib.Nat.{zero-mul}
 use native.Mathlib.Decide.{decLe}
 use lib.ListN.{length}
@@ -67,16 +66,3 @@ two-more c = go (decLe 2 c) (decLe 1 c)
 -- a state that is too short for its rows has no sheet, and so no nodes
 pub no-nodes : (s : List ℕ) → length s < movingWords → nodes (sheetIn s) ≡ 0
 no-nodes s h = ap nodes (sym (sheet-short s (omega (arith, h)))) ∙ zero-mul (rows [])
-
--- two words joined by or are 0: so is each
-pub or-left : (a b : ℕ) → bitOr a b ≡ 0 → a ≡ 0
-or-left a b e =
-    let sum = or-add-and a b in
-    let less = and-le-r a b in
-    omega arith
-
-pub or-right : (a b : ℕ) → bitOr a b ≡ 0 → b ≡ 0
-or-right a b e =
-    let sum = or-add-and a b in
-    let less = and-le-l a b in
-    omega arith

@@ -7,7 +7,7 @@ use Rattle.network.specs.Registers.{headMark, latchRow}
 use Rattle.network.specs.Inner.Machine.{nextInRow}
 use Rattle.network.proofs.FillLaws.{Staged, stage-start}
 use Rattle.routers.proofs.HeadLaws.{heads-more}
-use Rattle.routers.proofs.OutLaws.{filled}
+use Rattle.links.proofs.PairLaws.{filled}
 use Rattle.routers.proofs.step_heads.Statement.{statement}
 use Rattle.routers.proofs.step_heads.Tie as tie
 

@@ -5,7 +5,8 @@ use Prim.Native.Nat.{_≤_, _-_}
 use Rattle.network.specs.Registers.{outMark, outWord}
 use Rattle.network.specs.Inner.Stages.{outFrom}
 use Rattle.network.proofs.FillLaws.{Staged, stage-start}
-use Rattle.routers.proofs.OutLaws.{outs-more, filled}
+use Rattle.routers.proofs.OutLaws.{outs-more}
+use Rattle.links.proofs.PairLaws.{filled}
 use Rattle.routers.proofs.step_outs.Statement.{statement}
 use Rattle.routers.proofs.step_outs.Tie as tie
 

@@ -17,16 +17,16 @@ use Rattle.torus.proofs.NeighbourLaws.{neighbour-inside, opposite-back, neighbo
 use Rattle.torus.proofs.RouteLaws.{vertical-north, vertical-south, vertical-none}
 use Rattle.sheet.specs.Sheet.{columns, rows, isLong, nodes}
 use Rattle.sheet.specs.Inner.Passed.{Headed}
-use Rattle.network.specs.Registers.{reg, put, sheetIn, movingWords, linkMark, linkWord, outMark, outWord, extraMark, extraWord, at, rowCount, rowWords}
+use Rattle.network.specs.Registers.{reg, put, sheetIn, movingWords, linkMark, linkWord, outMark, outWord, extraMark, extraWord, at, rowWords}
 use Rattle.network.specs.Cycle.{hasExtra}
 use Rattle.network.specs.View.{sourceInput}
 use Rattle.network.specs.Inner.Machine.{endMark, endWord, neighbourPlace}
 use Rattle.network.specs.Inner.Stages.{stage, linkFrom}
 use Rattle.network.proofs.ExtraLaws.{end-low, end-high, end-behind, end-vertical, end-level}
 use Rattle.network.proofs.FillLaws.{Wrote, wrote-nothing, Staged, stage-more, beside, here, off, stage-length, stage-rest, stage-sheet, staged-is}
-use Rattle.routers.specs.Inner.Stepping.{linked, placeBy, pushedBy, NoneAt, SidesEmpty, pushedAll}
-use Rattle.routers.proofs.OutLaws.{pair-wrote}
-use Rattle.routers.proofs.PlaceLaws.{or-left, or-right}
+use Rattle.links.specs.Inner.Linking.{linked, placeBy, pushedBy, NoneAt, SidesEmpty, pushedAll}
+use Rattle.links.proofs.PairLaws.{pair-wrote}
+use Rattle.links.proofs.PairLaws.{or-left, or-right}
 
 -- a link register is set, its mark and then its word
 pub link-is : (s s₁ s₂ : List ℕ) (k mark w : ℕ) → s₁ ≡ put s linkMark k mark → s₂ ≡ put s₁ linkWord k w → s₂ ≡ linked s k mark w

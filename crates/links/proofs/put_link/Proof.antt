@@ -1,9 +1,9 @@
--- `routers::put_link` meets its contract: the mark and the word are set one after the other.
+-- `links::put_link` meets its contract: the mark and the word are set one after the other.
 -- Assumes nothing.
-use Rattle.routers.proofs.LinkLaws.{link-is}
+use Rattle.links.proofs.LinkLaws.{link-is}
 use borrow.Author.Needs.{needs}
-use Rattle.routers.proofs.put_link.Statement.{statement}
-use Rattle.routers.proofs.put_link.Tie as tie
+use Rattle.links.proofs.put_link.Statement.{statement}
+use Rattle.links.proofs.put_link.Tie as tie
 
 put-reg-requires : tie.Need-put-reg-requires
 put-reg-requires c κs = search needs

@@ -1,13 +1,13 @@
--- `routers::step_links` meets its contract: the registers are emptied, and each turn fills those of the five places that one node fills; the out registers and
+-- `links::step_links` meets its contract: the registers are emptied, and each turn fills those of the five places that one node fills; the out registers and
 -- the extra registers, which it reads, are never written.
 -- Assumes nothing.
-use Rattle.routers.proofs.LinkLaws.{Linking, linking-start, linking-row, linking-grid, linking-long, linking-more, linking-length, linking-done}
+use Rattle.links.proofs.LinkLaws.{Linking, linking-start, linking-row, linking-grid, linking-long, linking-more, linking-length, linking-done}
 use native.Mathlib.Omega.{arith}
 use Prim.Native.Nat.{_-_}
 use Rattle.sheet.specs.Inner.Passed.{Headed}
 use mathlib.Core.Path.{refl, sym, subst}
-use Rattle.routers.proofs.step_links.Statement.{statement}
-use Rattle.routers.proofs.step_links.Tie as tie
+use Rattle.links.proofs.step_links.Statement.{statement}
+use Rattle.links.proofs.step_links.Tie as tie
 
 abbrev Inv-loop : tie.InvT-loop
 Inv-loop s₀ marks cells cols rows nodes vertical node₀ s node = Linking s₀ marks cells cols rows nodes vertical node s

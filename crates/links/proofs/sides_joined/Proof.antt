@@ -1,9 +1,9 @@
--- `routers::sides_joined` meets its contract: words joined by or are 0 where each of them is, and those read are the four links' marks and words.
+-- `links::sides_joined` meets its contract: words joined by or are 0 where each of them is, and those read are the four links' marks and words.
 -- Assumes nothing.
-use Rattle.routers.proofs.LinkLaws.{joined-empty}
+use Rattle.links.proofs.LinkLaws.{joined-empty}
 use borrow.Author.Needs.{needs}
-use Rattle.routers.proofs.sides_joined.Statement.{statement}
-use Rattle.routers.proofs.sides_joined.Tie as tie
+use Rattle.links.proofs.sides_joined.Statement.{statement}
+use Rattle.links.proofs.sides_joined.Tie as tie
 
 mul-marks : tie.Need-mul-marks
 mul-marks c = search needs

@@ -1,11 +1,11 @@
--- `routers::vertical_row` meets its contract: the extra registers' row where the vertical links are long, else the outputs'.
+-- `links::vertical_row` meets its contract: the extra registers' row where the vertical links are long, else the outputs'.
 -- Assumes nothing.
 use mathlib.Core.Bool.{Bool}
 use mathlib.Core.Path.{sym, _∙_, ap}
 use Rattle.words.specs.Words.{pick}
 use Rattle.network.specs.Registers.{outMark, extraMark}
-use Rattle.routers.proofs.vertical_row.Statement.{statement}
-use Rattle.routers.proofs.vertical_row.Tie as tie
+use Rattle.links.proofs.vertical_row.Statement.{statement}
+use Rattle.links.proofs.vertical_row.Tie as tie
 
 is-long-requires : tie.Need-is-long-requires
 is-long-requires c κs = tt

@@ -1,14 +1,14 @@
--- `routers::clear_links` meets its contract: each turn empties one place of the two rows.
+-- `links::clear_links` meets its contract: each turn empties one place of the two rows.
 -- Assumes nothing.
 use native.Mathlib.Omega.{arith}
 use Prim.Native.Nat.{_≤_, _-_}
 use lib.ListN.{length-set}
 use Rattle.network.specs.Registers.{linkMark, linkWord}
 use Rattle.network.proofs.FillLaws.{Staged, stage-start}
-use Rattle.routers.proofs.LinkLaws.{clear-more}
-use Rattle.routers.proofs.OutLaws.{filled}
-use Rattle.routers.proofs.clear_links.Statement.{statement}
-use Rattle.routers.proofs.clear_links.Tie as tie
+use Rattle.links.proofs.LinkLaws.{clear-more}
+use Rattle.links.proofs.PairLaws.{filled}
+use Rattle.links.proofs.clear_links.Statement.{statement}
+use Rattle.links.proofs.clear_links.Tie as tie
 
 abbrev Inv-loop : tie.InvT-loop
 Inv-loop s₀ count end k₀ s k = (k ≤ count) × Staged linkMark linkWord k (λ row k. 0) s₀ s

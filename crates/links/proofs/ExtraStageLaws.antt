@@ -19,8 +19,8 @@ use Rattle.network.specs.Inner.Machine.{nextExtraMark, nextExtraWord, rowIn, ne
 use Rattle.network.specs.Inner.Stages.{stage}
 use Rattle.network.proofs.ExtraLaws.{extra-long, extra-short}
 use Rattle.network.proofs.FillLaws.{Staged, stage-start, stage-more, staged-is, wrote-nothing, still, beside}
-use Rattle.routers.specs.Inner.Stepping.{extended}
-use Rattle.routers.proofs.OutLaws.{pair-wrote, filled}
+use Rattle.links.specs.Inner.Linking.{extended}
+use Rattle.links.proofs.PairLaws.{pair-wrote, filled}
 
 -- an extra register is set, its mark and then its word
 pub extended-is : (s s₁ s₂ : List ℕ) (k mark w : ℕ) → mark ≡ reg s outMark k → w ≡ reg s outWord k

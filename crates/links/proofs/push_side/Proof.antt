@@ -1,12 +1,12 @@
--- `routers::push_side` meets its contract: the mark and the word are read first; unless both are 0 they go to the place that is computed.
+-- `links::push_side` meets its contract: the mark and the word are read first; unless both are 0 they go to the place that is computed.
 -- Assumes nothing.
 use native.Mathlib.Omega.{arith}
 use mathlib.Core.Path.{refl}
 use Rattle.torus.proofs.NeighbourLaws.{bounds, neighbour-inside}
-use Rattle.routers.proofs.LinkLaws.{push-none, push-some}
+use Rattle.links.proofs.LinkLaws.{push-none, push-some}
 use borrow.Author.Needs.{needs}
-use Rattle.routers.proofs.push_side.Statement.{statement}
-use Rattle.routers.proofs.push_side.Tie as tie
+use Rattle.links.proofs.push_side.Statement.{statement}
+use Rattle.links.proofs.push_side.Tie as tie
 
 mul-from : tie.Need-mul-from
 mul-from c = let b = bounds (c .before .pre .0) in omega arith

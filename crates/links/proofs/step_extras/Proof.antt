@@ -1,11 +1,11 @@
--- `routers::step_extras` meets its contract: each turn writes the two extra registers of one node; without long links there is none.
+-- `links::step_extras` meets its contract: each turn writes the two extra registers of one node; without long links there is none.
 -- Assumes nothing.
 use native.Mathlib.Omega.{arith}
 use mathlib.Core.Path.{sym, _∙_}
 use Prim.Native.Nat.{_-_}
-use Rattle.routers.proofs.ExtraStageLaws.{Extending, extending-start, extending-more, extending-done, none-extended}
-use Rattle.routers.proofs.step_extras.Statement.{statement}
-use Rattle.routers.proofs.step_extras.Tie as tie
+use Rattle.links.proofs.ExtraStageLaws.{Extending, extending-start, extending-more, extending-done, none-extended}
+use Rattle.links.proofs.step_extras.Statement.{statement}
+use Rattle.links.proofs.step_extras.Tie as tie
 
 abbrev Inv-loop : tie.InvT-loop
 Inv-loop s₀ nodes long node₀ s node = Extending s₀ nodes node s

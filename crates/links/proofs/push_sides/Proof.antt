@@ -1,11 +1,11 @@
--- `routers::push_sides` meets its contract: four links one after the other; where what they have is joined to 0, none of them changes anything.
+-- `links::push_sides` meets its contract: four links one after the other; where what they have is joined to 0, none of them changes anything.
 -- Assumes nothing.
 use native.Mathlib.Omega.{arith}
 use Rattle.torus.proofs.NeighbourLaws.{bounds}
-use Rattle.routers.proofs.LinkLaws.{pushed-none, pushed-all}
+use Rattle.links.proofs.LinkLaws.{pushed-none, pushed-all}
 use borrow.Author.Needs.{needs}
-use Rattle.routers.proofs.push_sides.Statement.{statement}
-use Rattle.routers.proofs.push_sides.Tie as tie
+use Rattle.links.proofs.push_sides.Statement.{statement}
+use Rattle.links.proofs.push_sides.Tie as tie
 
 sides-joined-requires : tie.Need-sides-joined-requires
 sides-joined-requires c κs = let b = bounds (c .before .before .pre .0) in (omega arith, c .before .before .pre .1, c .before .before .pre .2)

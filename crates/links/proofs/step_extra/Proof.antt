@@ -1,9 +1,9 @@
--- `routers::step_extra` meets its contract: both words are read before one is set.
+-- `links::step_extra` meets its contract: both words are read before one is set.
 -- Assumes nothing.
-use Rattle.routers.proofs.ExtraStageLaws.{extended-is}
+use Rattle.links.proofs.ExtraStageLaws.{extended-is}
 use borrow.Author.Needs.{needs}
-use Rattle.routers.proofs.step_extra.Statement.{statement}
-use Rattle.routers.proofs.step_extra.Tie as tie
+use Rattle.links.proofs.step_extra.Statement.{statement}
+use Rattle.links.proofs.step_extra.Tie as tie
 
 reg-requires : tie.Need-reg-requires
 reg-requires c κs = search needs

@@ -1,0 +1,3 @@
+pub mod PairLaws
+pub mod ExtraStageLaws
+pub mod LinkLaws
