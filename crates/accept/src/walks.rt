@@ -82,7 +82,8 @@ fn follow_entry(
     take_wire(table, node + torus::MEMORY, stride, q, mask << 3)
 }
 
-// Takes the places of an entry's source wire and of its route, unless one is taken or the route leads elsewhere: whether it did.
+// Takes the places of an entry's source wire and of its route, unless one is taken or the route leads elsewhere: whether it did. place_entries
+// has seen that the entry's numbers are in their ranges.
 pub fn place_entry(
     table: &mut [u32],
     near: &[u32],

@@ -30,7 +30,8 @@ fn put_neighbours(cols: u32, rows: u32, node: u32, near: &mut [u32])
     near[at + 3] = torus::neighbour(cols, rows, node, 3) * torus::WIRES_PER_NODE;
 }
 
-// The neighbours of all nodes of a grid.
+// The neighbours of all nodes of a grid. schedules::kept_in lends tables that are long enough, here and below, and accepts has seen that the
+// sheet keeps the rules before.
 pub fn find_neighbours(cols: u32, rows: u32, near: &mut [u32])
     requires { ⌜ (InGrid cols rows 0) × (cols * rows * wiresPerNode ≤ length (now near)) ⌝ }
     ensures { λ _. ⌜ Neighbours cols rows (now (near .exit)) ⌝ }
@@ -75,7 +76,7 @@ pub fn find_ends(z: &[u32], ends: &mut [u32])
     }
 }
 
-// A period that no schedule's exceeds.
+// A period that no schedule's exceeds; accepts has seen that the schedules lie within the sheet.
 pub fn longest_period(z: &[u32]) -> u32
     requires { ⌜ Framed (now z) ⌝ }
     ensures { λ r. ⌜ ((j : _) → j < schedules (now (z .entry)) → period (now (z .entry)) j ≤ r) ⌝ }

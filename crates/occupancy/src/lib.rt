@@ -42,7 +42,8 @@ pub fn take_run(table: &mut [u32], place: usize, size: u32)
     table[q + 1] = (both / 4294967296) as u32;
 }
 
-// Takes the places of a mask among the sixty-four from word q on, unless one of them is taken: whether it did.
+// Takes the places of a mask among the sixty-four from word q on, unless one of them is taken: whether it did. Whoever has room for a wire's
+// words meets the requires.
 pub fn take_free(table: &mut [u32], q: usize, mask: u64) -> bool
     requires { ⌜ q + 1 < length (now table) ⌝ }
     ensures { λ r. ⌜ TakenIfFree (now (table .entry)) (now (table .exit)) q mask r ⌝ }

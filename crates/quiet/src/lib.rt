@@ -102,7 +102,7 @@ fn is_still(s: &[u32]) -> bool
     row_joined(s, network::TO_GO_ROW, sheet::circuits_of(z)) == 0
 }
 
-// The next cycle is quiet.
+// The next cycle is quiet. machine::step has words that passed 12 to 14, which meet the requires, here and below.
 pub fn is_quiet(s: &[u32]) -> bool
     requires { ⌜ Settled (now s) ⌝ }
     ensures { λ r. ⌜ r ≡ isQuiet (now (s .entry)) ⌝ }
