@@ -1,5 +1,7 @@
 // A pass over a sheet that only accepts: each part of the sheet is read once, and the pass ends where it finds what it does not know to be
 // right. The checker judges a sheet that it does not accept, so that no refusal depends on it.
+#![tactic(auto)]
+
 mod circuits;
 mod schedules;
 mod walks;

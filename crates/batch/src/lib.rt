@@ -1,4 +1,6 @@
 // A list of transfers started together: lent as a slice of structs, or as five lists of words.
+#![tactic(auto)]
+
 mod lists;
 mod records;
 

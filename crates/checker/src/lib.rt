@@ -1,4 +1,6 @@
 // The checker: the verdict upon a sheet, and one schedule's entries handed back.
+#![tactic(auto)]
+
 ghost use Rattle.std.specs.Prelude.{◌≡◌, true, ◌<◌};
 ghost use Rattle.sheet.specs.Sheet.{blank_sheet, meant, schedules};
 ghost use Rattle.sheet.specs.Rules.{frame_rules, circuit_rules, entry_rules, first_broken, rule4, sheet_number, check_number, verdict as sheetVerdict};
@@ -6,7 +8,7 @@ ghost use Rattle.sheet.specs.Inner.Passed.{Framed};
 ghost use Rattle.checker.specs.Answers.{outcome_of, entries_number, entries_part};
 
 // A sheet passes, or is refused with the first number of document 01 that applies.
-#[derive(Drop)]
+#[derive(Clone, Copy)]
 pub enum Outcome {
     Passes,
     Refused(u32),

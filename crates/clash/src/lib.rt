@@ -1,5 +1,7 @@
 // Number 11: no two entries of one schedule occupy one wire in one cycle. A table has a place for each wire in each cycle, so
 // the test is linear in the wires' use.
+#![tactic(auto)]
+
 ghost use Rattle.std.specs.Prelude.{◌≡◌, true, ◌+◌, ◌*◌, ◌<◌, ◌≤◌, length};
 ghost use Rattle.torus.specs.Inner.Grid.{InGrid};
 ghost use Rattle.torus.specs.Inner.Paths.{path_of};

@@ -1,5 +1,7 @@
 // Exported calls for tests, benchmarks and hosts in C or Rust: a slice is a pointer and then a length. They have the session's answers as
 // numbers (specs/Packed.antt) and its contracts.
+#![tactic(auto)]
+
 ghost use Rattle.std.specs.Prelude.{◌≡◌, ◌*◌, length};
 ghost use Rattle.sheet.specs.Rules.{check_number};
 ghost use Rattle.checker.specs.Answers.{entries_number};

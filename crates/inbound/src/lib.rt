@@ -1,4 +1,6 @@
 // Which circuits have words on their way, read from a state's wires (docs/STATE.md, document 02, L3).
+#![tactic(auto)]
+
 ghost use Rattle.std.specs.Prelude.{◌≡◌, ◌*◌, ◌<◌};
 ghost use Rattle.sheet.specs.Sheet.{nodes as nodesOf};
 ghost use Rattle.sheet.specs.Inner.Passed.{Headed};

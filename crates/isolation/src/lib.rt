@@ -1,1 +1,3 @@
 // No code: demand 3 over lists of calls, its proof, and the examples.
+#![tactic(auto)]
+

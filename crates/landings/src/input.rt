@@ -17,7 +17,7 @@ pub const MOST_BYTES: usize = 4
     * (3 + (sheet::SHEET_WORDS + MOST_MEMORY + 5 * MOST_TRANSFERS) as usize);
 
 // The line to print instead of a listing, or Runs.
-#[derive(Drop)]
+#[derive(Clone, Copy)]
 pub enum Message {
     TooLarge,
     InputEnds,

@@ -1,4 +1,6 @@
 // Runs the session of standard input, and lists what landed, cycle by cycle (document 01, "The key's examples").
+#![tactic(auto)]
+
 mod calls;
 mod input;
 mod output;

@@ -18,7 +18,7 @@ use session::Landed;
 const CYCLE_BYTES: usize = 1024;
 
 // How far a page's lines reach in the buffer, how many cycles they are of, and the number of the cycle that was refused behind them, or 0.
-#[derive(Drop)]
+#[derive(Clone, Copy)]
 pub struct Page {
     pub place: usize,
     pub cycles: u32,

@@ -1,4 +1,6 @@
 // The links between the routers: their registers, and the extra registers of long vertical links, each stage written in place.
+#![tactic(auto)]
+
 ghost use Rattle.std.specs.Prelude.{◌≡◌, [], ◌+◌, ◌*◌, ◌<◌, ◌≤◌, length};
 ghost use Rattle.words.specs.Words.{pick, word as word_at};
 ghost use Rattle.occupancy.specs.Inner.Occupancy.{bit_at};

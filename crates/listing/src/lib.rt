@@ -1,4 +1,6 @@
 // The text of a listing of landings, put into a buffer of bytes from a place on.
+#![tactic(auto)]
+
 ghost use Rattle.std.specs.Prelude.{◌≡◌, ◌+◌, ◌≤◌, length, take};
 ghost use Rattle.words.specs.Inner.Puts.{put_all};
 ghost use Rattle.listing.specs.Text.{field, landing_line};

@@ -1,5 +1,7 @@
 // One clock cycle, carried out in place on lent words. All that the cycle puts on wires is worked out first, and the faults are looked for
 // before anything is written, so that a cycle that is refused has changed nothing. Nodes and circuits at which nothing is are passed over.
+#![tactic(auto)]
+
 ghost use Rattle.std.specs.Prelude.{◌≡◌};
 ghost use Rattle.words.specs.Tests.{◌=?◌};
 ghost use Rattle.words.specs.Words.{pick};
@@ -13,7 +15,7 @@ ghost use Rattle.tables.specs.Inner.Moving.{Moving};
 use network::Live;
 
 // What a cycle answers: 0 or the number of its fault, and where something may be afterwards.
-#[derive(Drop)]
+#[derive(Clone, Copy)]
 pub struct Stepped {
     pub number: u32,
     pub live: Live,

@@ -1,4 +1,6 @@
 // The clocked network over a session state that lies in lent words: the register map, and the header stage.
+#![tactic(auto)]
+
 ghost use Rattle.std.specs.Prelude.{◌≡◌, ◌%◌};
 ghost use Rattle.network.specs.Cycle.{output_for, has_extra};
 ghost use Rattle.network.specs.Registers.{reg as reg_of, put, sheet_in, latch_row, link_mark, link_word};
@@ -90,7 +92,7 @@ pub const MEMORY_OUTPUT: u32 = torus::MEMORY_OUTPUT;
 // Where something may be: the nodes whose link registers, header stages, outputs and extra registers may hold a word or a mark, those at
 // which a word may have landed in the last cycle, and the circuits that may be amid a packet, each as a mask. At all others nothing is. A
 // loop over cycles hands this on from cycle to cycle, so that a cycle costs what moves.
-#[derive(Drop)]
+#[derive(Clone, Copy)]
 pub struct Live {
     pub links: u64,
     pub heads: u64,

@@ -1,5 +1,7 @@
 // A table of places that are taken or free: one bit a place, thirty-two places a word. Places in a row are tested and taken
 // in the two words that can hold them, together.
+#![tactic(auto)]
+
 ghost use Rattle.std.specs.Prelude.{◌≡◌, ◌+◌, ◌*◌, ◌/◌, ◌%◌, ◌<◌, ◌≤◌, length};
 ghost use Rattle.occupancy.specs.Inner.Occupancy.{bit_at, run, any_taken, window as windowOf, slot_mask, take_run, TakenIfFree, NextTaken};
 

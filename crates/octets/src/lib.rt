@@ -1,4 +1,6 @@
 // Words in bytes, little-endian.
+#![tactic(auto)]
+
 ghost use Rattle.std.specs.Prelude.{◌≡◌, ◌+◌, ◌*◌, ◌<◌, ◌≤◌, length};
 ghost use Rattle.words.specs.Words.{tab};
 ghost use Rattle.octets.specs.Octets.{word_in};

@@ -1,4 +1,6 @@
 // The routers' outputs: their registers after a cycle, from the tables of the crossbars.
+#![tactic(auto)]
+
 ghost use Rattle.std.specs.Prelude.{◌≡◌, ◌+◌, ◌*◌, ◌/◌, ◌<◌, ◌≤◌, length};
 ghost use Rattle.occupancy.specs.Inner.Occupancy.{bit_at};
 ghost use Rattle.network.specs.Registers.{moving_words, row_words, out_mark, out_word};

@@ -1,13 +1,15 @@
 // The packet header (document 01, "The packet"): kind, write address and route in one word.
+#![tactic(auto)]
+
 ghost use Rattle.std.specs.Prelude.{◌≡◌};
 ghost use Rattle.packet.specs.Header.{kind_of, address_of, route_of, shifted_word, header_word, header_number, built_of};
 
 // A header word. Any word is one: each part of it can be read.
-#[derive(Drop)]
+#[derive(Clone, Copy)]
 pub struct Header(pub u32);
 
 // What building a header answers.
-#[derive(Drop)]
+#[derive(Clone, Copy)]
 pub enum Built {
     Made(Header),
     Refused(u32),

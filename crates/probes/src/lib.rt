@@ -1,4 +1,6 @@
 // Calls for tests and benchmarks alone, which reach what the session's calls keep inside; no host links them.
+#![tactic(auto)]
+
 ghost use Rattle.std.specs.Prelude.{◌≡◌, ◌*◌};
 ghost use Rattle.sheet.specs.Rules.{verdict};
 ghost use Rattle.session.specs.Calls.{state_number, lend};

@@ -1,5 +1,7 @@
 // Quiet cycles: nothing is in the routers, nothing is being sent, and no slot of a circuit with words left begins. Only the clock moves, and
 // nothing lands. The rows are read by proved indices, so that the compiler takes several words at once.
+#![tactic(auto)]
+
 mod openings;
 
 ghost use Rattle.std.specs.Prelude.{◌≡◌, ◌<◌, ◌≤◌, length};

@@ -1,4 +1,6 @@
 // The stages of a cycle at the nodes' memory outputs and at the clock: stray words, landings and receive units, and the period's turn.
+#![tactic(auto)]
+
 mod clock;
 mod receiving;
 

@@ -1,5 +1,7 @@
 // The routers' part of a clock cycle, over the words of a session state: number 20's tests of their words, the crossbars, and the header
 // stages, written in place.
+#![tactic(auto)]
+
 ghost use Rattle.std.specs.Prelude.{◌≡◌, ◌+◌, ◌*◌, ◌/◌, ◌%◌, ◌<◌, ◌≤◌, [], length};
 ghost use Rattle.words.specs.Tests.{any, ◌and◌, ◌or◌, ◌≤?◌, ◌<?◌, ◌=?◌};
 ghost use Rattle.words.specs.Words.{pick, tab};

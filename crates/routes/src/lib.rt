@@ -1,4 +1,6 @@
 // The routes of a sheet's entries: the rules 9 and 10.
+#![tactic(auto)]
+
 ghost use Rattle.std.specs.Prelude.{◌≡◌, true, ◌<◌};
 ghost use Rattle.torus.specs.Inner.Grid.{InGrid};
 ghost use Rattle.torus.specs.Inner.Paths.{path_of};

@@ -1,4 +1,6 @@
 // Where something is, looked for in all registers, for a cycle that nothing is known of.
+#![tactic(auto)]
+
 ghost use Rattle.std.specs.Prelude.{true, ◌≡◌, ℕ, ◌+◌, ◌*◌, ◌/◌, ◌<◌, ◌≤◌, length};
 ghost use Rattle.words.specs.Words.{word as word_at};
 ghost use Rattle.sheet.specs.Inner.Passed.{Headed};

@@ -1,4 +1,6 @@
 // The session: its calls and their answers.
+#![tactic(auto)]
+
 mod cycling;
 mod loading;
 mod reading;
@@ -17,7 +19,7 @@ pub use writing::{order, start, start_sound, store};
 // A transfer of a list: on which circuit, where its words are read and written, how many they are, and their kind. Hosts lend these five
 // words in this order.
 #[repr(C)]
-#[derive(Drop)]
+#[derive(Clone, Copy)]
 pub struct Transfer {
     pub circuit: u32,
     pub read: u32,
@@ -27,21 +29,21 @@ pub struct Transfer {
 }
 
 // A call that has no value: carried out, or refused with a number of document 01.
-#[derive(Drop)]
+#[derive(Clone, Copy)]
 pub enum Answer {
     Done,
     Refused(u32),
 }
 
 // A call that answers a word.
-#[derive(Drop)]
+#[derive(Clone, Copy)]
 pub enum Found {
     Word(u32),
     Refused(u32),
 }
 
 // What landed at a node in the last cycle.
-#[derive(Drop)]
+#[derive(Clone, Copy)]
 pub enum Landed {
     Nothing,
     Word { kind: u32, address: u32, word: u32 },

@@ -8,7 +8,7 @@ ghost use Rattle.sheet.specs.Inner.Passed.{Framed};
 use super::head::{circuits_of, memory_of, nodes_of};
 
 // A region of a node's memory.
-#[derive(Drop)]
+#[derive(Clone, Copy)]
 pub struct Region {
     pub node: u32,
     pub offset: u32,
@@ -16,7 +16,7 @@ pub struct Region {
 }
 
 // A circuit: it reads at its source and is received at its destination.
-#[derive(Drop)]
+#[derive(Clone, Copy)]
 pub struct Circuit {
     pub read: Region,
     pub receive: Region,

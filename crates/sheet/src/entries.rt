@@ -10,7 +10,7 @@ use super::frame::{entries_of, schedule_period};
 use super::head::{circuits_of, schedules_of};
 
 // An entry of a schedule: the slot of a circuit, and its packets' route.
-#[derive(Drop)]
+#[derive(Clone, Copy)]
 pub struct Entry {
     pub offset: u32,
     pub size: u32,

@@ -11,7 +11,7 @@ use super::head::{circuits_of, columns_of, memory_of, rows_of, schedules_of};
 pub const SHEET_WORDS: u32 = 5 + 6 * 64 + 8 * (2 + 4 * 256);
 
 // Where a schedule may begin.
-#[derive(Drop)]
+#[derive(Clone, Copy)]
 pub enum Place {
     At(usize),
     Nowhere,

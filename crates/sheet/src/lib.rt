@@ -1,4 +1,6 @@
 // The sheet: its parts, and the rules 1 to 8 (document 01, "The sheet", "Refusals") and 26 (document 02, L8).
+#![tactic(auto)]
+
 mod circuits;
 mod entries;
 mod frame;

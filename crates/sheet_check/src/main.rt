@@ -1,4 +1,6 @@
 // Judges the sheet on standard input: a word with its length, then its words, all little-endian. Prints one line.
+#![tactic(auto)]
+
 ghost use Rattle.std.specs.Prelude.{◌≡◌, ◌+◌, ◌*◌, ◌<◌, ◌≤◌, length, take};
 ghost use Rattle.octets.specs.Octets.{word_in};
 ghost use Rattle.sheet_check.specs.Line.{line_of, sheet_of, verdict_line, text_of};
@@ -10,7 +12,7 @@ use libc::{STDIN_FILENO, STDOUT_FILENO};
 const LINE_END: u8 = 10;
 
 // The line to print.
-#[derive(Drop)]
+#[derive(Clone, Copy)]
 pub enum Line {
     Passes,
     Refused(u32),
@@ -51,7 +53,7 @@ fn line_for(bytes: &[u8]) -> Line
 }
 
 // The bytes of a line: the first so many of the twenty.
-#[derive(Drop)]
+#[derive(Clone, Copy)]
 pub struct Text {
     pub bytes: [u8; 20],
     pub count: usize,

@@ -1,4 +1,6 @@
 // Whether a state's words are sound (document 01, number 13), clause by clause as specs/Sound.antt has them.
+#![tactic(auto)]
+
 ghost use Rattle.std.specs.Prelude.{true, ◌≡◌, ◌*◌, ◌≤◌};
 ghost use Rattle.words.specs.Tests.{all, ◌and◌, ◌or◌, ◌≤?◌, ◌=?◌};
 ghost use Rattle.packet.specs.Header.{data_kind};

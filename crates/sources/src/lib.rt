@@ -1,4 +1,6 @@
 // The circuits' senders: which slots begin in a cycle, what the sources put on their wires, and the senders' registers afterwards.
+#![tactic(auto)]
+
 ghost use Rattle.std.specs.Prelude.{◌≡◌, true, false, [], ℕ, ◌+◌, ◌*◌, ◌<◌, ◌≤◌, min};
 ghost use Rattle.words.specs.Tests.{any, ◌and◌, ◌or◌, ◌≤?◌, ◌=?◌};
 ghost use Rattle.words.specs.Words.{word as word_at, tab};
@@ -281,7 +283,7 @@ fn source_of(z: &[u32], c: u32) -> u32
 }
 
 // What source_wires answers: whether a source is at fault, and the mask of the nodes on whose wires something may be.
-#[derive(Drop)]
+#[derive(Clone, Copy)]
 pub struct Wired {
     pub fault: bool,
     pub nodes: u64,

@@ -1,5 +1,7 @@
 // What is worked out before a cycle writes anything: the slots that begin, what goes on the source wires and the outputs, and whether the
 // cycle has a fault.
+#![tactic(auto)]
+
 ghost use Rattle.std.specs.Prelude.{true, false, ◌≡◌};
 ghost use Rattle.network.specs.Inner.Live.{Covered};
 ghost use Rattle.network.specs.Inner.Machine.{faulty_in};
@@ -10,7 +12,7 @@ ghost use Rattle.tables.specs.Inner.Moving.{Moving};
 use network::Live;
 
 // Whether a cycle has a fault, and the masks of the circuits that act and of the nodes on whose source wires something may be.
-#[derive(Drop)]
+#[derive(Clone, Copy)]
 pub struct Prepared {
     pub fault: bool,
     pub acting: u64,

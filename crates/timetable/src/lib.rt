@@ -1,4 +1,6 @@
 // The weekly timetable: which schedule belongs to a minute of the week, and when that changes next (document 02, L13).
+#![tactic(auto)]
+
 mod walk;
 mod windows;
 
@@ -9,7 +11,7 @@ ghost use Rattle.timetable.specs.Timetable.{hours_number, hours_answer};
 pub const WEEK: u32 = 10080;
 
 // The schedule of a minute, until it differs at a minute of the week, or for always; or the number of a refusal.
-#[derive(Drop)]
+#[derive(Clone, Copy)]
 pub enum Hours {
     Until { schedule: u32, minute: u32 },
     Always(u32),

@@ -1,4 +1,6 @@
 // The torus: neighbours, distances, and where a route leads (document 01, "The grid", "The packet", "The router").
+#![tactic(auto)]
+
 ghost use Rattle.std.specs.Prelude.{◌≡◌, true, false, ◌+◌, ◌*◌, ◌/◌, ◌%◌, ◌<◌};
 ghost use Rattle.torus.specs.Torus.{neighbour_of, is_vertical, distance_of, shorter_way};
 ghost use Rattle.torus.specs.Inner.Grid.{InGrid};
@@ -23,7 +25,7 @@ pub const CODES: u32 = 8;
 // Where a route leads: the node at its end, its hops, the wires that it uses with their delays, in the first hops + 2 places of the two lists,
 // and how many of the hops are over long links; or, where leads is false, nowhere. (An enum cannot hold lists. The last number stands behind
 // the lists: before them it makes the compiler copy them twice.)
-#[derive(Drop)]
+#[derive(Clone, Copy)]
 pub struct Path {
     pub leads: bool,
     pub node: u32,

@@ -1,4 +1,6 @@
 // Total access to lent words, and the range test that the layers above share.
+#![tactic(auto)]
+
 ghost use Rattle.std.specs.Prelude.{◌≡◌, set};
 ghost use Rattle.words.specs.Words.{word};
 ghost use Rattle.words.specs.Tests.{between};
