@@ -1,0 +1,22 @@
+-- `torus::distance` meets its contract: the shorter ways round in columns and in rows together are the distance.
+use mathlib.Core.Path.{refl}
+use native.Mathlib.Omega.{arith}
+use Rattle.torus.proofs.DistanceLaws.{column_inside, ways_together, distance_most}
+use borrow.Author.Rules.{rules}
+use Rattle.torus.proofs.distance.Goals as goal
+
+pub ring_distance-in_columns-requires : goal.ring_distance-in_columns-requires
+ring_distance-in_columns-requires c =
+    let p = c.requires in
+    (column_inside p.0 c.column.ensures, column_inside p.1 c.column-2.ensures)
+
+pub returns : goal.returns
+returns c =
+    let p = c.requires in
+    ways_together p.0 p.1 c.column.ensures c.column-2.ensures
+    refl refl c.ring_distance-in_columns.ensures c.vertical_distance.ensures
+
+pub overflow_add-result : goal.overflow_add-result
+overflow_add-result c =
+    let p = c.requires in
+    record { fits = omega (arith, returns c, distance_most _ _ _ _ p.0 p.1) }

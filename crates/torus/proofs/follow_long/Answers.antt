@@ -1,0 +1,72 @@
+-- `torus::follow_long` meets its contract: what is written so far, with what the rest of the route leads to, is always the answer.
+-- The measure is how many routers are left. Assumes nothing.
+use mathlib.Core.Bool.{true}
+use mathlib.Core.Path.{◌∙◌}
+use Prim.Native.Nat.{◌-◌}
+use native.Mathlib.Nat.{mod-lt}
+use native.Mathlib.Omega.{arith}
+use Rattle.torus.specs.Route.{route_from}
+use Rattle.torus.specs.Inner.Paths.{path_of}
+use Rattle.torus.proofs.NeighbourLaws.{bounds}
+use Rattle.torus.proofs.RouteLaws.{Going, going_start, going_out, going_lost, going_on, going_end, output_small, link_high}
+use Rattle.torus.proofs.follow_long.Goals as goal
+
+pub overflow_mul-wires : goal.overflow_mul-wires
+overflow_mul-wires c = let b = bounds c.requires in omega arith
+
+pub overflow_add-wires : goal.overflow_add-wires
+overflow_add-wires c = let b = bounds c.requires in omega arith
+
+pub loop-hops-init : goal.loop-hops-init
+loop-hops-init c = going_start _ _ _ _ _ c.requires
+
+pub output_of-by-requires : goal.output_of-by-requires
+output_of-by-requires c = mod-lt _ (omega arith)
+
+pub returns-then-rest-gt0 : goal.returns-then-rest-gt0
+returns-then-rest-gt0 c =
+    c.nowhere_path.ensures
+    ∙ going_lost c.loop-hops.invariant c.loop-hops-test.true c.output_of-by.ensures
+    c.if-by-eq-MEMORY_OUTPUT.true (λ e. omega arith)
+
+pub overflow_mul-wires-then-by-eq-MEMORY_OUTPUT : goal.overflow_mul-wires-then-by-eq-MEMORY_OUTPUT
+overflow_mul-wires-then-by-eq-MEMORY_OUTPUT c = let b = bounds c.loop-hops.invariant.here in omega arith
+
+pub overflow_add-wires-then-by-eq-MEMORY_OUTPUT : goal.overflow_add-wires-then-by-eq-MEMORY_OUTPUT
+overflow_add-wires-then-by-eq-MEMORY_OUTPUT c = let b = bounds c.loop-hops.invariant.here in omega arith
+
+pub returns-then-by-eq-MEMORY_OUTPUT : goal.returns-then-by-eq-MEMORY_OUTPUT
+returns-then-by-eq-MEMORY_OUTPUT c =
+    going_out c.loop-hops.invariant c.loop-hops-test.true c.output_of-by.ensures
+    c.if-by-eq-MEMORY_OUTPUT.true (omega arith)
+
+pub overflow_mul-wires-in-loop-hops : goal.overflow_mul-wires-in-loop-hops
+overflow_mul-wires-in-loop-hops c = let b = bounds c.loop-hops.invariant.here in omega arith
+
+pub overflow_add-wires-in-loop-hops : goal.overflow_add-wires-in-loop-hops
+overflow_add-wires-in-loop-hops c =
+    let b = bounds c.loop-hops.invariant.here in
+    omega (arith, output_small _ _ _ c.output_of-by.ensures (mod-lt _ (omega arith)))
+
+pub neighbour-node-requires : goal.neighbour-node-requires
+neighbour-node-requires c = c.loop-hops.invariant.here
+
+pub overflow_add-entry : goal.overflow_add-entry
+overflow_add-entry c = omega (arith, output_small _ _ _ c.output_of-by.ensures (mod-lt _ (omega arith)))
+
+pub overflow_add-delay : goal.overflow_add-delay
+overflow_add-delay c = omega (arith, link_high true _ _ c.link_cycles-link.ensures)
+
+pub overflow_add-delay-in-loop-hops : goal.overflow_add-delay-in-loop-hops
+overflow_add-delay-in-loop-hops c = omega (arith, link_high true _ _ c.link_cycles-link.ensures)
+
+pub overflow_add-vertical : goal.overflow_add-vertical
+overflow_add-vertical c = omega (arith, link_high true _ _ c.link_cycles-link.ensures)
+
+pub loop-hops-preserved : goal.loop-hops-preserved
+loop-hops-preserved c =
+    going_on c.loop-hops.invariant c.loop-hops-test.true c.output_of-by.ensures
+    c.if-by-eq-MEMORY_OUTPUT.false c.neighbour-node.ensures (omega arith) c.link_cycles-link.ensures
+
+pub returns : goal.returns
+returns c = c.nowhere_path-2.ensures ∙ going_end c.loop-hops.invariant c.loop-hops-test.false
