@@ -1,0 +1,17 @@
+-- `sheet::circuits::receive_apart` meets its contract. Number 6 at one receive region: in the loop it is apart from every circuit before `k`.
+use Prim.Native.Nat.{◌≤◌, ◌-◌}
+use mathlib.Core.Bool.{true}
+use mathlib.Core.Path.{◌≡◌, sym, ap, ◌∙◌}
+use native.Mathlib.Omega.{arith}
+use Rattle.words.specs.Tests.{all}
+use Rattle.words.proofs.AllLaws.{all_none, all_more, all_done, all_fails}
+use Rattle.sheet.specs.declared.circuits.Circuit.{Circuit}
+use Rattle.sheet.specs.Sheet.{circuits}
+use Rattle.sheet.specs.Rules.{receive_apart}
+use Rattle.sheet.proofs.circuits.receive_apart.Given as goal
+
+abbrev pub invariant-loop-k : goal.invariant-loop-k
+invariant-loop-k l = (l.count ≡ circuits l.z) × (l.k ≤ l.count) × (all l.k (receive_apart l.z l.j) ≡ true)
+
+abbrev pub decreases-loop-k : goal.decreases-loop-k
+decreases-loop-k l = l.count - l.k

@@ -1,0 +1,31 @@
+-- `sheet::served::mark_circuits` meets its contract: in the loop the circuits of the entries before `i` are marked too.
+use Prim.Native.Nat.{◌-◌}
+use mathlib.Core.Path.{sym, ◌∙◌, ap}
+use native.Mathlib.Omega.{arith}
+use borrow.Author.Rules.{rules}
+use Rattle.sheet.specs.declared.entries.Entry.{Entry}
+use Rattle.sheet.proofs.ServedLaws.{Marking, marking_start, marking_more, marking_length, marking_done}
+use Rattle.sheet.proofs.served.mark_circuits.Goals as goal
+
+pub loop-i-init : goal.loop-i-init
+loop-i-init c = marking_start _ _ c.requires.places
+
+pub offset_bounds-marks-place : goal.offset_bounds-marks-place
+offset_bounds-marks-place c =
+    let inside = c.requires.inside c.loop-i.i (omega arith) in
+    omega (arith, inside, ap (λ (e : Entry). e.circuit) c.at-entry.ensures)
+
+pub bounds-marks-place : goal.bounds-marks-place
+bounds-marks-place c =
+    let inside = c.requires.inside c.loop-i.i (omega arith) in
+    omega (arith, inside, ap (λ (e : Entry). e.circuit) c.at-entry.ensures, marking_length _ _ _ _ c.loop-i.invariant)
+
+pub loop-i-preserved : goal.loop-i-preserved
+loop-i-preserved c =
+    marking_more _ _ _ _ c.loop-i.invariant (omega arith) _ c.at-entry.ensures
+
+pub shape_of-marks : goal.shape_of-marks
+shape_of-marks c = marking_length _ _ _ _ c.loop-i.invariant ∙ sym c.requires.places
+
+pub returns : goal.returns
+returns c = marking_done _ _ _ _ c.loop-i.invariant (omega arith)
