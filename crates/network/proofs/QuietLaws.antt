@@ -174,8 +174,8 @@ module _ (s : List ℕ) (H : Headed (sheet_in s)) (q : Quiet s) where
   abbrev places : ℕ
   places = nodes (sheet_in s) * 5
 
-  empty_at : (node i : ℕ) → node < nodes (sheet_in s) → i < 5 → Empty s (at node i)
-  empty_at node i nl il = q.still.empty (at node i) (omega arith)
+  empty_place : (node i : ℕ) → node < nodes (sheet_in s) → i < 5 → Empty s (at node i)
+  empty_place node i nl il = q.still.empty (at node i) (omega arith)
 
   -- the sources put nothing on their wires
   no_mark : (c : ℕ) → c < circuits (sheet_in s) → sent_mark s c ≡ 0
@@ -218,7 +218,7 @@ module _ (s : List ℕ) (H : Headed (sheet_in s)) (q : Quiet s) where
 
     asked_none : (output : ℕ) → asked_mark s node output input ≡ 0
     unfolding asked_mark
-    asked_none output = either_none (reg s choice_row (at node input) =? output + 1) _ _ (empty_at node input nl il).head_mark_is refl
+    asked_none output = either_none (reg s choice_row (at node input) =? output + 1) _ _ (empty_place node input nl il).head_mark_is refl
 
   module _ (node output : ℕ) (nl : node < nodes (sheet_in s)) where
     out_mark_none : next_out_mark s node output ≡ 0
@@ -257,10 +257,10 @@ module _ (s : List ℕ) (H : Headed (sheet_in s)) (q : Quiet s) where
   -- the receive unit of a node, and its landing
   module _ (node : ℕ) (nl : node < nodes (sheet_in s)) where
     memory_mark_none : memory_mark s node ≡ 0
-    memory_mark_none = (empty_at node memory_output nl (omega arith)).out_mark_is
+    memory_mark_none = (empty_place node memory_output nl (omega arith)).out_mark_is
 
     memory_word_none : memory_word s node ≡ 0
-    memory_word_none = (empty_at node memory_output nl (omega arith)).out_word_is
+    memory_word_none = (empty_place node memory_output nl (omega arith)).out_word_is
 
     receive_mark_stays : next_receive_mark s node ≡ reg s receive_mark node
     unfolding next_receive_mark ◌=?◌ ◌≤?◌
@@ -315,7 +315,7 @@ module _ (s : List ℕ) (H : Headed (sheet_in s)) (q : Quiet s) where
           → (2 ≤? reg s link_mark (at node i) and reg s latch_row (at node i) =? 0)
           or (2 ≤? reg s head_mark (at node i) and reg s choice_row (at node i) =? 0) ≡ false
       no_head i il =
-          let e = empty_at node i nl il in
+          let e = empty_place node i nl il in
           or_on' (sym (and_no _ (too_few e.link_mark_is))) (sym (and_no _ (too_few e.head_mark_is)))
 
   pub quiet_calm : faulty_in s ≡ false

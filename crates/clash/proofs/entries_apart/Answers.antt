@@ -1,0 +1,47 @@
+-- `clash::entries_apart` meets its contract: Number 11 at one schedule: with just the entries before it in the table, an entry finds a place taken exactly where it meets one of them.
+use native.Mathlib.Omega.{arith}
+use Prim.Native.Nat.{ℕ, ◌+◌, ◌-◌, ◌≤◌}
+use mathlib.Core.Path.{refl, ap}
+use lib.ListN.{length}
+use borrow.Author.Rules.{rules}
+use Rattle.clash.proofs.EntryLaws.{Placing, placing_start, placing_more, placing_fails, placing_done, placing_next, placing_length, failed_length}
+use Rattle.clash.proofs.entries_apart.Goals as goal
+
+pub schedule_period-requires : goal.schedule_period-requires
+schedule_period-requires c = (c.requires.0.ranged.framed, c.requires.1)
+
+pub entries_of-entries-requires : goal.entries_of-entries-requires
+entries_of-entries-requires c = (c.requires.0.ranged.framed, c.requires.1)
+
+pub loop-i-init : goal.loop-i-init
+loop-i-init c = (
+  omega arith,
+  placing_start _ _ _ _ _ _ refl c.requires.0 c.requires.1 c.requires.2 c.requires.3 c.entries_of-entries.ensures
+      (ap (λ (n : ℕ). n + 6) c.schedule_period.ensures),
+)
+
+pub place_entry-requires : goal.place_entry-requires
+place_entry-requires c = placing_next _ _ _ _ _ c.loop-i.i _ c.loop-i.invariant.1 (omega arith) _ c.at.ensures
+
+pub loop-i-preserved : goal.loop-i-preserved
+loop-i-preserved c = (
+  omega arith,
+  placing_more _ _ _ _ _ c.loop-i.i _ c.loop-i.invariant.1 (omega arith) _ c.at.ensures _
+      c.place_entry.ensures c.if-place_entry.true,
+)
+
+pub shape_of-table-else-place_entry : goal.shape_of-table-else-place_entry
+shape_of-table-else-place_entry c =
+    failed_length _ _ _ _ _ c.loop-i.i _ c.loop-i.invariant.1 (omega arith) _ c.at.ensures _
+    c.place_entry.ensures c.if-place_entry.false
+
+pub returns-else-place_entry : goal.returns-else-place_entry
+returns-else-place_entry c =
+    placing_fails _ _ _ _ _ c.loop-i.i _ c.loop-i.invariant.1 (omega arith) _ c.at.ensures _
+    c.place_entry.ensures c.if-place_entry.false
+
+pub shape_of-table : goal.shape_of-table
+shape_of-table c = placing_length _ _ _ _ _ _ _ c.loop-i.invariant.1
+
+pub returns : goal.returns
+returns c = placing_done _ _ _ _ _ c.loop-i.i _ c.loop-i.invariant.1 (omega arith) (omega arith)

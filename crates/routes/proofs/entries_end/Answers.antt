@@ -1,0 +1,40 @@
+-- `routes::entries_end` meets its contract: Number 10 at one schedule: each entry is tested.
+use native.Mathlib.Omega.{arith}
+use Prim.Native.Nat.{◌-◌, ◌≤◌}
+use mathlib.Core.Bool.{true}
+use mathlib.Core.Path.{◌≡◌, sym, ◌∙◌}
+use Rattle.words.specs.Tests.{all}
+use Rattle.words.proofs.AllLaws.{all_none, all_more, all_done, all_fails}
+use Rattle.sheet.specs.Sheet.{entry_at}
+use Rattle.sheet.specs.Rules.{entry_ends}
+use Rattle.routes.proofs.RouteRules.{timed, led, each_ending}
+use Rattle.routes.proofs.entries_end.Goals as goal
+
+pub schedule_period-period-requires : goal.schedule_period-period-requires
+schedule_period-period-requires c = (c.requires.0.ranged.framed, c.requires.1)
+
+pub entries_of-entries-requires : goal.entries_of-entries-requires
+entries_of-entries-requires c = (c.requires.0.ranged.framed, c.requires.1)
+
+pub loop-i-init : goal.loop-i-init
+loop-i-init c = (omega arith, sym (all_none _))
+
+pub entry_ends-requires : goal.entry_ends-requires
+entry_ends-requires c = (
+  timed _ c.requires.0.ranged _ c.requires.1 _ c.entries_of-entries.ensures c.loop-i.i (omega arith) _
+      c.at.ensures _ c.schedule_period-period.ensures,
+  led _ c.requires.0.ranged _ c.requires.1 _
+      c.entries_of-entries.ensures c.loop-i.i (omega arith) _ c.at.ensures c.requires.0.routes_lead,
+  c.requires.2,
+)
+
+pub loop-i-preserved : goal.loop-i-preserved
+loop-i-preserved c = (omega arith, all_more _ _ c.loop-i.invariant.1 (cc))
+
+pub returns-else-entry_ends : goal.returns-else-entry_ends
+returns-else-entry_ends c =
+    all_fails _ _ c.loop-i.i (omega arith) (cc) ∙ each_ending _ _ _ _ c.entries_of-entries.ensures
+    c.schedule_period-period.ensures
+
+pub returns : goal.returns
+returns c = all_done _ _ _ c.loop-i.invariant.1 (omega arith) (omega arith) ∙ each_ending _ _ _ _ c.entries_of-entries.ensures c.schedule_period-period.ensures

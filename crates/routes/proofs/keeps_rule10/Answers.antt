@@ -1,0 +1,28 @@
+-- `routes::keeps_rule10` meets its contract: Number 10: each schedule is tested.
+use native.Mathlib.Omega.{arith}
+use Prim.Native.Nat.{◌-◌, ◌≤◌}
+use mathlib.Core.Bool.{true}
+use mathlib.Core.Path.{◌≡◌, sym}
+use borrow.Author.Rules.{rules}
+use Rattle.words.specs.Tests.{all}
+use Rattle.words.proofs.AllLaws.{all_none, all_more, all_done, all_fails}
+use Rattle.sheet.specs.Rules.{each_entry, entry_ends, rule10}
+use Rattle.sheet.specs.Sheet.{period}
+use Rattle.routes.proofs.keeps_rule10.Goals as goal
+
+pub loop-j-init : goal.loop-j-init
+loop-j-init c = (omega arith, sym (all_none _))
+
+pub entries_end-requires : goal.entries_end-requires
+entries_end-requires c = (c.requires.0, omega (arith, c.schedules_of-count.ensures), c.requires.1)
+
+pub loop-j-preserved : goal.loop-j-preserved
+loop-j-preserved c = (omega arith, all_more _ _ c.loop-j.invariant.1 (cc))
+
+pub returns-else-entries_end : goal.returns-else-entries_end
+unfolding rule10
+returns-else-entries_end c = all_fails _ _ c.loop-j.j (omega (arith, c.schedules_of-count.ensures)) (cc)
+
+pub returns : goal.returns
+unfolding rule10
+returns c = all_done _ _ _ c.loop-j.invariant.1 (omega (arith, c.schedules_of-count.ensures)) (omega (arith, c.schedules_of-count.ensures))
