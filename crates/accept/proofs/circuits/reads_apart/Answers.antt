@@ -1,0 +1,60 @@
+-- `accept::circuits::reads_apart` meets its contract: in the loop the read regions of the circuits before `k` are apart from every receive
+-- region: the tables name those at a read region's node, and the others are at another node.
+use native.Mathlib.Omega.{arith}
+use Prim.Native.Nat.{◌-◌, ◌<◌}
+use mathlib.Core.Bool.{false≢true}
+use borrow.Author.Rules.{rules}
+use Rattle.accept.proofs.ArrangedLaws.{ReadsApart, reads_start, reads_more, reads_done, order_four, source_few}
+use Rattle.accept.proofs.circuits.reads_apart.Goals as goal
+
+pub loop-k-init : goal.loop-k-init
+loop-k-init c = reads_start _
+
+pub circuit_within-circuit-requires : goal.circuit_within-circuit-requires
+circuit_within-circuit-requires c =
+    (c.requires.0, omega (arith, c.circuits_of-count.ensures))
+
+pub overflow_cast-node : goal.overflow_cast-node
+overflow_cast-node c = search rules
+
+-- the source's number is small
+
+few : (c : tie.After-circuit-within invariant-loop decreases-loop) → c.circuit-within.result.read.node < 16
+few c =
+    let at-loop = c.before.before in
+    let at-circuits-of = at-loop.before in
+    let entry = at-circuits-of.before.before.before.before in
+    source_few _ entry.requires.0 entry.requires.1 at-loop.loop.k (omega (arith, at-circuits-of.circuits-of.ensures)) _
+    c.circuit-within.ensures
+
+pub offset_bounds-from-node : goal.offset_bounds-from-node
+offset_bounds-from-node c = omega (arith, few c.before)
+
+pub bounds-from-node : goal.bounds-from-node
+bounds-from-node c =
+    omega (arith, few at-circuit-within, c.requires.2.from_long)
+
+pub offset_bounds-to-node : goal.offset_bounds-to-node
+offset_bounds-to-node c = omega (arith, few c.before)
+
+pub bounds-to-node : goal.bounds-to-node
+bounds-to-node c =
+    omega (arith, few at-circuit-within, c.requires.2.to_long)
+
+pub read_apart-requires : goal.read_apart-requires
+read_apart-requires c =
+    (c.requires.0, order_four _ c.requires.1, omega (arith, c.circuits_of-count.ensures), c.requires.2.below _)
+
+pub loop-k-preserved : goal.loop-k-preserved
+loop-k-preserved c =
+    reads_more _ _ _ c.loop-k.k c.loop-k.invariant c.requires.2 _ c.circuit_within-circuit.ensures
+    (c.read_apart.ensures c.if-read_apart.true)
+
+pub returns-else-read_apart : goal.returns-else-read_apart
+returns-else-read_apart c = λ e. absurd (false≢true e)
+
+pub returns : goal.returns
+returns c =
+    λ e.
+    reads_done _ c.loop-k.k c.requires.0 c.requires.1 c.loop-k.invariant
+    (omega (arith, c.circuits_of-count.ensures))

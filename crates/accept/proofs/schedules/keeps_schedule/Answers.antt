@@ -1,0 +1,14 @@
+-- `accept::schedules::keeps_schedule` meets its contract: the period was tested before the entries are placed.
+use mathlib.Core.Bool.{false≢true}
+use mathlib.Core.Path.{refl}
+use Rattle.accept.proofs.ScheduleLaws.{period_in}
+use borrow.Author.Rules.{rules}
+use Rattle.accept.proofs.schedules.keeps_schedule.Goals as goal
+
+pub place_entries-requires : goal.place_entries-requires
+place_entries-requires c =
+    let range = period_in c.args.z.now c.args.j _ c.schedule_period.ensures c.is_between.ensures c.if-is_between.true in
+    (c.requires.0, range.0, range.1, c.requires.1)
+
+pub returns : goal.returns
+returns c = (refl, λ y. absurd (false≢true y))

@@ -1,0 +1,140 @@
+-- `accept::walks::follow_entry` meets its contract: each turn takes the wire of the next hop, and what is taken so far are the uses before the rest of
+-- the route; or the walk turned back, and then it does not end at the destination.
+use Prim.Native.Nat.{◌+◌, ◌/◌, ◌%◌}
+use mathlib.Core.Bool.{Bool, false≢true}
+use mathlib.Core.Path.{◌≡◌, refl, ◌∙◌, ap}
+use native.Mathlib.Omega.{arith}
+use lib.ListN.{length}
+use borrow.Author.Rules.{rules}
+use Rattle.torus.specs.Route.{link_cycles}
+use Rattle.torus.proofs.RouteLaws.{link_high}
+use Rattle.sheet.specs.declared.entries.Entry.{Entry}
+use Rattle.occupancy.specs.Inner.Occupancy.{slot_mask}
+use Rattle.accept.specs.Inner.Placing.{Placeable}
+use Rattle.accept.proofs.WalkLaws.{Walking, walking_start, walking_more, walking_end, wire_few, wire_fits, near_fits}
+use Rattle.accept.proofs.walks.follow_entry.Goals as goal
+
+pub loop-cycles-init : goal.loop-cycles-init
+loop-cycles-init c = λ e p f m r. walking_start _ _ _ _ _ e p _ _ _ _ r m (omega arith)
+
+pub overflow_add-wire : goal.overflow_add-wire
+overflow_add-wire c =
+    let at-loop = c in
+    let entry = at-loop.before.before.before.before in
+    let w = at-loop.loop.invariant entry.args.e entry.requires.0 entry.requires.1 entry.requires.2 refl in
+    omega (arith, wire_few _ _ _ _ _ _ _ _ _ _ _ _ _ _ w (at-loop.loop.rest % 4) (omega arith))
+
+pub take_wire-requires : goal.take_wire-requires
+take_wire-requires c =
+    let w = c.loop-cycles.invariant c.args.e c.requires.0 c.requires.1 c.requires.2 refl in (
+      wire_few _ _ _ _ _ _ _ _ _ _ _ _ _ _ w (c.loop-cycles.rest % 4) (omega arith),
+      c.requires.0.stride_small,
+      omega (arith, c.requires.1, c.requires.0.offset_small),
+      wire_fits _ _ _ _ _ _ _ _ _ _ _ _ _ _ w refl (c.loop-cycles.rest % 4) _ (omega arith) c.requires.1,
+    )
+
+pub overflow_add-cycles : goal.overflow_add-cycles
+overflow_add-cycles c =
+    omega (arith, link_high _ _ _ c.link_cycles-cycles.ensures)
+
+pub shape_of-table-then-left-cycles : goal.shape_of-table-then-left-cycles
+shape_of-table-then-left-cycles c =
+    let w = c.loop-cycles.invariant c.args.e c.requires.0 c.requires.1 c.requires.2 refl in
+    c.take_wire.ensures.same_length ∙ w.same_length
+
+pub returns-then-left-cycles : goal.returns-then-left-cycles
+returns-then-left-cycles c =
+    let w = c.loop-cycles.invariant c.args.e c.requires.0 c.requires.1 c.requires.2 refl in
+    (c.take_wire.ensures.same_length ∙ w.same_length, λ y. absurd (false≢true y))
+
+pub overflow_cast-node : goal.overflow_cast-node
+overflow_cast-node c =
+    let w = c.loop-cycles.invariant c.args.e c.requires.0 c.requires.1 c.requires.2 refl in
+    omega (arith, wire_few _ _ _ _ _ _ _ _ _ _ _ _ _ _ w (c.loop-cycles.rest % 4) (omega arith))
+
+pub offset_bounds-near-wire : goal.offset_bounds-near-wire
+offset_bounds-near-wire c =
+    let w = c.loop-cycles.invariant c.args.e c.requires.0 c.requires.1 c.requires.2 refl in
+    omega (arith, wire_few _ _ _ _ _ _ _ _ _ _ _ _ _ _ w (c.loop-cycles.rest % 4) (omega arith))
+
+pub bounds-near-wire : goal.bounds-near-wire
+bounds-near-wire c =
+    let w = c.loop-cycles.invariant c.args.e c.requires.0 c.requires.1 c.requires.2 refl in
+    near_fits _ _ _ _ _ _ _ _ _ _ _ _ _ _ w (c.loop-cycles.rest % 4) (omega arith)
+
+pub overflow_shl-mask-then-take_wire : goal.overflow_shl-mask-then-take_wire
+overflow_shl-mask-then-take_wire c =
+    omega (arith, link_high _ _ _ c.link_cycles-cycles.ensures)
+
+pub loop-cycles-preserved : goal.loop-cycles-preserved
+loop-cycles-preserved c =
+    λ e p f m r.
+    walking_more _ _ _ _ _ _ _ _ _ _ _ _ _ _ (c.loop-cycles.invariant e p f m r) _ _ c.link_cycles-cycles.result _ _ _ f
+    c.take_wire.ensures c.if-take_wire.true
+    (c.link_cycles-cycles.ensures ∙ ap (λ (b : Bool). link_cycles b (c.loop-cycles.rest % 4)) c.requires.3) (omega arith) (omega arith) refl
+
+pub shape_of-table-else-take_wire : goal.shape_of-table-else-take_wire
+shape_of-table-else-take_wire c =
+    let w = c.loop-cycles.invariant c.args.e c.requires.0 c.requires.1 c.requires.2 refl in
+    c.take_wire.ensures.same_length ∙ w.same_length
+
+pub returns-else-take_wire : goal.returns-else-take_wire
+returns-else-take_wire c =
+    let w = c.loop-cycles.invariant c.args.e c.requires.0 c.requires.1 c.requires.2 refl in
+    (c.take_wire.ensures.same_length ∙ w.same_length, λ y. absurd (false≢true y))
+
+pub shape_of-table-then-node-ends : goal.shape_of-table-then-node-ends
+shape_of-table-then-node-ends c =
+    let w = c.loop-cycles.invariant c.args.e c.requires.0 c.requires.1 c.requires.2 refl in
+    c.take_wire.ensures.same_length ∙ w.same_length
+
+pub returns-then-node-ends : goal.returns-then-node-ends
+returns-then-node-ends c =
+    let w = c.loop-cycles.invariant c.args.e c.requires.0 c.requires.1 c.requires.2 refl in
+    (c.take_wire.ensures.same_length ∙ w.same_length, λ y. absurd (false≢true y))
+
+pub shape_of-table-then-rest-back : goal.shape_of-table-then-rest-back
+shape_of-table-then-rest-back c =
+    let w = c.loop-cycles.invariant c.args.e c.requires.0 c.requires.1 c.requires.2 refl in
+    c.take_wire.ensures.same_length ∙ w.same_length
+
+pub returns-then-rest-back : goal.returns-then-rest-back
+returns-then-rest-back c =
+    let w = c.loop-cycles.invariant c.args.e c.requires.0 c.requires.1 c.requires.2 refl in
+    (c.take_wire.ensures.same_length ∙ w.same_length, λ y. absurd (false≢true y))
+
+pub overflow_add-node : goal.overflow_add-node
+overflow_add-node c =
+    let w = c.loop-cycles.invariant c.args.e c.requires.0 c.requires.1 c.requires.2 refl in
+    let hopped = walking_more _ _ _ _ _ _ _ _ _ _ _ _ _ _ w _ _ c.link_cycles-cycles.result (3 + c.link_cycles-cycles.result) _ _ c.requires.1
+    c.take_wire.ensures c.if-take_wire.true
+    (c.link_cycles-cycles.ensures ∙ ap (λ (b : Bool). link_cycles b (c.loop-cycles.rest % 4)) c.requires.3) (omega arith) (omega arith) refl in
+    omega (arith, wire_few _ _ _ _ _ _ _ _ _ _ _ _ _ _ hopped 5 (omega arith))
+
+pub take_wire-requires-2 : goal.take_wire-requires-2
+take_wire-requires-2 c =
+    let w = c.loop-cycles.invariant c.args.e c.requires.0 c.requires.1 c.requires.2 refl in
+    let hopped = walking_more _ _ _ _ _ _ _ _ _ _ _ _ _ _ w _ _ c.link_cycles-cycles.result (3 + c.link_cycles-cycles.result) _ _ c.requires.1
+    c.take_wire.ensures c.if-take_wire.true
+    (c.link_cycles-cycles.ensures ∙ ap (λ (b : Bool). link_cycles b (c.loop-cycles.rest % 4)) c.requires.3) (omega arith) (omega arith) refl in (
+      wire_few _ _ _ _ _ _ _ _ _ _ _ _ _ _ hopped 5 (omega arith),
+      c.requires.0.stride_small,
+      omega (arith, c.requires.1, c.requires.0.offset_small),
+      wire_fits _ _ _ _ _ _ _ _ _ _ _ _ _ _ hopped refl 5 _ (omega arith) c.requires.1,
+    )
+
+pub shape_of-table : goal.shape_of-table
+shape_of-table c =
+    let w = c.loop-cycles.invariant c.args.e c.requires.0 c.requires.1 c.requires.2 refl in
+    c.take_wire-2.ensures.same_length ∙ c.take_wire.ensures.same_length ∙ w.same_length
+
+pub returns : goal.returns
+returns c =
+    let w = c.loop-cycles.invariant c.args.e c.requires.0 c.requires.1 c.requires.2 refl in
+    let hopped = walking_more _ _ _ _ _ _ _ _ _ _ _ _ _ _ w _ _ c.link_cycles-cycles.result (3 + c.link_cycles-cycles.result) _ _ c.requires.1
+    c.take_wire.ensures c.if-take_wire.true
+    (c.link_cycles-cycles.ensures ∙ ap (λ (b : Bool). link_cycles b (c.loop-cycles.rest % 4)) c.requires.3) (omega arith) (omega arith) refl in (
+      c.take_wire-2.ensures.same_length ∙ c.take_wire.ensures.same_length ∙ w.same_length,
+      λ y.
+          walking_end _ _ _ _ _ _ _ _ _ _ _ _ _ _ hopped _ _ _ c.requires.1 (omega arith) (omega arith) (omega arith) (omega arith) c.take_wire-2.ensures y,
+    )

@@ -1,0 +1,15 @@
+-- `links::clear_links` meets its contract: each turn empties one place of the two rows.
+use native.Mathlib.Omega.{arith}
+use Prim.Native.Nat.{◌≤◌, ◌-◌}
+use lib.ListN.{length-set}
+use Rattle.network.specs.Registers.{link_mark, link_word}
+use Rattle.network.proofs.FillLaws.{Staged, stage_start}
+use Rattle.links.proofs.LinkLaws.{clear_more}
+use Rattle.links.proofs.PairLaws.{filled}
+use Rattle.links.proofs.clear_links.Given as goal
+
+abbrev pub invariant-loop-k : goal.invariant-loop-k
+invariant-loop-k l = (l.k ≤ l.count) × Staged link_mark link_word l.k (λ row k. 0) l.initial.s l.s
+
+abbrev pub decreases-loop-k : goal.decreases-loop-k
+decreases-loop-k l = l.end - l.k

@@ -1,0 +1,10 @@
+-- `receivers::receiving::clear_landings` meets its contract: in the loop the landings of the nodes before `node` are cleared.
+use Rattle.std.proofs.Common.{◌-◌, arith, length-set}
+use Rattle.receivers.proofs.ClearLaws.{Clearing, clearing_start, clearing_more, clearing_done}
+use Rattle.receivers.proofs.receiving.clear_landings.Given as goal
+
+abbrev pub invariant-loop-node : goal.invariant-loop-node
+invariant-loop-node l = Clearing l.initial.s l.end l.s l.node
+
+abbrev pub decreases-loop-node : goal.decreases-loop-node
+decreases-loop-node l = l.end - l.node

@@ -1,0 +1,11 @@
+-- `receivers::receiving::has_stray` meets its contract: in the loop no node before `node` has a stray word; the nodes that are passed have nothing on
+-- their memory output.
+use Rattle.std.proofs.Common.{◌-◌, arith}
+use Rattle.receivers.proofs.StrayLaws.{StrayFree, pass_start, pass_more, pass_found, pass_over}
+use Rattle.receivers.proofs.receiving.has_stray.Given as goal
+
+abbrev pub invariant-loop-node : goal.invariant-loop-node
+invariant-loop-node l = StrayFree l.s l.nodes l.node
+
+abbrev pub decreases-loop-node : goal.decreases-loop-node
+decreases-loop-node l = l.nodes - l.node
