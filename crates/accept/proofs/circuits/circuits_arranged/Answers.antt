@@ -51,7 +51,7 @@ shape_of-to-then-key-end c =
     c.loop-k.invariant.1.tables.to_long ∙ sym (zeros_long _ c.requires.2)
 
 pub returns-then-key-end : goal.returns-then-key-end
-returns-then-key-end c = (λ e. absurd (false≢true e), λ e. absurd (false≢true e))
+returns-then-key-end c = record { order = λ e. absurd (false≢true e); tables = λ e. absurd (false≢true e) }
 
 pub overflow_add-end : goal.overflow_add-end
 overflow_add-end c = let small = few c.before in omega (arith, small.0, small.1)
@@ -70,8 +70,8 @@ loop-k-preserved c = (
   omega arith,
   arranging_more _ c.loop-k.k c.loop-k.end _ _ _ _ c.loop-k.invariant.1 _ _ c.nodes_of-nodes.ensures.0
       c.memory_of-memory.ensures c.nodes_of-nodes.ensures.1 _ c.circuit_within-circuit.ensures
-      (sym c.fits.ensures ∙ c.if-fits.true) c.if-key-end.false c.list_circuit.ensures.0
-      c.list_circuit.ensures.1,
+      (sym c.fits.ensures ∙ c.if-fits.true) c.if-key-end.false c.list_circuit.ensures.from
+      c.list_circuit.ensures.to,
 )
 
 pub shape_of-from-else-fits : goal.shape_of-from-else-fits
@@ -83,7 +83,7 @@ shape_of-to-else-fits c =
     c.loop-k.invariant.1.tables.to_long ∙ sym (zeros_long _ c.requires.2)
 
 pub returns-else-fits : goal.returns-else-fits
-returns-else-fits c = (λ e. absurd (false≢true e), λ e. absurd (false≢true e))
+returns-else-fits c = record { order = λ e. absurd (false≢true e); tables = λ e. absurd (false≢true e) }
 
 pub shape_of-from : goal.shape_of-from
 shape_of-from c =
@@ -97,5 +97,4 @@ pub returns : goal.returns
 returns c =
     let done =
     arranging_done _ c.loop-k.k c.loop-k.end _ _ c.loop-k.invariant.1
-    (omega (arith, c.circuits_of-count.ensures)) in
-    (λ e. done.0, λ e. done.1)
+    (omega (arith, c.circuits_of-count.ensures)) in record { order = λ e. done.0; tables = λ e. done.1 }

@@ -7,11 +7,11 @@ use Rattle.accept.proofs.circuits.keeps_circuits.Goals as goal
 
 pub reads_apart-requires : goal.reads_apart-requires
 reads_apart-requires c =
-    (c.requires, c.circuits_arranged.ensures.0 c.if-circuits_arranged.true, c.circuits_arranged.ensures.1 c.if-circuits_arranged.true)
+    (c.requires, c.circuits_arranged.ensures.order c.if-circuits_arranged.true, c.circuits_arranged.ensures.tables c.if-circuits_arranged.true)
 
 pub returns-then-circuits_arranged : goal.returns-then-circuits_arranged
 returns-then-circuits_arranged c =
-    let order = c.circuits_arranged.ensures.0 c.if-circuits_arranged.true in
+    let order = c.circuits_arranged.ensures.order c.if-circuits_arranged.true in
     λ e. (order_four _ order, order_five _ c.requires order, c.reads_apart.ensures e)
 
 pub returns : goal.returns

@@ -5,7 +5,7 @@ use borrow.Author.Rules.{rules}
 use Rattle.accept.proofs.circuits.list_circuit.Goals as goal
 
 pub returns-then-to-node-eq0 : goal.returns-then-to-node-eq0
-returns-then-to-node-eq0 c = (pick_first _ _ _ c.if-to-node-eq0.true, refl)
+returns-then-to-node-eq0 c = record { from = pick_first _ _ _ c.if-to-node-eq0.true; to = refl }
 
 pub returns : goal.returns
-returns c = (pick_second _ _ _ c.if-to-node-eq0.false, refl)
+returns c = record { from = pick_second _ _ _ c.if-to-node-eq0.false; to = refl }

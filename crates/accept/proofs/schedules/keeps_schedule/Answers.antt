@@ -11,4 +11,4 @@ place_entries-requires c =
     (c.requires.0, range.0, range.1, c.requires.1)
 
 pub returns : goal.returns
-returns c = (refl, λ y. absurd (false≢true y))
+returns c = record { long = refl; kept = λ y. absurd (false≢true y) }

@@ -50,8 +50,7 @@ shape_of-table-then-key-least c =
 
 pub returns-then-key-least : goal.returns-then-key-least
 returns-then-key-least c =
-    let g = c.loop-at.invariant.2 c.requires.0 c.requires.1 c.requires.2 in
-    (g.room_is, λ y. absurd (false≢true y))
+    let g = c.loop-at.invariant.2 c.requires.0 c.requires.1 c.requires.2 in record { long = g.room_is; kept = λ y. absurd (false≢true y) }
 
 pub offset_bounds-ends-e : goal.offset_bounds-ends-e
 offset_bounds-ends-e c =
@@ -104,8 +103,7 @@ shape_of-table-then-period-e c =
 
 pub returns-then-period-e : goal.returns-then-period-e
 returns-then-period-e c =
-    let g = c.loop-at.invariant.2 c.requires.0 c.requires.1 c.requires.2 in
-    (g.room_is, λ y. absurd (false≢true y))
+    let g = c.loop-at.invariant.2 c.requires.0 c.requires.1 c.requires.2 in record { long = g.room_is; kept = λ y. absurd (false≢true y) }
 
 pub place_entry-requires : goal.place_entry-requires
 place_entry-requires c =
@@ -142,18 +140,17 @@ loop-at-preserved c =
           counted _ _ _ _ _ p l h c.loop-at.at _ _
           (accepting_more _ _ _ _ _ p l h _ _ _ (c.loop-at.invariant.2 p l h) _ q t _ refl (omega (arith, c.if-key-least.false))
           (omega (arith, c.if-period-e.false, c.schedule_period-period.ensures)) _ _
-          (ap (λ (x : ℕ). x / 32 + 2) c.schedule_period-period.ensures) (c.place_entry.ensures.1 c.if-place_entry.true)),
+          (ap (λ (x : ℕ). x / 32 + 2) c.schedule_period-period.ensures) (c.place_entry.ensures.placed c.if-place_entry.true)),
     )
 
 pub shape_of-table-else-place_entry : goal.shape_of-table-else-place_entry
 shape_of-table-else-place_entry c =
     let g = c.loop-at.invariant.2 c.requires.0 c.requires.1 c.requires.2 in
-    c.place_entry.ensures.0 ∙ g.room_is
+    c.place_entry.ensures.long ∙ g.room_is
 
 pub returns-else-place_entry : goal.returns-else-place_entry
 returns-else-place_entry c =
-    let g = c.loop-at.invariant.2 c.requires.0 c.requires.1 c.requires.2 in
-    (c.place_entry.ensures.0 ∙ g.room_is, λ y. absurd (false≢true y))
+    let g = c.loop-at.invariant.2 c.requires.0 c.requires.1 c.requires.2 in record { long = c.place_entry.ensures.long ∙ g.room_is; kept = λ y. absurd (false≢true y) }
 
 pub shape_of-table-else-fits : goal.shape_of-table-else-fits
 shape_of-table-else-fits c =
@@ -162,8 +159,7 @@ shape_of-table-else-fits c =
 
 pub returns-else-fits : goal.returns-else-fits
 returns-else-fits c =
-    let g = c.loop-at.invariant.2 c.requires.0 c.requires.1 c.requires.2 in
-    (g.room_is, λ y. absurd (false≢true y))
+    let g = c.loop-at.invariant.2 c.requires.0 c.requires.1 c.requires.2 in record { long = g.room_is; kept = λ y. absurd (false≢true y) }
 
 pub shape_of-table : goal.shape_of-table
 shape_of-table c =
@@ -172,8 +168,8 @@ shape_of-table c =
 
 pub returns : goal.returns
 returns c =
-    let g = c.loop-at.invariant.2 c.requires.0 c.requires.1 c.requires.2 in (
-      g.room_is,
-      λ y.
-          accepting_done _ _ _ _ _ _ _ _ _ _ _ g (omega (arith, c.loop-at.invariant.1, ap (λ (l : List ℕ). entry_count l) c.entries_of-entries.ensures)),
-    )
+    let g = c.loop-at.invariant.2 c.requires.0 c.requires.1 c.requires.2 in record {
+      long = g.room_is;
+      kept = λ y.
+          accepting_done _ _ _ _ _ _ _ _ _ _ _ g (omega (arith, c.loop-at.invariant.1, ap (λ (l : List ℕ). entry_count l) c.entries_of-entries.ensures));
+    }

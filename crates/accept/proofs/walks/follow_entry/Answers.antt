@@ -44,8 +44,7 @@ shape_of-table-then-left-cycles c =
 
 pub returns-then-left-cycles : goal.returns-then-left-cycles
 returns-then-left-cycles c =
-    let w = c.loop-cycles.invariant c.args.e c.requires.0 c.requires.1 c.requires.2 refl in
-    (c.take_wire.ensures.same_length ∙ w.same_length, λ y. absurd (false≢true y))
+    let w = c.loop-cycles.invariant c.args.e c.requires.0 c.requires.1 c.requires.2 refl in record { long = c.take_wire.ensures.same_length ∙ w.same_length; placed = λ y. absurd (false≢true y) }
 
 pub overflow_cast-node : goal.overflow_cast-node
 overflow_cast-node c =
@@ -80,8 +79,7 @@ shape_of-table-else-take_wire c =
 
 pub returns-else-take_wire : goal.returns-else-take_wire
 returns-else-take_wire c =
-    let w = c.loop-cycles.invariant c.args.e c.requires.0 c.requires.1 c.requires.2 refl in
-    (c.take_wire.ensures.same_length ∙ w.same_length, λ y. absurd (false≢true y))
+    let w = c.loop-cycles.invariant c.args.e c.requires.0 c.requires.1 c.requires.2 refl in record { long = c.take_wire.ensures.same_length ∙ w.same_length; placed = λ y. absurd (false≢true y) }
 
 pub shape_of-table-then-node-ends : goal.shape_of-table-then-node-ends
 shape_of-table-then-node-ends c =
@@ -90,8 +88,7 @@ shape_of-table-then-node-ends c =
 
 pub returns-then-node-ends : goal.returns-then-node-ends
 returns-then-node-ends c =
-    let w = c.loop-cycles.invariant c.args.e c.requires.0 c.requires.1 c.requires.2 refl in
-    (c.take_wire.ensures.same_length ∙ w.same_length, λ y. absurd (false≢true y))
+    let w = c.loop-cycles.invariant c.args.e c.requires.0 c.requires.1 c.requires.2 refl in record { long = c.take_wire.ensures.same_length ∙ w.same_length; placed = λ y. absurd (false≢true y) }
 
 pub shape_of-table-then-rest-back : goal.shape_of-table-then-rest-back
 shape_of-table-then-rest-back c =
@@ -100,8 +97,7 @@ shape_of-table-then-rest-back c =
 
 pub returns-then-rest-back : goal.returns-then-rest-back
 returns-then-rest-back c =
-    let w = c.loop-cycles.invariant c.args.e c.requires.0 c.requires.1 c.requires.2 refl in
-    (c.take_wire.ensures.same_length ∙ w.same_length, λ y. absurd (false≢true y))
+    let w = c.loop-cycles.invariant c.args.e c.requires.0 c.requires.1 c.requires.2 refl in record { long = c.take_wire.ensures.same_length ∙ w.same_length; placed = λ y. absurd (false≢true y) }
 
 pub overflow_add-node : goal.overflow_add-node
 overflow_add-node c =
@@ -133,8 +129,8 @@ returns c =
     let w = c.loop-cycles.invariant c.args.e c.requires.0 c.requires.1 c.requires.2 refl in
     let hopped = walking_more _ _ _ _ _ _ _ _ _ _ _ _ _ _ w _ _ c.link_cycles-cycles.result (3 + c.link_cycles-cycles.result) _ _ c.requires.1
     c.take_wire.ensures c.if-take_wire.true
-    (c.link_cycles-cycles.ensures ∙ ap (λ (b : Bool). link_cycles b (c.loop-cycles.rest % 4)) c.requires.3) (omega arith) (omega arith) refl in (
-      c.take_wire-2.ensures.same_length ∙ c.take_wire.ensures.same_length ∙ w.same_length,
-      λ y.
-          walking_end _ _ _ _ _ _ _ _ _ _ _ _ _ _ hopped _ _ _ c.requires.1 (omega arith) (omega arith) (omega arith) (omega arith) c.take_wire-2.ensures y,
-    )
+    (c.link_cycles-cycles.ensures ∙ ap (λ (b : Bool). link_cycles b (c.loop-cycles.rest % 4)) c.requires.3) (omega arith) (omega arith) refl in record {
+      long = c.take_wire-2.ensures.same_length ∙ c.take_wire.ensures.same_length ∙ w.same_length;
+      placed = λ y.
+          walking_end _ _ _ _ _ _ _ _ _ _ _ _ _ _ hopped _ _ _ c.requires.1 (omega arith) (omega arith) (omega arith) (omega arith) c.take_wire-2.ensures y;
+    }

@@ -26,12 +26,11 @@ follow_entry-requires c = (
 )
 
 pub returns-then-take_wire : goal.returns-then-take_wire
-returns-then-take_wire c = (
-  c.follow_entry.ensures.0 ∙ c.take_wire.ensures.same_length,
-  λ y. placed_free _ _ _ _ _ _ c.requires.0 _ _ _ _ _ _ refl c.slot_mask-slot.ensures c.take_wire.ensures c.if-take_wire.true
-      (c.follow_entry.ensures.1 y),
-)
+returns-then-take_wire c = record {
+  long = c.follow_entry.ensures.long ∙ c.take_wire.ensures.same_length;
+  placed = λ y. placed_free _ _ _ _ _ _ c.requires.0 _ _ _ _ _ _ refl c.slot_mask-slot.ensures c.take_wire.ensures c.if-take_wire.true
+      (c.follow_entry.ensures.placed y);
+}
 
 pub returns : goal.returns
-returns c =
-    (c.take_wire.ensures.same_length, λ y. absurd (false≢true y))
+returns c = record { long = c.take_wire.ensures.same_length; placed = λ y. absurd (false≢true y) }

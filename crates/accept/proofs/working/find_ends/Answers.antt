@@ -93,7 +93,7 @@ loop-k-preserved c =
     finding_more _ c.loop-k.k _ c.loop-k.invariant
     (omega (arith, c.circuits_of-count.ensures, c.requires.0.headed.circuits_high)) _
     (ends_word_is _ c.requires.0 c.requires.1 c.loop-k.k (omega (arith, c.circuits_of-count.ensures)) _ _ _ _
-    c.columns_of-cols.ensures c.rows_of-rows.ensures refl refl _ _ c.is_long-long.ensures c.Span-of.ensures)
+    c.columns_of-cols.ensures c.rows_of-rows.ensures refl refl _ _ c.is_long-long.ensures c.span_of-span.ensures)
 
 pub shape_of-ends : goal.shape_of-ends
 shape_of-ends c =

@@ -1,0 +1,39 @@
+-- `routers::cross_input` meets its contract: an input asks for one output at most, whose place is computed; the tables change there alone.
+-- Where it asks for none, only a payload word that has no choice is a fault.
+use mathlib.Core.Path.{refl}
+use native.Mathlib.Omega.{arith}
+use Rattle.routers.proofs.InputLaws.{no_payload, chosen, unchosen, asks_empty, asks_none, asks_past, crossed_none, crossed_unchosen, crossed_hit, crossed_first}
+use borrow.Author.Rules.{rules}
+use Rattle.routers.proofs.cross_input.Goals as goal
+
+pub returns-then-mark-eq0 : goal.returns-then-mark-eq0
+returns-then-mark-eq0 c =
+    crossed_none _ _ _ _ c.requires.1 c.requires.2 (no_payload _ _ _ c.reg-mark.ensures (omega arith))
+    (asks_empty _ _ _ c.reg-mark.ensures (omega arith))
+
+pub returns-then-mark-lt2 : goal.returns-then-mark-lt2
+returns-then-mark-lt2 c =
+    crossed_none _ _ _ _ c.requires.1 c.requires.2 (no_payload _ _ _ c.reg-mark.ensures (omega arith))
+    (asks_none _ _ _ c.reg-choice.ensures (omega arith))
+
+pub returns-then-choice-eq0 : goal.returns-then-choice-eq0
+returns-then-choice-eq0 c =
+    crossed_unchosen _ _ _ _ c.requires.1 c.requires.2
+    (unchosen _ _ _ c.reg-choice.ensures (omega arith) _ c.reg-mark.ensures (omega arith))
+    (asks_none _ _ _ c.reg-choice.ensures (omega arith))
+
+pub returns-then-choice-gt-OUTPUTS : goal.returns-then-choice-gt-OUTPUTS
+returns-then-choice-gt-OUTPUTS c =
+    crossed_none _ _ _ _ c.requires.1 c.requires.2 (chosen _ _ _ c.reg-choice.ensures (omega arith))
+    (asks_past _ _ _ c.reg-choice.ensures (omega arith))
+
+pub returns-then-get-ne0 : goal.returns-then-get-ne0
+returns-then-get-ne0 c =
+    crossed_hit _ _ _ _ c.requires.1 c.requires.2 _ c.reg-mark.ensures c.if-mark-eq0.false _ c.reg-choice.ensures
+    (omega arith) (omega arith) c.requires.0 _ refl _ c.get.ensures c.if-get-ne0.true
+
+pub returns : goal.returns
+returns c =
+    crossed_first _ _ _ _ c.requires.1 c.requires.2 _ c.reg-mark.ensures c.if-mark-eq0.false _
+    c.reg-choice.ensures (omega arith) (omega arith) c.requires.0 _ refl _ c.get.ensures (omega arith) _
+    c.reg.ensures _ _ c.put.ensures c.put-2.ensures

@@ -1,0 +1,11 @@
+-- `routers::step_head` meets its contract: an empty link register makes an empty header stage, and its latch stays, which so need not be
+-- set; the rest is step_head_word.
+use native.Mathlib.Omega.{arith}
+use Rattle.routers.proofs.HeadLaws.{head_empty}
+use borrow.Author.Rules.{rules}
+use Rattle.routers.proofs.step_head.Goals as goal
+
+pub returns : goal.returns
+returns c =
+    head_empty _ _ _ _ c.reg-mark.ensures (omega arith) c.reg-word.ensures _ _ _ c.put_reg.ensures
+    c.put_reg-2.ensures c.put_reg-3.ensures

@@ -1,0 +1,10 @@
+-- `routers::step_head_word` meets its contract: all is read before the first register is set.
+use Rattle.routers.proofs.HeadLaws.{head_is}
+use borrow.Author.Rules.{rules}
+use Rattle.routers.proofs.step_head_word.Goals as goal
+
+pub returns : goal.returns
+returns c =
+    head_is _ _ _ _ _ _ _ c.requires c.reg.ensures c.next_head_word-word.ensures
+    c.next_choice-choice.ensures c.next_latch-latch.ensures _ _ _ _ c.put_reg.ensures
+    c.put_reg-2.ensures c.put_reg-3.ensures c.put_reg-4.ensures
