@@ -7,6 +7,7 @@ use mathlib.Core.Path.{sym, ◌∙◌}
 use borrow.Author.Rules.{rules}
 use Rattle.accept.proofs.ArrangedLaws.{Arranging, arranging_start, arranging_more, arranging_done, within_read, zeros_long}
 use Rattle.accept.proofs.circuits.circuits_arranged.Goals as goal
+use Rattle.accept.proofs.circuits.circuits_arranged.Goals.{Then-fits}
 
 pub nodes_of-nodes-requires : goal.nodes_of-nodes-requires
 nodes_of-nodes-requires c = c.requires.0.headed
@@ -24,23 +25,21 @@ fits-requires c = tt
 
 -- the receive region is at a node of the grid and ends within the memory, so its keys are small
 
-few : (c : tie.Then1 invariant-loop decreases-loop)
-    → let receive = c.before.before.circuit-within.result.receive in
+few : (c : Then-fits)
+    → let receive = c.circuit_within-circuit.result.receive in
     (receive.node < 16) × (receive.offset + receive.size ≤ 16384)
 few c =
-    let at-memory-of = c.before.before.before.before.before.before in
-    let at-nodes-of = at-memory-of.before in
-    let own = within_read _ _ _ c.before.fits2.ensures c.if1.true in
-    let memory = at-nodes-of.before.before.before.before.requires.0.headed.memory_high in (
-      omega (arith, own.inside, at-nodes-of.nodes-of.ensures.1),
-      omega (arith, own.ends, at-memory-of.memory-of.ensures, memory),
+    let own = within_read _ _ _ c.fits.ensures c.if-fits.true in
+    let memory = c.requires.0.headed.memory_high in (
+      omega (arith, own.inside, c.nodes_of-nodes.ensures.1),
+      omega (arith, own.ends, c.memory_of-memory.ensures, memory),
     )
 
 pub overflow_mul-key : goal.overflow_mul-key
-overflow_mul-key c = let small = few c.before in omega (arith, small.0)
+overflow_mul-key c = let small = few (goal.at.overflow_mul-key c).Then-fits in omega (arith, small.0)
 
 pub overflow_add-key : goal.overflow_add-key
-overflow_add-key c = let small = few c.before in omega (arith, small.0, small.1)
+overflow_add-key c = let small = few (goal.at.overflow_add-key c).Then-fits in omega (arith, small.0, small.1)
 
 pub shape_of-from-then-key-end : goal.shape_of-from-then-key-end
 shape_of-from-then-key-end c =
@@ -54,11 +53,11 @@ pub returns-then-key-end : goal.returns-then-key-end
 returns-then-key-end c = record { order = λ e. absurd (false≢true e); tables = λ e. absurd (false≢true e) }
 
 pub overflow_add-end : goal.overflow_add-end
-overflow_add-end c = let small = few c.before in omega (arith, small.0, small.1)
+overflow_add-end c = let small = few (goal.at.overflow_add-end c).Then-fits in omega (arith, small.0, small.1)
 
 pub list_circuit-requires : goal.list_circuit-requires
 list_circuit-requires c =
-    let small = few at-if1 in
+    let small = few (goal.at.list_circuit-requires c).Then-fits in
     let tables = c.loop-k.invariant.1.tables in (
       omega (arith, small.0, tables.from_long),
       omega (arith, small.0, tables.to_long),

@@ -6,6 +6,7 @@ use mathlib.Core.Bool.{false≢true}
 use borrow.Author.Rules.{rules}
 use Rattle.accept.proofs.ArrangedLaws.{ReadsApart, reads_start, reads_more, reads_done, order_four, source_few}
 use Rattle.accept.proofs.circuits.reads_apart.Goals as goal
+use Rattle.accept.proofs.circuits.reads_apart.Goals.{After-circuit_within-circuit}
 
 pub loop-k-init : goal.loop-k-init
 loop-k-init c = reads_start _
@@ -19,27 +20,24 @@ overflow_cast-node c = search rules
 
 -- the source's number is small
 
-few : (c : tie.After-circuit-within invariant-loop decreases-loop) → c.circuit-within.result.read.node < 16
+few : (c : After-circuit_within-circuit) → c.circuit_within-circuit.result.read.node < 16
 few c =
-    let at-loop = c.before.before in
-    let at-circuits-of = at-loop.before in
-    let entry = at-circuits-of.before.before.before.before in
-    source_few _ entry.requires.0 entry.requires.1 at-loop.loop.k (omega (arith, at-circuits-of.circuits-of.ensures)) _
-    c.circuit-within.ensures
+    source_few _ c.requires.0 c.requires.1 c.loop-k.k (omega (arith, c.circuits_of-count.ensures)) _
+    c.circuit_within-circuit.ensures
 
 pub offset_bounds-from-node : goal.offset_bounds-from-node
-offset_bounds-from-node c = omega (arith, few c.before)
+offset_bounds-from-node c = omega (arith, few (goal.at.offset_bounds-from-node c).After-circuit_within-circuit)
 
 pub bounds-from-node : goal.bounds-from-node
 bounds-from-node c =
-    omega (arith, few at-circuit-within, c.requires.2.from_long)
+    omega (arith, few (goal.at.bounds-from-node c).After-circuit_within-circuit, c.requires.2.from_long)
 
 pub offset_bounds-to-node : goal.offset_bounds-to-node
-offset_bounds-to-node c = omega (arith, few c.before)
+offset_bounds-to-node c = omega (arith, few (goal.at.offset_bounds-to-node c).After-circuit_within-circuit)
 
 pub bounds-to-node : goal.bounds-to-node
 bounds-to-node c =
-    omega (arith, few at-circuit-within, c.requires.2.to_long)
+    omega (arith, few (goal.at.bounds-to-node c).After-circuit_within-circuit, c.requires.2.to_long)
 
 pub read_apart-requires : goal.read_apart-requires
 read_apart-requires c =

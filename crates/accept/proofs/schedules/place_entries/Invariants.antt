@@ -12,8 +12,8 @@ use Rattle.accept.proofs.ScheduleLaws.{Accepting, accepting_start, accepting_mor
 use Rattle.accept.proofs.schedules.place_entries.Given as goal
 
 abbrev pub invariant-loop-at : goal.invariant-loop-at
-invariant-loop-at l = (l.at % 4 ≡ 0) × (l.at ≤ length l.entries) × ((p : Schedulable (length l.initial.table) l.near l.z l.ends l.j) (l : 9 ≤ periodOf l.z l.j) (h : periodOf l.z l.j ≤ 1024)
-    → Accepting (length l.initial.table) l.near l.z l.ends l.j p l h (l.at / 4) l.least l.table)
+invariant-loop-at turn = (turn.at % 4 ≡ 0) × (turn.at ≤ length turn.entries) × ((p : Schedulable (length turn.initial.table) turn.near turn.z turn.ends turn.j) (l : 9 ≤ periodOf turn.z turn.j) (h : periodOf turn.z turn.j ≤ 1024)
+    → Accepting (length turn.initial.table) turn.near turn.z turn.ends turn.j p l h (turn.at / 4) turn.least turn.table)
 
 abbrev pub decreases-loop-at : goal.decreases-loop-at
 decreases-loop-at l = length l.entries - l.at

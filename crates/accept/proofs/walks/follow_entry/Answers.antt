@@ -19,10 +19,8 @@ loop-cycles-init c = λ e p f m r. walking_start _ _ _ _ _ e p _ _ _ _ r m (omeg
 
 pub overflow_add-wire : goal.overflow_add-wire
 overflow_add-wire c =
-    let at-loop = c in
-    let entry = at-loop.before.before.before.before in
-    let w = at-loop.loop.invariant entry.args.e entry.requires.0 entry.requires.1 entry.requires.2 refl in
-    omega (arith, wire_few _ _ _ _ _ _ _ _ _ _ _ _ _ _ w (at-loop.loop.rest % 4) (omega arith))
+    let w = c.loop-cycles.invariant c.args.e c.requires.0 c.requires.1 c.requires.2 refl in
+    omega (arith, wire_few _ _ _ _ _ _ _ _ _ _ _ _ _ _ w (c.loop-cycles.rest % 4) (omega arith))
 
 pub take_wire-requires : goal.take_wire-requires
 take_wire-requires c =

@@ -7,6 +7,7 @@ use borrow.Author.Rules.{rules}
 use Rattle.words.specs.Words.{word}
 use Rattle.accept.proofs.WorkingLaws.{Finding, finding_start, finding_more, finding_done, ends_inside, ends_few, ends_word_is}
 use Rattle.accept.proofs.working.find_ends.Goals as goal
+use Rattle.accept.proofs.working.find_ends.Goals.{After-span_of-span}
 
 pub loop-k-init : goal.loop-k-init
 loop-k-init c =
@@ -51,34 +52,27 @@ span_of-span-requires c =
 
 -- the number that is put is small
 
-few : (c : tie.After-span-of invariant-loop decreases-loop)
-    → let at-loop = c.before.before.before.before in
-    let z = at-loop.before.before.before.before.before.before.before.args.z.now in
-    word z (5 + 6 * at-loop.loop.k) * 6 + word z (6 + 6 * at-loop.loop.k) * 1536 + c.Span-of.result * 65536 < 1048576
+few : (c : After-span_of-span)
+    → let z = c.args.z.now in
+    word z (5 + 6 * c.loop-k.k) * 6 + word z (6 + 6 * c.loop-k.k) * 1536 + c.span_of-span.result * 65536 < 1048576
 few c =
-    let at-loop = c.before.before.before.before in
-    let at-circuits-of = at-loop.before in
-    let at-is-long = at-circuits-of.before in
-    let at-rows-of = at-is-long.before in
-    let at-columns-of = at-rows-of.before in
-    let entry = at-columns-of.before.before.before in
-    ends_few _ entry.requires.0 entry.requires.1 at-loop.loop.k (omega (arith, at-circuits-of.circuits-of.ensures)) _ _ _ _
-    at-columns-of.columns_of.ensures at-rows-of.rows_of_lem.ensures refl refl at-is-long.is-long.result _ c.Span-of.ensures
+    ends_few _ c.requires.0 c.requires.1 c.loop-k.k (omega (arith, c.circuits_of-count.ensures)) _ _ _ _
+    c.columns_of-cols.ensures c.rows_of-rows.ensures refl refl c.is_long-long.result _ c.span_of-span.ensures
 
 pub overflow_mul-ends : goal.overflow_mul-ends
-overflow_mul-ends c = omega (arith, few c)
+overflow_mul-ends c = omega (arith, few (goal.at.overflow_mul-ends c).After-span_of-span)
 
 pub overflow_mul-ends-in-loop-k : goal.overflow_mul-ends-in-loop-k
-overflow_mul-ends-in-loop-k c = omega (arith, few c)
+overflow_mul-ends-in-loop-k c = omega (arith, few (goal.at.overflow_mul-ends-in-loop-k c).After-span_of-span)
 
 pub overflow_add-ends : goal.overflow_add-ends
-overflow_add-ends c = omega (arith, few c)
+overflow_add-ends c = omega (arith, few (goal.at.overflow_add-ends c).After-span_of-span)
 
 pub overflow_mul-ends-in-loop-k-2 : goal.overflow_mul-ends-in-loop-k-2
-overflow_mul-ends-in-loop-k-2 c = omega (arith, few c)
+overflow_mul-ends-in-loop-k-2 c = omega (arith, few (goal.at.overflow_mul-ends-in-loop-k-2 c).After-span_of-span)
 
 pub overflow_add-ends-in-loop-k : goal.overflow_add-ends-in-loop-k
-overflow_add-ends-in-loop-k c = omega (arith, few c)
+overflow_add-ends-in-loop-k c = omega (arith, few (goal.at.overflow_add-ends-in-loop-k c).After-span_of-span)
 
 pub offset_bounds-ends-at : goal.offset_bounds-ends-at
 offset_bounds-ends-at c =

@@ -5,6 +5,7 @@ use mathlib.Core.Logic.{⊎_elim}
 use borrow.Author.Rules.{rules}
 use Rattle.accept.proofs.WorkingLaws.{Longest, longest_start, longest_more}
 use Rattle.accept.proofs.working.longest_period.Goals as goal
+use Rattle.accept.proofs.working.longest_period.Goals.{then-longest-period, else-longest-period}
 
 pub loop-j-init : goal.loop-j-init
 loop-j-init c = longest_start _ _
@@ -18,10 +19,10 @@ loop-j-preserved c =
     let read = c.schedule_period-period.ensures in
     let more : (next : ℕ) → c.loop-j.longest ≤ next → c.schedule_period-period.result ≤ next → Longest _ (c.loop-j.j + 1) next =
     λ next a b. longest_more _ c.loop-j.j c.loop-j.longest next c.loop-j.invariant a (omega (arith, read, b)) in
-    ⊎_elim
-    (λ w. more c.if-longest-period.longest (omega (arith, w.0.taken, w.1)) (omega (arith, w.0.taken, w.1)))
-    (λ w. more c.if-longest-period.longest (omega (arith, w.0.left, w.1)) (omega (arith, w.0.left, w.1)))
-    c.if-longest-period.branch
+    elim c.if-longest-period.branch [
+      | then-longest-period w ↦ more c.if-longest-period.longest (omega (arith, w.if-longest-period.true, w.longest-is)) (omega (arith, w.if-longest-period.true, w.longest-is))
+      | else-longest-period w ↦ more c.if-longest-period.longest (omega (arith, w.if-longest-period.false, w.longest-is)) (omega (arith, w.if-longest-period.false, w.longest-is))
+    ]
 
 pub returns : goal.returns
 returns c =
