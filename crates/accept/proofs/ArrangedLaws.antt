@@ -8,7 +8,7 @@ use native.Mathlib.Omega.{arith}
 use native.Mathlib.Decide.{dec_lt, ℕ_discrete}
 use lib.ListN.{length, set, replicate, length-set, length-replicate}
 use lib.Seq.{get_or-set_other, get_or-set_same}
-use Rattle.words.specs.Tests.{all, ◌or◌, ◌=?◌}
+use Rattle.words.specs.Tests.{◌or◌, ◌=?◌}
 use Rattle.words.specs.Words.{word, pick}
 use Rattle.words.proofs.WordLaws.{word_zeros}
 use Rattle.words.proofs.AllLaws.{all_none, all_more, all_at, all_of}

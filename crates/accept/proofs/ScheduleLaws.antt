@@ -2,18 +2,18 @@
 -- none of them.
 -- Assumes nothing.
 use Prim.Native.Nat.{ℕ, ◌+◌, ◌-◌, ◌*◌, ◌/◌, ◌%◌, ◌^◌, ◌<◌, ◌≤◌}
-use mathlib.Core.Bool.{Bool, true, false, not}
+use mathlib.Core.Bool.{Bool, true, not}
 use mathlib.Core.List.{List}
 use mathlib.Core.Path.{◌≡◌, refl, sym, ◌∙◌, ap, subst}
 use native.Mathlib.Omega.{arith}
 use native.Mathlib.Decide.{dec_lt}
 use native.Mathlib.Nat.{mul-le-mul, mul-pos, zero-div}
 use lib.ListN.{length, set, replicate, length-set, length-replicate, get_or-eq_default}
-use Rattle.words.specs.Tests.{all, between, ◌and◌, ◌or◌, ◌≤?◌, ◌<?◌, ◌=?◌}
+use Rattle.words.specs.Tests.{all, between, ◌and◌, ◌or◌, ◌<?◌, ◌=?◌}
 use Rattle.words.specs.Words.{word}
 use Rattle.words.proofs.TestLaws.{yes=, no=, yes≤, is≤, yes<, is<, and_both, and_left, and_right, or_yes, or_skip}
 use Rattle.words.proofs.WordLaws.{fill_more}
-use Rattle.words.proofs.AllLaws.{all_none, all_more, all_of, all_same, all_at}
+use Rattle.words.proofs.AllLaws.{all_none, all_more, all_of, all_same}
 use Rattle.torus.specs.Inner.Grid.{InGrid}
 use Rattle.torus.specs.Inner.Paths.{wires_per_node}
 use Rattle.torus.specs.Inner.Delays.{last_delay}

@@ -1,6 +1,6 @@
 -- A walk along an entry's route that takes each wire's places as it goes: what is taken so far, and how the rest of the route goes on.
 -- Assumes nothing.
-use Prim.Native.Nat.{ℕ, zero, suc, ◌+◌, ◌-◌, ◌*◌, ◌/◌, ◌%◌, ◌^◌, ◌<◌, ◌≤◌}
+use Prim.Native.Nat.{ℕ, ◌+◌, ◌-◌, ◌*◌, ◌/◌, ◌%◌, ◌^◌, ◌<◌, ◌≤◌}
 use mathlib.Core.Bool.{Bool, true, false, not, false≢true}
 use mathlib.Core.Logic.{◌⊎◌, inl, inr, ⊎_elim}
 use mathlib.Core.List.{List, [], ◌∷◌, ◌++◌, map, append_assoc, append-nil}
@@ -10,7 +10,7 @@ use native.Mathlib.Decide.{ℕ_discrete}
 use native.Mathlib.Nat.{add-zero, zero-add, mul_assoc, mul_comm, mul-le-mul, mul-le-mul_right, add-mul, one-mul, mod-eq_of_lt, mod-lt, zero-lt-suc}
 use lib.ListN.{length}
 use lib.Pow.{pow-add}
-use Rattle.words.specs.Tests.{◌or◌, ◌=?◌}
+use Rattle.words.specs.Tests.{◌or◌}
 use Rattle.words.specs.Words.{word, pick}
 use Rattle.words.proofs.TestLaws.{yes=, no=, yes≤, is≤, and_both, or_on, or_false}
 use Rattle.torus.specs.Torus.{neighbour_of, opposite_of}

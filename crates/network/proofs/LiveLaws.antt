@@ -3,7 +3,7 @@
 use Prim.Native.Nat.{ℕ, ◌+◌, ◌*◌, ◌/◌, ◌%◌, ◌≤◌, ◌<◌}
 use mathlib.Core.Bool.{Bool, true, false}
 use mathlib.Core.List.{List, []}
-use mathlib.Core.Path.{◌≡◌, refl, sym, ◌∙◌, ap, ap₂, subst}
+use mathlib.Core.Path.{◌≡◌, refl, sym, ◌∙◌, ap, subst}
 use native.Mathlib.Omega.{arith}
 use lib.ListN.{length}
 use lib.Bits.{bit_or}
@@ -15,7 +15,7 @@ use Rattle.occupancy.specs.Inner.Occupancy.{bit_at}
 use Rattle.occupancy.proofs.MaskLaws.{union_free}
 use Rattle.network.specs.declared.Live.{Live}
 use Rattle.network.specs.Cycle.{has_extra}
-use Rattle.network.specs.Registers.{reg, sheet_in, moving_words, row_words, at, link_mark, link_word, head_mark, head_word, choice_row, latch_row, out_mark, out_word, landing_mark, to_go_row, extra_mark, extra_word}
+use Rattle.network.specs.Registers.{reg, sheet_in, moving_words, row_words, at, link_mark, link_word, head_mark, head_word, choice_row, latch_row, out_mark, out_word, to_go_row, extra_mark, extra_word}
 use Rattle.network.specs.Inner.Machine.{next_head_word, next_choice, next_latch, asked_mark, next_out_mark, next_out_word, next_extra_mark, next_extra_word, memory_mark, memory_word, next_landing_mark, row_in, next_rows, next_in_row, next_state}
 use Rattle.network.specs.Inner.Quiet.{clock_on}
 use Rattle.network.specs.Inner.Live.{EmptyBeside, ExtraEmptyBeside, Stays, Covered}

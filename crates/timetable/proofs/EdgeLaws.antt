@@ -6,7 +6,7 @@ use mathlib.Core.List.{List}
 use mathlib.Core.Path.{◌≡◌, refl, sym, ◌∙◌, ap, ap₂}
 use native.Mathlib.Omega.{arith}
 use native.Mathlib.Decide.{ℕ_discrete, dec_lt, dec_le}
-use Rattle.words.specs.Tests.{◌≤?◌, ◌<?◌, ◌=?◌, ◌and◌, ◌or◌}
+use Rattle.words.specs.Tests.{◌≤?◌, ◌<?◌, ◌=?◌, ◌and◌}
 use Rattle.words.proofs.TestLaws.{or_yes, or_on, or_skip, yes≤, no≤, yes<, no<, yes=, no=}
 use Rattle.words.proofs.AllLaws.{any_at, any_none}
 use Rattle.words.proofs.WordLaws.{last_of_same, least_from_by, least_from_before, least_from_low}

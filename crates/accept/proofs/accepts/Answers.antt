@@ -1,7 +1,6 @@
 -- `accept::accepts` meets its contract: a sheet that keeps each part of the rules has the verdict 0.
 use mathlib.Core.Bool.{false≢true}
 use Rattle.accept.proofs.ScheduleLaws.{all_kept}
-use borrow.Author.Rules.{rules}
 use Rattle.accept.proofs.accepts.Goals as goal
 
 pub keeps_circuits-requires : goal.keeps_circuits-requires

@@ -2,7 +2,6 @@
 use mathlib.Core.Path.{sym, ◌∙◌}
 use mathlib.Core.Bool.{false≢true}
 use Rattle.sheet.proofs.PassedLaws.{headed, framed}
-use borrow.Author.Rules.{rules}
 use Rattle.accept.proofs.keeps_frame.Goals as goal
 
 pub keeps_rule3-requires : goal.keeps_rule3-requires

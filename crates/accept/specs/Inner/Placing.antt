@@ -1,6 +1,6 @@
 -- An entry's wires in a table that has so many words a wire: its slot begins at a word and a bit of it, and each wire is taken there, by its
 -- delay later. So all of a packet's places on a wire lie in the two words from that one on.
-use Rattle.std.specs.Prelude.{ℕ, ◌+◌, ◌*◌, ◌/◌, ◌<◌, ◌≤◌, List, map, true, false, ◌≡◌, length}
+use Rattle.std.specs.Prelude.{ℕ, ◌+◌, ◌*◌, ◌/◌, ◌<◌, ◌≤◌, List, map, true, false, ◌≡◌}
 use Rattle.torus.specs.Route.{Use, leads, no_side, router_cycles, codes, follow}
 use Rattle.torus.specs.Inner.Paths.{wires_per_node}
 use Rattle.sheet.specs.declared.entries.Entry.{Entry}

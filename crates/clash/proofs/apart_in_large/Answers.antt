@@ -1,6 +1,5 @@
 -- `clash::apart_in_large` meets its contract: a table of zeros is free.
 use Rattle.clash.proofs.RoomLaws.{ready_zeros}
-use borrow.Author.Rules.{rules}
 use Rattle.clash.proofs.apart_in_large.Goals as goal
 
 pub entries_apart-requires : goal.entries_apart-requires

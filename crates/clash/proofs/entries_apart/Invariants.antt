@@ -1,10 +1,7 @@
 -- `clash::entries_apart` meets its contract: Number 11 at one schedule: with just the entries before it in the table, an entry finds a place taken exactly where it meets one of them.
-use native.Mathlib.Omega.{arith}
-use Prim.Native.Nat.{ℕ, ◌+◌, ◌-◌, ◌≤◌}
-use mathlib.Core.Path.{refl, ap}
+use Prim.Native.Nat.{◌-◌, ◌≤◌}
 use lib.ListN.{length}
-use borrow.Author.Rules.{rules}
-use Rattle.clash.proofs.EntryLaws.{Placing, placing_start, placing_more, placing_fails, placing_done, placing_next, placing_length, failed_length}
+use Rattle.clash.proofs.EntryLaws.{Placing}
 use Rattle.clash.proofs.entries_apart.Given as goal
 
 abbrev pub invariant-loop-i : goal.invariant-loop-i

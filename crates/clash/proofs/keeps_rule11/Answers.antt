@@ -1,12 +1,8 @@
 -- `clash::keeps_rule11` meets its contract: Number 11: each schedule is tested.
 use native.Mathlib.Omega.{arith}
-use Prim.Native.Nat.{◌-◌, ◌≤◌}
-use mathlib.Core.Bool.{true}
-use mathlib.Core.Path.{◌≡◌, sym}
-use borrow.Author.Rules.{rules}
-use Rattle.words.specs.Tests.{all}
+use mathlib.Core.Path.{sym}
 use Rattle.words.proofs.AllLaws.{all_none, all_more, all_done, all_fails}
-use Rattle.sheet.specs.Rules.{rule11_at, rule11}
+use Rattle.sheet.specs.Rules.{rule11}
 use Rattle.clash.proofs.keeps_rule11.Goals as goal
 
 pub loop-j-init : goal.loop-j-init

@@ -1,10 +1,7 @@
 -- `clash::packet_taken` meets its contract: the places from wire i on are a row and those from the next wire on.
 use native.Mathlib.Nat.{sub-zero}
-use Prim.Native.Nat.{◌-◌, ◌≤◌}
-use mathlib.Core.Path.{◌≡◌, refl, ◌∙◌}
+use mathlib.Core.Path.{refl, ◌∙◌}
 use native.Mathlib.Omega.{arith}
-use Rattle.occupancy.specs.Inner.Occupancy.{any_taken}
-use Rattle.clash.specs.Inner.Table.{places}
 use Rattle.clash.proofs.RunLaws.{packet_hit, packet_on, packet_clear}
 use Rattle.clash.proofs.packet_taken.Goals as goal
 

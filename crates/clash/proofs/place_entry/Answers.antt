@@ -1,7 +1,6 @@
 -- `clash::place_entry` meets its contract: the places of the route that was followed are the entry's, and all of them lie in the table.
 use native.Mathlib.Omega.{arith}
 use Rattle.clash.proofs.EntryLaws.{source_read, entry_held, entry_places_is, entry_hops_is, hit_answer, take_answer}
-use borrow.Author.Rules.{rules}
 use Rattle.clash.proofs.place_entry.Goals as goal
 
 pub route_path-path-requires : goal.route_path-path-requires

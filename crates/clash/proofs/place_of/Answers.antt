@@ -1,7 +1,6 @@
 -- `clash::place_of` meets its contract: a wire's number times a stride of at most 65,536 fits a usize.
 use native.Mathlib.Omega.{arith}
 use native.Mathlib.Nat.{mul-le-mul}
-use borrow.Author.Rules.{rules}
 use Rattle.clash.proofs.place_of.Goals as goal
 
 pub overflow_mul-result : goal.overflow_mul-result

@@ -2,7 +2,6 @@
 use native.Mathlib.Omega.{arith}
 use Rattle.clash.proofs.RoomLaws.{places_high, roomy}
 use Rattle.sheet.proofs.PassedLaws.{period_range}
-use borrow.Author.Rules.{rules}
 use Rattle.clash.proofs.schedule_apart.Goals as goal
 
 pub schedule_period-cycles-requires : goal.schedule_period-cycles-requires

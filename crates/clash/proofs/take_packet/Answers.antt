@@ -1,13 +1,9 @@
 -- `clash::take_packet` meets its contract: what is taken wire by wire is taken in all.
 use native.Mathlib.Nat.{sub-zero}
-use Prim.Native.Nat.{ℕ, ◌+◌, ◌-◌, ◌*◌, ◌^◌, ◌<◌, ◌≤◌}
-use mathlib.Core.List.{List}
-use mathlib.Core.Path.{◌≡◌, refl, ◌∙◌}
+use Prim.Native.Nat.{◌+◌, ◌*◌, ◌≤◌}
+use mathlib.Core.Path.{refl, ◌∙◌}
 use native.Mathlib.Omega.{arith}
 use lib.ListN.{length}
-use Rattle.words.specs.Words.{word}
-use Rattle.occupancy.specs.Inner.Occupancy.{Takes}
-use Rattle.clash.specs.Inner.Table.{places}
 use Rattle.clash.proofs.RunLaws.{packet_takes, packet_done, row_taken}
 use Rattle.clash.proofs.take_packet.Goals as goal
 

@@ -2,8 +2,7 @@
 -- The measure is how many routers are left. Assumes nothing.
 use mathlib.Core.Path.{refl}
 use native.Mathlib.Omega.{arith}
-use Rattle.network.specs.Inbound.{bound_for, furthest}
-use Rattle.inbound.proofs.WalkLaws.{Walking, walking_grid, walking_few, walked_memory, walked_none, walked_on}
+use Rattle.inbound.proofs.WalkLaws.{walking_grid, walking_few, walked_memory, walked_none, walked_on}
 use Rattle.inbound.proofs.bound_for.Goals as goal
 
 pub loop-by-init : goal.loop-by-init

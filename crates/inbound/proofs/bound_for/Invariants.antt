@@ -1,9 +1,7 @@
 -- `inbound::bound_for` meets its contract: where the header comes from here is always where it came from the start.
 -- The measure is how many routers are left. Assumes nothing.
-use mathlib.Core.Path.{refl}
-use native.Mathlib.Omega.{arith}
 use Rattle.network.specs.Inbound.{bound_for, furthest}
-use Rattle.inbound.proofs.WalkLaws.{Walking, walking_grid, walking_few, walked_memory, walked_none, walked_on}
+use Rattle.inbound.proofs.WalkLaws.{Walking}
 use Rattle.inbound.proofs.bound_for.Given as goal
 
 abbrev pub invariant-loop-by : goal.invariant-loop-by

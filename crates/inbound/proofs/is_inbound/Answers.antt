@@ -1,10 +1,9 @@
 -- `inbound::is_inbound` meets its contract: no packet is arriving, and in the loop no place before `k` has a header for the region.
 use native.Mathlib.Omega.{arith}
-use Prim.Native.Nat.{◌-◌}
 use mathlib.Core.Path.{sym, subst, ◌∙◌}
 use Rattle.sheet.specs.Inner.Passed.{Headed}
 use Rattle.words.proofs.AllLaws.{any_start}
-use Rattle.inbound.proofs.SearchLaws.{receives, inbound_arriving, Searching, search_found, search_on, search_none}
+use Rattle.inbound.proofs.SearchLaws.{receives, inbound_arriving, search_found, search_on, search_none}
 use Rattle.inbound.proofs.is_inbound.Goals as goal
 
 pub returns-then-is_arriving : goal.returns-then-is_arriving

@@ -1,10 +1,6 @@
 -- `inbound::is_inbound` meets its contract: no packet is arriving, and in the loop no place before `k` has a header for the region.
-use native.Mathlib.Omega.{arith}
 use Prim.Native.Nat.{◌-◌}
-use mathlib.Core.Path.{sym, subst, ◌∙◌}
-use Rattle.sheet.specs.Inner.Passed.{Headed}
-use Rattle.words.proofs.AllLaws.{any_start}
-use Rattle.inbound.proofs.SearchLaws.{receives, inbound_arriving, Searching, search_found, search_on, search_none}
+use Rattle.inbound.proofs.SearchLaws.{Searching}
 use Rattle.inbound.proofs.is_inbound.Given as goal
 
 abbrev pub invariant-loop-k : goal.invariant-loop-k

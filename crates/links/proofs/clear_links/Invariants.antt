@@ -1,11 +1,7 @@
 -- `links::clear_links` meets its contract: each turn empties one place of the two rows.
-use native.Mathlib.Omega.{arith}
 use Prim.Native.Nat.{◌≤◌, ◌-◌}
-use lib.ListN.{length-set}
 use Rattle.network.specs.Registers.{link_mark, link_word}
-use Rattle.network.proofs.FillLaws.{Staged, stage_start}
-use Rattle.links.proofs.LinkLaws.{clear_more}
-use Rattle.links.proofs.PairLaws.{filled}
+use Rattle.network.proofs.FillLaws.{Staged}
 use Rattle.links.proofs.clear_links.Given as goal
 
 abbrev pub invariant-loop-k : goal.invariant-loop-k

@@ -4,7 +4,6 @@ use mathlib.Core.Path.{refl}
 use Rattle.torus.proofs.NeighbourLaws.{bounds}
 use Rattle.links.proofs.LinkLaws.{push_none, push_some}
 use Rattle.links.proofs.BesideLaws.{near_few, beside_none, beside_one}
-use borrow.Author.Rules.{rules}
 use Rattle.links.proofs.push_side.Goals as goal
 
 pub overflow_mul-from : goal.overflow_mul-from

@@ -3,7 +3,6 @@ use native.Mathlib.Omega.{arith}
 use Rattle.torus.proofs.NeighbourLaws.{bounds}
 use Rattle.links.proofs.LinkLaws.{pushed_none, pushed_all_is}
 use Rattle.links.proofs.BesideLaws.{beside_none, beside_four}
-use borrow.Author.Rules.{rules}
 use Rattle.links.proofs.push_sides.Goals as goal
 
 pub sides_joined-requires : goal.sides_joined-requires

@@ -1,10 +1,6 @@
 -- `links::push_sources` meets its contract: in the loop the source inputs of the nodes before `node` have what is on their wires; those of the
 -- nodes that are passed have it already.
-use Prim.Native.Nat.{◌-◌, ◌*◌, min}
 use native.Mathlib.Omega.{arith}
-use Rattle.network.specs.Registers.{link_mark, link_word}
-use Rattle.network.proofs.FillLaws.{Staged}
-use Rattle.links.specs.Inner.Linking.{sourced}
 use Rattle.links.proofs.SourceLaws.{sources_start, sources_more, sources_done}
 use Rattle.links.proofs.push_sources.Goals as goal
 

@@ -1,6 +1,5 @@
 -- `links::put_link` meets its contract: the mark and the word are set one after the other.
 use Rattle.links.proofs.LinkLaws.{link_is}
-use borrow.Author.Rules.{rules}
 use Rattle.links.proofs.put_link.Goals as goal
 
 pub returns : goal.returns

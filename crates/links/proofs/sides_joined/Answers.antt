@@ -1,6 +1,5 @@
 -- `links::sides_joined` meets its contract: words joined by or are 0 where each of them is, and those read are the four links' marks and words.
 use Rattle.links.proofs.LinkLaws.{joined_empty}
-use borrow.Author.Rules.{rules}
 use Rattle.links.proofs.sides_joined.Goals as goal
 
 pub returns : goal.returns

@@ -1,6 +1,5 @@
 -- `links::step_extra` meets its contract: both words are read before one is set.
 use Rattle.links.proofs.ExtraStageLaws.{extended_is}
-use borrow.Author.Rules.{rules}
 use Rattle.links.proofs.step_extra.Goals as goal
 
 pub returns : goal.returns

@@ -1,8 +1,6 @@
 -- `links::step_extras` meets its contract: each turn writes the two extra registers of one node; without long links there is none.
-use native.Mathlib.Omega.{arith}
-use mathlib.Core.Path.{sym, ◌∙◌}
 use Prim.Native.Nat.{◌-◌}
-use Rattle.links.proofs.ExtraStageLaws.{Extending, extending_start, extending_more, extending_done, none_extended}
+use Rattle.links.proofs.ExtraStageLaws.{Extending}
 use Rattle.links.proofs.step_extras.Given as goal
 
 abbrev pub invariant-loop-node : goal.invariant-loop-node

@@ -1,12 +1,7 @@
 -- `links::step_links` meets its contract: the registers are emptied, and each turn fills those that one node fills by its sides; a node that is
 -- passed fills none. Behind that come the sources. The out registers and the extra registers, which it reads, are never written.
 use Prim.Native.Nat.{◌-◌}
-use native.Mathlib.Omega.{arith}
-use mathlib.Core.Path.{refl, sym, subst}
-use Rattle.sheet.specs.Inner.Passed.{Headed}
-use Rattle.network.specs.Registers.{link_mark, link_word}
-use Rattle.links.proofs.LinkingLaws.{Linking, wired_read, linking_start, linking_row, linking_grid, linking_long, linking_more}
-use Rattle.links.proofs.LinkingLaws.{linking_sources, linking_length, linking_done, linking_empty}
+use Rattle.links.proofs.LinkingLaws.{Linking}
 use Rattle.links.proofs.step_links.Given as goal
 
 abbrev pub invariant-loop-node : goal.invariant-loop-node

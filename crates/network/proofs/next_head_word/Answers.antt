@@ -1,7 +1,6 @@
 -- `network::next_head_word` meets its contract: a header's mark is 1, and only a header is shifted.
 use native.Mathlib.Omega.{arith}
 use Rattle.network.proofs.StageLaws.{head_shifted, head_same}
-use borrow.Author.Rules.{rules}
 use Rattle.network.proofs.next_head_word.Goals as goal
 
 pub returns-then-mark-ne1 : goal.returns-then-mark-ne1

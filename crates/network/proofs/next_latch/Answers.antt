@@ -1,7 +1,6 @@
 -- `network::next_latch` meets its contract: a header's mark is 1, a last word's 3, and any other leaves the latch.
 use native.Mathlib.Omega.{arith}
 use Rattle.network.proofs.StageLaws.{output_for_small, latch_set, latch_dropped, latch_held}
-use borrow.Author.Rules.{rules}
 use Rattle.network.proofs.next_latch.Goals as goal
 
 pub overflow_add-result : goal.overflow_add-result

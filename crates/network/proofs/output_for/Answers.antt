@@ -5,7 +5,6 @@ use native.Mathlib.Omega.{arith}
 use Rattle.packet.specs.Header.{first_code}
 use Rattle.torus.specs.Route.{output_of}
 use Rattle.network.specs.Cycle.{output_for}
-use borrow.Author.Rules.{rules}
 use Rattle.network.proofs.output_for.Goals as goal
 
 pub output_of-requires : goal.output_of-requires

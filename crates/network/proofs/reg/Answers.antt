@@ -1,6 +1,5 @@
 -- `network::reg` meets its contract: the word at the row's start and k is the definition's.
 use Rattle.network.specs.Registers.{reg}
-use borrow.Author.Rules.{rules}
 use Rattle.network.proofs.reg.Goals as goal
 
 pub returns : goal.returns

@@ -1,7 +1,6 @@
 -- `network::sheet_of` meets its contract: the part behind the length is the definition's, cut where the words end.
 use native.Mathlib.Omega.{arith}
 use Rattle.network.proofs.PartLaws.{sheet_short, sheet_cut, sheet_whole}
-use borrow.Author.Rules.{rules}
 use Rattle.network.proofs.sheet_of.Goals as goal
 
 pub returns-then-s-le-MOVING_WORDS : goal.returns-then-s-le-MOVING_WORDS

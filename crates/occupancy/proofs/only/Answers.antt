@@ -1,5 +1,4 @@
 -- `occupancy::only` meets its contract: 1 shifted to a place has that digit set.
-use borrow.Author.Rules.{rules}
 use Rattle.occupancy.proofs.MaskLaws.{only_taken}
 use Rattle.occupancy.proofs.only.Goals as goal
 

@@ -1,6 +1,5 @@
 -- `occupancy::run_taken` meets its contract: what the mask leaves of the window is the bits of the run.
 use Prim.Native.Nat.{◌/◌}
-use borrow.Author.Rules.{rules}
 use Rattle.words.specs.Tests.{◌≠?◌}
 use Rattle.occupancy.proofs.WindowLaws.{any_mask}
 use Rattle.occupancy.proofs.run_taken.Goals as goal

@@ -1,6 +1,5 @@
 -- `occupancy::slot_mask` meets its contract: neither shift loses a bit.
 use lib.Pow.{pow_pos}
-use borrow.Author.Rules.{rules}
 use Rattle.occupancy.proofs.BitLaws.{one_shifted, mask_shifted}
 use Rattle.occupancy.proofs.slot_mask.Goals as goal
 

@@ -2,7 +2,6 @@
 use mathlib.Core.Path.{refl}
 use native.Mathlib.Omega.{arith}
 use Rattle.occupancy.proofs.TakeLaws.{second_small, mask_taken, mask_free}
-use borrow.Author.Rules.{rules}
 use Rattle.occupancy.proofs.take_free.Goals as goal
 
 pub returns-then-before-mask-ne0 : goal.returns-then-before-mask-ne0

@@ -5,7 +5,6 @@ use Prim.Native.Nat.{◌/◌, ◌%◌}
 use Rattle.occupancy.specs.Inner.Occupancy.{slot_mask, take_run}
 use Rattle.occupancy.proofs.BitLaws.{mask_small}
 use Rattle.occupancy.proofs.TakeLaws.{second_small}
-use borrow.Author.Rules.{rules}
 use Rattle.occupancy.proofs.take_run.Goals as goal
 
 pub overflow_cast-table-2 : goal.overflow_cast-table-2

@@ -2,7 +2,6 @@
 use mathlib.Core.Path.{refl}
 use Prim.Native.Nat.{◌+◌}
 use native.Mathlib.Omega.{arith}
-use borrow.Author.Rules.{rules}
 use Rattle.occupancy.specs.Inner.Occupancy.{window}
 use Rattle.occupancy.proofs.window.Goals as goal
 

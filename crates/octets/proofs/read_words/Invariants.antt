@@ -1,10 +1,8 @@
 -- `octets::read_words` meets its contract: each turn stores the next word, so the slice is the table of the words.
-use native.Mathlib.Omega.{arith}
 use Prim.Native.Nat.{ℕ, ◌+◌, ◌-◌, ◌≤◌, ◌<◌}
-use mathlib.Core.Path.{◌≡◌, refl}
-use lib.ListN.{length, length-set}
+use mathlib.Core.Path.{◌≡◌}
+use lib.ListN.{length}
 use Rattle.words.specs.Words.{word}
-use Rattle.words.proofs.WordLaws.{fill_more, tab_is}
 use Rattle.octets.specs.Octets.{word_in}
 use Rattle.octets.proofs.read_words.Given as goal
 

@@ -1,12 +1,10 @@
 -- `outputs::step_outs` meets its contract: each turn writes the five places of one node, from the tables, and passes the nodes up to the next of
 -- the mask, which have what they should have already.
-use native.Mathlib.Omega.{arith}
 use Prim.Native.Nat.{◌-◌}
 use Rattle.network.specs.Registers.{out_mark, out_word}
 use Rattle.network.specs.Inner.Stages.{out_from}
 use Rattle.network.proofs.FillLaws.{Staged}
-use Rattle.links.proofs.WalkLaws.{reached, walk_start, walk_done}
-use Rattle.outputs.proofs.OutLaws.{outs_turn}
+use Rattle.links.proofs.WalkLaws.{reached}
 use Rattle.outputs.proofs.step_outs.Given as goal
 
 abbrev pub invariant-loop-node : goal.invariant-loop-node

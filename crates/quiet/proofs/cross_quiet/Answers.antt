@@ -2,7 +2,6 @@
 use mathlib.Core.Path.{sym, subst}
 use Rattle.sheet.specs.Inner.Passed.{Headed}
 use Rattle.quiet.proofs.CrossLaws.{own_nodes, clock_ready, crossed}
-use borrow.Author.Rules.{rules}
 use Rattle.quiet.proofs.cross_quiet.Goals as goal
 
 pub nodes_of-nodes-requires : goal.nodes_of-nodes-requires

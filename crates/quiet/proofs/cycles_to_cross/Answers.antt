@@ -1,7 +1,6 @@
 -- `quiet::cycles_to_cross` meets its contract: up to the next slot no slot of a circuit with words left begins, and it is looked for up to the period's end.
 use native.Mathlib.Omega.{arith}
 use Rattle.quiet.proofs.RestingLaws.{time_left, until_asked, stretch_is}
-use borrow.Author.Rules.{rules}
 use Rattle.quiet.proofs.cycles_to_cross.Goals as goal
 
 pub period_now-requires : goal.period_now-requires

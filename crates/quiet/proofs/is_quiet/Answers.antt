@@ -2,7 +2,6 @@
 use native.Mathlib.Omega.{arith}
 use Rattle.words.specs.Tests.{◌<?◌}
 use Rattle.quiet.proofs.CrossLaws.{opening_asked, cycle_few, quiet_by, quiet_not}
-use borrow.Author.Rules.{rules}
 use Rattle.quiet.proofs.is_quiet.Goals as goal
 
 pub is_still-requires : goal.is_still-requires

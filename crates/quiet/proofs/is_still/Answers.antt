@@ -5,7 +5,6 @@ use Rattle.words.specs.Tests.{◌=?◌}
 use Rattle.sheet.specs.Inner.Passed.{Headed}
 use Rattle.quiet.proofs.StillLaws.{still_linked, still_routed, still_rest}
 use Rattle.quiet.proofs.CrossLaws.{own_places, own_circuits}
-use borrow.Author.Rules.{rules}
 use Rattle.quiet.proofs.is_still.Goals as goal
 
 pub nodes_of-places-requires : goal.nodes_of-places-requires

@@ -1,7 +1,6 @@
 -- `quiet::rest` meets its contract: the cycle before the last is put in, and the last is crossed.
 use native.Mathlib.Omega.{arith}
 use Rattle.quiet.proofs.RestingLaws.{stretch_small, crossed_none, still_settled, crossed_is}
-use borrow.Author.Rules.{rules}
 use Rattle.quiet.proofs.rest.Goals as goal
 
 pub is_still-requires : goal.is_still-requires

@@ -1,8 +1,6 @@
 -- `quiet::routers_joined` meets its contract: in the loop the words joined so far are 0 where every place so far is empty.
 use native.Mathlib.Omega.{arith}
-use Prim.Native.Nat.{◌-◌}
-use Rattle.network.specs.Inner.Quiet.{empty_at}
-use Rattle.quiet.proofs.StillLaws.{Joined, joined_start, joined_done, place_more}
+use Rattle.quiet.proofs.StillLaws.{joined_start, joined_done, place_more}
 use Rattle.quiet.proofs.routers_joined.Goals as goal
 
 pub loop-k-init : goal.loop-k-init

@@ -1,8 +1,7 @@
 -- `quiet::routers_joined` meets its contract: in the loop the words joined so far are 0 where every place so far is empty.
-use native.Mathlib.Omega.{arith}
 use Prim.Native.Nat.{◌-◌}
 use Rattle.network.specs.Inner.Quiet.{empty_at}
-use Rattle.quiet.proofs.StillLaws.{Joined, joined_start, joined_done, place_more}
+use Rattle.quiet.proofs.StillLaws.{Joined}
 use Rattle.quiet.proofs.routers_joined.Given as goal
 
 abbrev pub invariant-loop-k : goal.invariant-loop-k

@@ -1,9 +1,8 @@
 -- `quiet::row_joined` meets its contract: in the loop the words joined so far are 0 where each of them is.
-use native.Mathlib.Omega.{arith}
 use Prim.Native.Nat.{◌-◌}
 use Rattle.words.specs.Tests.{◌=?◌}
 use Rattle.network.specs.Registers.{reg}
-use Rattle.quiet.proofs.StillLaws.{Joined, joined_start, joined_done, row_more}
+use Rattle.quiet.proofs.StillLaws.{Joined}
 use Rattle.quiet.proofs.row_joined.Given as goal
 
 abbrev pub invariant-loop-k : goal.invariant-loop-k

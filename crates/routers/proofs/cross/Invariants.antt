@@ -1,12 +1,9 @@
 -- `routers::cross` meets its contract: in the loop the tables have the first mark and word of each output among the inputs of the nodes before `node`,
 -- and `faults` is not 0 where two of those inputs ask for one output or one of them has a payload word without a choice. The nodes that are
 -- passed over have no word in their header stages, and change neither. A state that is too short for its rows has no nodes.
-use native.Mathlib.Omega.{arith}
 use Prim.Native.Nat.{◌-◌}
-use Rattle.words.specs.Tests.{◌≤?◌}
-use Rattle.routers.proofs.InputLaws.{node_few}
 use Rattle.links.proofs.WalkLaws.{reached}
-use Rattle.routers.proofs.CrossLaws.{Crossing, crossing_first, crossing_turn, crossed_met, crossed_marks, crossed_cells, same_long, short_calm, short_marks, short_cells}
+use Rattle.routers.proofs.CrossLaws.{Crossing}
 use Rattle.routers.proofs.cross.Given as goal
 
 abbrev pub invariant-loop-node : goal.invariant-loop-node

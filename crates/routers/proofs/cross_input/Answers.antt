@@ -3,7 +3,6 @@
 use mathlib.Core.Path.{refl}
 use native.Mathlib.Omega.{arith}
 use Rattle.routers.proofs.InputLaws.{no_payload, chosen, unchosen, asks_empty, asks_none, asks_past, crossed_none, crossed_unchosen, crossed_hit, crossed_first}
-use borrow.Author.Rules.{rules}
 use Rattle.routers.proofs.cross_input.Goals as goal
 
 pub returns-then-mark-eq0 : goal.returns-then-mark-eq0

@@ -1,7 +1,6 @@
 -- `routers::cross_node` meets its contract: five inputs one after the other; where none has a word, the tables stay as they are.
 use native.Mathlib.Omega.{arith}
 use Rattle.routers.proofs.InputLaws.{node_empty, node_crossed}
-use borrow.Author.Rules.{rules}
 use Rattle.routers.proofs.cross_node.Goals as goal
 
 pub returns-then-heads_joined-eq0 : goal.returns-then-heads_joined-eq0

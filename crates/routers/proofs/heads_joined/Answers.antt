@@ -1,6 +1,5 @@
 -- `routers::heads_joined` meets its contract: words joined by or are 0 where each of them is, and those read are the five marks.
 use Rattle.routers.proofs.InputLaws.{heads_empty}
-use borrow.Author.Rules.{rules}
 use Rattle.routers.proofs.heads_joined.Goals as goal
 
 pub returns : goal.returns

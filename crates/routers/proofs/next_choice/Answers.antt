@@ -2,7 +2,6 @@
 use native.Mathlib.Omega.{arith}
 use Rattle.network.proofs.StageLaws.{output_for_small}
 use Rattle.routers.proofs.HeadLaws.{choice_none, choice_own, choice_held}
-use borrow.Author.Rules.{rules}
 use Rattle.routers.proofs.next_choice.Goals as goal
 
 pub returns-then-mark-eq0 : goal.returns-then-mark-eq0

@@ -2,7 +2,6 @@
 -- set; the rest is step_head_word.
 use native.Mathlib.Omega.{arith}
 use Rattle.routers.proofs.HeadLaws.{head_empty}
-use borrow.Author.Rules.{rules}
 use Rattle.routers.proofs.step_head.Goals as goal
 
 pub returns : goal.returns

@@ -1,6 +1,5 @@
 -- `routers::step_head_word` meets its contract: all is read before the first register is set.
 use Rattle.routers.proofs.HeadLaws.{head_is}
-use borrow.Author.Rules.{rules}
 use Rattle.routers.proofs.step_head_word.Goals as goal
 
 pub returns : goal.returns

@@ -1,12 +1,7 @@
 -- `routers::step_heads` meets its contract: each turn writes the five places of one node, from registers that are not written yet, and passes the
 -- nodes up to the next of the mask, which have what they should have already.
 use native.Mathlib.Omega.{arith}
-use Prim.Native.Nat.{◌-◌}
-use mathlib.Core.List.{[]}
-use Rattle.network.specs.Registers.{head_mark, latch_row}
-use Rattle.network.specs.Inner.Machine.{next_in_row}
-use Rattle.network.proofs.FillLaws.{Staged}
-use Rattle.links.proofs.WalkLaws.{reached, walk_start, walk_done}
+use Rattle.links.proofs.WalkLaws.{walk_start, walk_done}
 use Rattle.routers.proofs.HeadLaws.{heads_turn}
 use Rattle.routers.proofs.step_heads.Goals as goal
 

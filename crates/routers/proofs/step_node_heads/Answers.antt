@@ -1,6 +1,5 @@
 -- `routers::step_node_heads` meets its contract: five header stages, one after the other.
 use Rattle.routers.proofs.HeadLaws.{heads_five}
-use borrow.Author.Rules.{rules}
 use Rattle.routers.proofs.step_node_heads.Goals as goal
 
 pub returns : goal.returns

@@ -3,7 +3,6 @@ use native.Mathlib.Omega.{arith}
 use mathlib.Core.Path.{sym, ◌∙◌}
 use Rattle.torus.proofs.DistanceLaws.{distance_most}
 use Rattle.routes.proofs.RouteRules.{way_few, nodes_inside, span_long, span_short}
-use borrow.Author.Rules.{rules}
 use Rattle.routes.proofs.circuit_span.Goals as goal
 
 pub distance-span-requires : goal.distance-span-requires

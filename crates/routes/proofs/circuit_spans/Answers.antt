@@ -1,8 +1,6 @@
 -- `routes::circuit_spans` meets its contract: each turn reads the next circuit's span, and the others stay 0.
 use native.Mathlib.Omega.{arith}
-use Prim.Native.Nat.{◌-◌, ◌≤◌}
-use borrow.Author.Rules.{rules}
-use Rattle.routes.proofs.RouteRules.{Reading, reading_start, reading_more, spans_done}
+use Rattle.routes.proofs.RouteRules.{reading_start, reading_more, spans_done}
 use Rattle.routes.proofs.circuit_spans.Goals as goal
 
 pub loop-k-init : goal.loop-k-init

@@ -1,12 +1,7 @@
 -- `routes::entries_end` meets its contract: Number 10 at one schedule: each entry is tested.
 use native.Mathlib.Omega.{arith}
-use Prim.Native.Nat.{◌-◌, ◌≤◌}
-use mathlib.Core.Bool.{true}
-use mathlib.Core.Path.{◌≡◌, sym, ◌∙◌}
-use Rattle.words.specs.Tests.{all}
+use mathlib.Core.Path.{sym, ◌∙◌}
 use Rattle.words.proofs.AllLaws.{all_none, all_more, all_done, all_fails}
-use Rattle.sheet.specs.Sheet.{entry_at}
-use Rattle.sheet.specs.Rules.{entry_ends}
 use Rattle.routes.proofs.RouteRules.{timed, led, each_ending}
 use Rattle.routes.proofs.entries_end.Goals as goal
 

@@ -1,13 +1,10 @@
 -- `routes::entries_end` meets its contract: Number 10 at one schedule: each entry is tested.
-use native.Mathlib.Omega.{arith}
 use Prim.Native.Nat.{◌-◌, ◌≤◌}
 use mathlib.Core.Bool.{true}
-use mathlib.Core.Path.{◌≡◌, sym, ◌∙◌}
+use mathlib.Core.Path.{◌≡◌}
 use Rattle.words.specs.Tests.{all}
-use Rattle.words.proofs.AllLaws.{all_none, all_more, all_done, all_fails}
 use Rattle.sheet.specs.Sheet.{entry_at}
 use Rattle.sheet.specs.Rules.{entry_ends}
-use Rattle.routes.proofs.RouteRules.{timed, led, each_ending}
 use Rattle.routes.proofs.entries_end.Given as goal
 
 abbrev pub invariant-loop-i : goal.invariant-loop-i

@@ -2,7 +2,6 @@
 use native.Mathlib.Omega.{arith}
 use Rattle.words.specs.Tests.{◌≤?◌}
 use Rattle.routes.proofs.RouteRules.{span_read, span_few, ending}
-use borrow.Author.Rules.{rules}
 use Rattle.routes.proofs.entry_ends.Goals as goal
 
 pub overflow_add-result-2 : goal.overflow_add-result-2

@@ -2,7 +2,6 @@
 use native.Mathlib.Omega.{arith}
 use Rattle.words.specs.Tests.{◌≤?◌}
 use Rattle.routes.proofs.RouteRules.{starts_inside, span_read, not_leading, elsewhere, arriving, cycles_few}
-use borrow.Author.Rules.{rules}
 use Rattle.routes.proofs.entry_leads.Goals as goal
 
 pub route_path-path-requires : goal.route_path-path-requires

@@ -1,13 +1,8 @@
 -- `routes::keeps_rule10` meets its contract: Number 10: each schedule is tested.
 use native.Mathlib.Omega.{arith}
-use Prim.Native.Nat.{◌-◌, ◌≤◌}
-use mathlib.Core.Bool.{true}
-use mathlib.Core.Path.{◌≡◌, sym}
-use borrow.Author.Rules.{rules}
-use Rattle.words.specs.Tests.{all}
+use mathlib.Core.Path.{sym}
 use Rattle.words.proofs.AllLaws.{all_none, all_more, all_done, all_fails}
-use Rattle.sheet.specs.Rules.{each_entry, entry_ends, rule10}
-use Rattle.sheet.specs.Sheet.{period}
+use Rattle.sheet.specs.Rules.{rule10}
 use Rattle.routes.proofs.keeps_rule10.Goals as goal
 
 pub loop-j-init : goal.loop-j-init

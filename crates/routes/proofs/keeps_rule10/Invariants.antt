@@ -1,12 +1,9 @@
 -- `routes::keeps_rule10` meets its contract: Number 10: each schedule is tested.
-use native.Mathlib.Omega.{arith}
 use Prim.Native.Nat.{◌-◌, ◌≤◌}
 use mathlib.Core.Bool.{true}
-use mathlib.Core.Path.{◌≡◌, sym}
-use borrow.Author.Rules.{rules}
+use mathlib.Core.Path.{◌≡◌}
 use Rattle.words.specs.Tests.{all}
-use Rattle.words.proofs.AllLaws.{all_none, all_more, all_done, all_fails}
-use Rattle.sheet.specs.Rules.{each_entry, entry_ends, rule10}
+use Rattle.sheet.specs.Rules.{each_entry, entry_ends}
 use Rattle.sheet.specs.Sheet.{period}
 use Rattle.routes.proofs.keeps_rule10.Given as goal
 

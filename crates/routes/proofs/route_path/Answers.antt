@@ -2,7 +2,6 @@
 use mathlib.Core.Bool.{true, false}
 use mathlib.Core.Path.{sym, ◌∙◌}
 use Rattle.sheet.proofs.HeadLaws.{grid_read, path_read}
-use borrow.Author.Rules.{rules}
 use Rattle.routes.proofs.route_path.Goals as goal
 
 pub follow_long-requires : goal.follow_long-requires

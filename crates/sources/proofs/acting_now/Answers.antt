@@ -1,6 +1,5 @@
 -- `sources::acting_now` meets its contract: where a slot begins, the circuits that open a packet join those amid one; where none begins, none opens.
 use Rattle.sources.proofs.ActingLaws.{acting_some, acting_none}
-use borrow.Author.Rules.{rules}
 use Rattle.sources.proofs.acting_now.Goals as goal
 
 pub returns-then-slots_now : goal.returns-then-slots_now

@@ -1,7 +1,6 @@
 -- `sources::does_open` meets its contract: a packet opens where words are left and a slot begins.
 use Rattle.words.specs.Tests.{◌≤?◌}
 use Rattle.sources.proofs.SourceLaws.{open_no, open_rest}
-use borrow.Author.Rules.{rules}
 use Rattle.sources.proofs.does_open.Goals as goal
 
 pub returns-then-reg-eq0 : goal.returns-then-reg-eq0

@@ -1,8 +1,6 @@
 -- `sources::entries_passed` meets its contract: a step is passed where its last entry begins before the cycle.
-use borrow.Author.Rules.{rules}
-use native.Mathlib.Omega.{arith}
 use Prim.Native.Nat.{◌-◌}
-use Rattle.sources.proofs.BeginLaws.{Passing, passing_start, passing_more}
+use Rattle.sources.proofs.BeginLaws.{Passing}
 use Rattle.sources.proofs.entries_passed.Given as goal
 
 abbrev pub invariant-loop-i : goal.invariant-loop-i

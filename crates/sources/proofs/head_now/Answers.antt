@@ -1,6 +1,5 @@
 -- `sources::head_now` meets its contract: the three parts fit, since the state is sendable, so a header is built.
 use Rattle.sources.proofs.SentLaws.{parts, header_made, header_refused}
-use borrow.Author.Rules.{rules}
 use Rattle.sources.proofs.head_now.Goals as goal
 
 pub slot_now-slot-requires : goal.slot_now-slot-requires

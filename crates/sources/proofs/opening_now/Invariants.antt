@@ -1,8 +1,6 @@
 -- `sources::opening_now` meets its contract: in the loop the circuits before `c` that open a packet are in the mask.
 use Prim.Native.Nat.{◌-◌}
-use native.Mathlib.Omega.{arith}
-use borrow.Author.Rules.{rules}
-use Rattle.sources.proofs.ActingLaws.{Opening, opening_start, opening_more, opening_done}
+use Rattle.sources.proofs.ActingLaws.{Opening}
 use Rattle.sources.proofs.opening_now.Given as goal
 
 abbrev pub invariant-loop-c : goal.invariant-loop-c

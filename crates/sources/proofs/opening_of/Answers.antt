@@ -1,6 +1,5 @@
 -- `sources::opening_of` meets its contract: a circuit that opens a packet is in its mask, any other opens none.
 use mathlib.Core.Path.{sym, ◌∙◌}
-use borrow.Author.Rules.{rules}
 use Rattle.sources.proofs.BeginLaws.{no_slot}
 use Rattle.sources.proofs.ActingLaws.{circuit_few, none_begun, not_beside}
 use Rattle.sources.proofs.opening_of.Goals as goal

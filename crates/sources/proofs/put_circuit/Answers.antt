@@ -1,6 +1,5 @@
 -- `sources::put_circuit` meets its contract: where the circuit puts a mark, only its source's wire changes, and the faults are those of that wire.
 use Rattle.sources.proofs.WireLaws.{idle_fault, idle_marks, idle_words, put_fault, put_marks, put_words}
-use borrow.Author.Rules.{rules}
 use Rattle.sources.proofs.put_circuit.Goals as goal
 
 pub sent_mark-mark-requires : goal.sent_mark-mark-requires

@@ -1,7 +1,6 @@
 -- `sources::put_on_wire` meets its contract: a mark other than 0 says that the wire is taken.
 use native.Mathlib.Omega.{arith}
 use Rattle.sources.proofs.WireLaws.{is_taken, taken_stays, is_free, free_set}
-use borrow.Author.Rules.{rules}
 use Rattle.sources.proofs.put_on_wire.Goals as goal
 
 pub returns-then-get-ne0 : goal.returns-then-get-ne0

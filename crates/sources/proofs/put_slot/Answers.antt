@@ -1,7 +1,6 @@
 -- `sources::put_slot` meets its contract: an entry that begins in the cycle is put at its circuit, any other leaves the table.
 use mathlib.Core.Path.{◌∙◌}
 use Rattle.sources.proofs.BeginLaws.{put_begins, put_not}
-use borrow.Author.Rules.{rules}
 use Rattle.sources.proofs.put_slot.Goals as goal
 
 pub returns-then-entry-cycle : goal.returns-then-entry-cycle

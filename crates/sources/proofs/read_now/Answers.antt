@@ -2,7 +2,6 @@
 use native.Mathlib.Omega.{arith}
 use Rattle.sources.proofs.SentLaws.{read_is}
 use Rattle.words.proofs.WordLaws.{product_small}
-use borrow.Author.Rules.{rules}
 use Rattle.sources.proofs.read_now.Goals as goal
 
 pub overflow_mul-read : goal.overflow_mul-read

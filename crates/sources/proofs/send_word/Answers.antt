@@ -1,7 +1,6 @@
 -- `sources::send_word` meets its contract: the four registers are read before the first of them is set.
 use native.Mathlib.Omega.{arith}
 use Rattle.sources.proofs.SenderLaws.{send_is}
-use borrow.Author.Rules.{rules}
 use Rattle.sources.proofs.send_word.Goals as goal
 
 pub overflow_sub-left : goal.overflow_sub-left

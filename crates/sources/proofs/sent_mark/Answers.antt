@@ -1,6 +1,5 @@
 -- `sources::sent_mark` meets its contract: 1 where a packet opens, else by the words that are to go.
 use Rattle.sources.proofs.SourceLaws.{mark_opens, mark_rests, mark_last, mark_more}
-use borrow.Author.Rules.{rules}
 use Rattle.sources.proofs.sent_mark.Goals as goal
 
 pub does_open-requires : goal.does_open-requires

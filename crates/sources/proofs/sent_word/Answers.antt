@@ -1,6 +1,5 @@
 -- `sources::sent_word` meets its contract: the header where a packet opens, else by the words that are to go.
 use Rattle.sources.proofs.SentLaws.{opens_left, word_opens, word_rests, word_sends}
-use borrow.Author.Rules.{rules}
 use Rattle.sources.proofs.sent_word.Goals as goal
 
 pub does_open-requires : goal.does_open-requires

@@ -1,7 +1,6 @@
 -- `sources::slot_now` meets its contract: the table has the entry that begins, and its length and route are the slot's.
 use Rattle.sources.proofs.BeginLaws.{no_slot, no_route, slot_inside, slot_size, slot_route_is}
 use native.Mathlib.Omega.{arith}
-use borrow.Author.Rules.{rules}
 use Rattle.sources.proofs.slot_now.Goals as goal
 
 pub returns-then-found-eq0 : goal.returns-then-found-eq0

@@ -1,13 +1,7 @@
 -- `sources::slots_now` meets its contract: in the loop the entries before `i` are in the table, of those passed none begins; behind a later entry none begins, and while none begins the table has zeros alone.
 use Prim.Native.Nat.{◌-◌}
-use mathlib.Core.Path.{sym, ◌∙◌, ap}
-use native.Mathlib.Omega.{arith}
-use lib.ListN.{length}
-use Rattle.words.specs.Tests.{◌=?◌}
-use Rattle.words.proofs.WordLaws.{length_tab}
 use Rattle.network.specs.Registers.{reg, clock_row, in_force_place}
-use Rattle.sources.proofs.BeginLaws.{Filling, table_start, filling_inside, filling_length, filling_more, table_stop, table_done}
-use borrow.Author.Rules.{rules}
+use Rattle.sources.proofs.BeginLaws.{Filling}
 use Rattle.sources.proofs.slots_now.Given as goal
 
 abbrev pub invariant-loop-i : goal.invariant-loop-i

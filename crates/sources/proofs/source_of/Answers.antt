@@ -1,7 +1,6 @@
 -- `sources::source_of` meets its contract: the node is read off the circuit.
 use mathlib.Core.Path.{ap}
 use Rattle.sheet.specs.declared.circuits.Circuit.{Circuit}
-use borrow.Author.Rules.{rules}
 use Rattle.sources.proofs.source_of.Goals as goal
 
 pub returns : goal.returns

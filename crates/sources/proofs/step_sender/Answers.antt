@@ -3,7 +3,6 @@ use mathlib.Core.Path.{sym, ◌∙◌}
 use Rattle.sources.proofs.SourceLaws.{none_to_go}
 use Rattle.sources.proofs.ActingLaws.{circuit_few, not_beside}
 use Rattle.sources.proofs.SenderLaws.{cut_paired, cut_inside, step_none, step_opens, step_rests, step_sends, still_going, sent_last}
-use borrow.Author.Rules.{rules}
 use Rattle.sources.proofs.step_sender.Goals as goal
 
 pub returns-then-left-eq0 : goal.returns-then-left-eq0

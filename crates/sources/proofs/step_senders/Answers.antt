@@ -1,8 +1,6 @@
 -- `sources::step_senders` meets its contract: in the loop the circuits before `c` have stepped, those that were passed rest, and no register that a circuit reads is written before its turn.
 use native.Mathlib.Omega.{arith}
-use Prim.Native.Nat.{◌-◌}
-use borrow.Author.Rules.{rules}
-use Rattle.sources.proofs.SenderLaws.{Stepping, stepping_start, stepping_length, stepping_done, stepping_rest, stepping_onward, stepping_more, step_paired, step_table, step_inside, step_sending}
+use Rattle.sources.proofs.SenderLaws.{stepping_start, stepping_length, stepping_done, stepping_rest, stepping_onward, stepping_more, step_paired, step_table, step_inside, step_sending}
 use Rattle.sources.proofs.step_senders.Goals as goal
 
 pub returns-then-s-lt-MOVING_WORDS : goal.returns-then-s-lt-MOVING_WORDS

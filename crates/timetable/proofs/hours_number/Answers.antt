@@ -4,7 +4,6 @@ use native.Mathlib.Omega.{arith}
 use Rattle.words.proofs.TestLaws.{yes<, no<}
 use Rattle.words.proofs.NumberLaws.{then_stop, then_on, unless_yes, unless_no}
 use Rattle.timetable.specs.Timetable.{hours_number}
-use borrow.Author.Rules.{rules}
 use Rattle.timetable.proofs.hours_number.Goals as goal
 
 pub returns-then-minute-lt-WEEK : goal.returns-then-minute-lt-WEEK

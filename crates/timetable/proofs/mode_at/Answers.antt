@@ -2,7 +2,6 @@
 use mathlib.Core.Path.{sym, ◌∙◌}
 use native.Mathlib.Omega.{arith}
 use Rattle.timetable.proofs.HoursLaws.{hours_fits, hours_inside, refused_is, this_week_is, next_week_is, always_is}
-use borrow.Author.Rules.{rules}
 use Rattle.timetable.proofs.mode_at.Goals as goal
 
 pub returns-then-number-ne0 : goal.returns-then-number-ne0

@@ -1,8 +1,8 @@
 -- `torus::along_row` meets its contract: by side 1 a node of the last column goes back to the first, by side 3 and every later
 -- one a node of the first column goes on to the last.
-use Rattle.std.proofs.Common.{◌≡◌, ◌-◌, sym, ◌∙◌, arith}
+use Rattle.std.proofs.Common.{◌≡◌, ◌-◌, sym, ◌∙◌}
 use borrow.Author.Tests.{eq-eqb, ne_eqb}
-use Rattle.torus.proofs.NeighbourLaws.{bounds, east_is, west_is, west_too}
+use Rattle.torus.proofs.NeighbourLaws.{east_is, west_is, west_too}
 use Rattle.torus.proofs.along_row.Goals as goal
 use Rattle.torus.proofs.along_row.Goals.{Joined-side-eq1, then-side-eq1, else-side-eq1}
 

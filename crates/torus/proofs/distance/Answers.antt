@@ -2,7 +2,6 @@
 use mathlib.Core.Path.{refl}
 use native.Mathlib.Omega.{arith}
 use Rattle.torus.proofs.DistanceLaws.{column_inside, ways_together, distance_most}
-use borrow.Author.Rules.{rules}
 use Rattle.torus.proofs.distance.Goals as goal
 
 pub ring_distance-in_columns-requires : goal.ring_distance-in_columns-requires

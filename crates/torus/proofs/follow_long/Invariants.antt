@@ -1,14 +1,10 @@
 -- `torus::follow_long` meets its contract: what is written so far, with what the rest of the route leads to, is always the answer.
 -- The measure is how many routers are left. Assumes nothing.
 use mathlib.Core.Bool.{true}
-use mathlib.Core.Path.{◌∙◌}
 use Prim.Native.Nat.{◌-◌}
-use native.Mathlib.Nat.{mod-lt}
-use native.Mathlib.Omega.{arith}
 use Rattle.torus.specs.Route.{route_from}
 use Rattle.torus.specs.Inner.Paths.{path_of}
-use Rattle.torus.proofs.NeighbourLaws.{bounds}
-use Rattle.torus.proofs.RouteLaws.{Going, going_start, going_out, going_lost, going_on, going_end, output_small, link_high}
+use Rattle.torus.proofs.RouteLaws.{Going}
 use Rattle.torus.proofs.follow_long.Given as goal
 
 abbrev pub invariant-loop-hops : goal.invariant-loop-hops

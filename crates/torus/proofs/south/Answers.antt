@@ -2,7 +2,6 @@
 use native.Mathlib.Omega.{arith}
 use borrow.Author.Tests.{lt-ltb, le-ltb}
 use Rattle.torus.proofs.NeighbourLaws.{bounds, south_is}
-use borrow.Author.Rules.{rules}
 use Rattle.torus.proofs.south.Goals as goal
 
 pub overflow_add-below : goal.overflow_add-below

@@ -2,7 +2,6 @@
 use mathlib.Core.Path.{◌∙◌, ap₂}
 use Rattle.torus.specs.Torus.{shorter_way}
 use Rattle.torus.proofs.DistanceLaws.{row_inside}
-use borrow.Author.Rules.{rules}
 use Rattle.torus.proofs.vertical_distance.Goals as goal
 
 pub ring_distance-requires : goal.ring_distance-requires

@@ -1,11 +1,10 @@
 -- `accept::circuits::circuits_arranged` meets its contract: in the loop the circuits before `k` fit, each ends before the later
 -- ones begin, none ends behind `end`, and the tables hold them.
 use native.Mathlib.Omega.{arith}
-use Prim.Native.Nat.{◌+◌, ◌-◌, ◌<◌, ◌≤◌}
+use Prim.Native.Nat.{◌+◌, ◌<◌, ◌≤◌}
 use mathlib.Core.Bool.{false≢true}
 use mathlib.Core.Path.{sym, ◌∙◌}
-use borrow.Author.Rules.{rules}
-use Rattle.accept.proofs.ArrangedLaws.{Arranging, arranging_start, arranging_more, arranging_done, within_read, zeros_long}
+use Rattle.accept.proofs.ArrangedLaws.{arranging_start, arranging_more, arranging_done, within_read, zeros_long}
 use Rattle.accept.proofs.circuits.circuits_arranged.Goals as goal
 use Rattle.accept.proofs.circuits.circuits_arranged.Goals.{Then-fits}
 

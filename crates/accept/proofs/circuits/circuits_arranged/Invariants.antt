@@ -1,11 +1,7 @@
 -- `accept::circuits::circuits_arranged` meets its contract: in the loop the circuits before `k` fit, each ends before the later
 -- ones begin, none ends behind `end`, and the tables hold them.
-use native.Mathlib.Omega.{arith}
-use Prim.Native.Nat.{◌+◌, ◌-◌, ◌<◌, ◌≤◌}
-use mathlib.Core.Bool.{false≢true}
-use mathlib.Core.Path.{sym, ◌∙◌}
-use borrow.Author.Rules.{rules}
-use Rattle.accept.proofs.ArrangedLaws.{Arranging, arranging_start, arranging_more, arranging_done, within_read, zeros_long}
+use Prim.Native.Nat.{◌-◌, ◌≤◌}
+use Rattle.accept.proofs.ArrangedLaws.{Arranging}
 use Rattle.accept.proofs.circuits.circuits_arranged.Given as goal
 
 abbrev pub invariant-loop-k : goal.invariant-loop-k

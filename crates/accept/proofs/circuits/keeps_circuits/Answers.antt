@@ -2,7 +2,6 @@
 -- and the number 6 where their read regions are apart.
 use mathlib.Core.Bool.{false≢true}
 use Rattle.accept.proofs.ArrangedLaws.{order_four, order_five}
-use borrow.Author.Rules.{rules}
 use Rattle.accept.proofs.circuits.keeps_circuits.Goals as goal
 
 pub reads_apart-requires : goal.reads_apart-requires

@@ -1,9 +1,8 @@
 -- `accept::circuits::read_apart` meets its contract: in the loop the receive regions from `first` on and before `i` are apart from the read region.
 use native.Mathlib.Omega.{arith}
-use Prim.Native.Nat.{◌-◌}
 use mathlib.Core.Bool.{false≢true}
 use Rattle.sheet.proofs.CircuitLaws.{circuit_ends}
-use Rattle.accept.proofs.ArrangedLaws.{ReadApart, read_start, read_more}
+use Rattle.accept.proofs.ArrangedLaws.{read_start, read_more}
 use Rattle.accept.proofs.circuits.read_apart.Goals as goal
 
 pub circuit_within-own-requires : goal.circuit_within-own-requires

@@ -1,9 +1,6 @@
 -- `accept::circuits::read_apart` meets its contract: in the loop the receive regions from `first` on and before `i` are apart from the read region.
-use native.Mathlib.Omega.{arith}
 use Prim.Native.Nat.{◌-◌}
-use mathlib.Core.Bool.{false≢true}
-use Rattle.sheet.proofs.CircuitLaws.{circuit_ends}
-use Rattle.accept.proofs.ArrangedLaws.{ReadApart, read_start, read_more}
+use Rattle.accept.proofs.ArrangedLaws.{ReadApart}
 use Rattle.accept.proofs.circuits.read_apart.Given as goal
 
 abbrev pub invariant-loop-i : goal.invariant-loop-i

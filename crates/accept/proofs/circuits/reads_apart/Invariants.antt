@@ -1,10 +1,7 @@
 -- `accept::circuits::reads_apart` meets its contract: in the loop the read regions of the circuits before `k` are apart from every receive
 -- region: the tables name those at a read region's node, and the others are at another node.
-use native.Mathlib.Omega.{arith}
-use Prim.Native.Nat.{◌-◌, ◌<◌}
-use mathlib.Core.Bool.{false≢true}
-use borrow.Author.Rules.{rules}
-use Rattle.accept.proofs.ArrangedLaws.{ReadsApart, reads_start, reads_more, reads_done, order_four, source_few}
+use Prim.Native.Nat.{◌-◌}
+use Rattle.accept.proofs.ArrangedLaws.{ReadsApart}
 use Rattle.accept.proofs.circuits.reads_apart.Given as goal
 
 abbrev pub invariant-loop-k : goal.invariant-loop-k

@@ -1,9 +1,7 @@
 -- `accept::schedules::clear` meets its contract: each turn clears one word more.
-use Prim.Native.Nat.{◌-◌}
 use native.Mathlib.Omega.{arith}
-use lib.ListN.{length, length-set}
-use borrow.Author.Rules.{rules}
-use Rattle.accept.proofs.ScheduleLaws.{Clearing, clearing_start, clearing_more, clearing_done}
+use lib.ListN.{length-set}
+use Rattle.accept.proofs.ScheduleLaws.{clearing_start, clearing_more, clearing_done}
 use Rattle.accept.proofs.schedules.clear.Goals as goal
 
 pub loop-k-init : goal.loop-k-init

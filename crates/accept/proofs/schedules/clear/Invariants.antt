@@ -1,9 +1,7 @@
 -- `accept::schedules::clear` meets its contract: each turn clears one word more.
 use Prim.Native.Nat.{◌-◌}
-use native.Mathlib.Omega.{arith}
-use lib.ListN.{length, length-set}
-use borrow.Author.Rules.{rules}
-use Rattle.accept.proofs.ScheduleLaws.{Clearing, clearing_start, clearing_more, clearing_done}
+use lib.ListN.{length}
+use Rattle.accept.proofs.ScheduleLaws.{Clearing}
 use Rattle.accept.proofs.schedules.clear.Given as goal
 
 abbrev pub invariant-loop-k : goal.invariant-loop-k

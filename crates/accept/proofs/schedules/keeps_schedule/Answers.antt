@@ -2,7 +2,6 @@
 use mathlib.Core.Bool.{false≢true}
 use mathlib.Core.Path.{refl}
 use Rattle.accept.proofs.ScheduleLaws.{period_in}
-use borrow.Author.Rules.{rules}
 use Rattle.accept.proofs.schedules.keeps_schedule.Goals as goal
 
 pub place_entries-requires : goal.place_entries-requires

@@ -6,7 +6,6 @@ use native.Mathlib.Omega.{arith}
 use native.Mathlib.Nat.{mul-le-mul}
 use Rattle.torus.specs.Inner.Paths.{wires_per_node}
 use Rattle.accept.proofs.ScheduleLaws.{room_each}
-use borrow.Author.Rules.{rules}
 use Rattle.accept.proofs.schedules.keeps_schedules.Goals as goal
 
 pub returns-then-longest-gt1024 : goal.returns-then-longest-gt1024

@@ -1,6 +1,5 @@
 -- `accept::schedules::kept_in` meets its contract: the tables are worked out of the sheet that is judged.
 use Rattle.accept.proofs.ScheduleLaws.{grid_read, schedulable}
-use borrow.Author.Rules.{rules}
 use Rattle.accept.proofs.schedules.kept_in.Goals as goal
 
 pub find_neighbours-requires : goal.find_neighbours-requires

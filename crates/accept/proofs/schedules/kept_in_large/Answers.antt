@@ -2,7 +2,6 @@
 use native.Mathlib.Omega.{arith}
 use Rattle.sheet.proofs.PassedLaws.{nodes_few}
 use Rattle.accept.proofs.ScheduleLaws.{zeros_long, zeros_free}
-use borrow.Author.Rules.{rules}
 use Rattle.accept.proofs.schedules.kept_in_large.Goals as goal
 
 pub kept_in-requires : goal.kept_in-requires

@@ -2,7 +2,6 @@
 use native.Mathlib.Omega.{arith}
 use Rattle.sheet.proofs.PassedLaws.{nodes_few}
 use Rattle.accept.proofs.ScheduleLaws.{room_largest, zeros_long, zeros_free}
-use borrow.Author.Rules.{rules}
 use Rattle.accept.proofs.schedules.kept_in_largest.Goals as goal
 
 pub kept_in-requires : goal.kept_in-requires

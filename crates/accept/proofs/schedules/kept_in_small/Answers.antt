@@ -1,6 +1,5 @@
 -- `accept::schedules::kept_in_small` meets its contract: a table of 64 words has room for every schedule.
 use Rattle.accept.proofs.ScheduleLaws.{few_wires, zeros_long, zeros_free}
-use borrow.Author.Rules.{rules}
 use Rattle.accept.proofs.schedules.kept_in_small.Goals as goal
 
 pub kept_in-requires : goal.kept_in-requires

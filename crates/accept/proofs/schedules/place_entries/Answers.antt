@@ -1,14 +1,11 @@
 -- `accept::schedules::place_entries` meets its contract: with just the entries before it in the table, an entry that is placed meets none of them.
-use Prim.Native.Nat.{ℕ, ◌+◌, ◌-◌, ◌/◌, ◌%◌, ◌≤◌}
+use Prim.Native.Nat.{ℕ, ◌+◌, ◌/◌}
 use mathlib.Core.Bool.{false≢true}
 use mathlib.Core.List.{List}
-use mathlib.Core.Path.{◌≡◌, refl, ◌∙◌, ap}
+use mathlib.Core.Path.{refl, ◌∙◌, ap}
 use native.Mathlib.Omega.{arith}
-use lib.ListN.{length}
-use borrow.Author.Rules.{rules}
-use Rattle.sheet.specs.Sheet.{period as periodOf, entry_count, entry_at}
-use Rattle.accept.specs.Inner.Placing.{Schedulable}
-use Rattle.accept.proofs.ScheduleLaws.{Accepting, accepting_start, accepting_more, counted, entries_whole, accepting_done, fits_read, key_small, ends_fits, sum_small, sizes, placeable_next}
+use Rattle.sheet.specs.Sheet.{entry_count, entry_at}
+use Rattle.accept.proofs.ScheduleLaws.{accepting_start, accepting_more, counted, entries_whole, accepting_done, fits_read, key_small, ends_fits, sum_small, sizes, placeable_next}
 use Rattle.accept.proofs.schedules.place_entries.Goals as goal
 
 pub schedule_period-period-requires : goal.schedule_period-period-requires

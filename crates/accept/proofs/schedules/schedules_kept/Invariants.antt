@@ -1,12 +1,9 @@
 -- `accept::schedules::schedules_kept` meets its contract: the first schedule is kept, and each turn keeps one more in a table that was cleared.
-use Prim.Native.Nat.{ℕ, ◌-◌, ◌≤◌}
-use mathlib.Core.Bool.{false≢true}
-use mathlib.Core.Path.{◌≡◌, refl, sym, ◌∙◌, subst}
-use native.Mathlib.Omega.{arith}
+use Prim.Native.Nat.{◌-◌, ◌≤◌}
+use mathlib.Core.Path.{◌≡◌}
 use lib.ListN.{length}
 use Rattle.sheet.specs.Sheet.{schedules}
-use Rattle.accept.specs.Inner.Placing.{Schedulable, KeptAll}
-use Rattle.accept.proofs.ScheduleLaws.{free_zeros, kept_start, kept_more}
+use Rattle.accept.specs.Inner.Placing.{KeptAll}
 use Rattle.accept.proofs.schedules.schedules_kept.Given as goal
 
 abbrev pub invariant-loop-j : goal.invariant-loop-j

@@ -1,17 +1,12 @@
 -- `accept::walks::follow_entry` meets its contract: each turn takes the wire of the next hop, and what is taken so far are the uses before the rest of
 -- the route; or the walk turned back, and then it does not end at the destination.
-use Prim.Native.Nat.{◌+◌, ◌/◌, ◌%◌}
+use Prim.Native.Nat.{◌+◌, ◌%◌}
 use mathlib.Core.Bool.{Bool, false≢true}
-use mathlib.Core.Path.{◌≡◌, refl, ◌∙◌, ap}
+use mathlib.Core.Path.{refl, ◌∙◌, ap}
 use native.Mathlib.Omega.{arith}
-use lib.ListN.{length}
-use borrow.Author.Rules.{rules}
 use Rattle.torus.specs.Route.{link_cycles}
 use Rattle.torus.proofs.RouteLaws.{link_high}
-use Rattle.sheet.specs.declared.entries.Entry.{Entry}
-use Rattle.occupancy.specs.Inner.Occupancy.{slot_mask}
-use Rattle.accept.specs.Inner.Placing.{Placeable}
-use Rattle.accept.proofs.WalkLaws.{Walking, walking_start, walking_more, walking_end, wire_few, wire_fits, near_fits}
+use Rattle.accept.proofs.WalkLaws.{walking_start, walking_more, walking_end, wire_few, wire_fits, near_fits}
 use Rattle.accept.proofs.walks.follow_entry.Goals as goal
 
 pub loop-cycles-init : goal.loop-cycles-init

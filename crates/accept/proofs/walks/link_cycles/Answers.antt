@@ -3,7 +3,6 @@ use mathlib.Core.Bool.{Bool}
 use mathlib.Core.Path.{sym, ◌∙◌, ap}
 use Rattle.torus.specs.Route.{link_cycles}
 use Rattle.torus.proofs.RouteLaws.{link_short}
-use borrow.Author.Rules.{rules}
 use Rattle.accept.proofs.walks.link_cycles.Goals as goal
 
 pub returns-then-long : goal.returns-then-long

@@ -5,7 +5,6 @@ use mathlib.Core.Path.{refl, sym, ◌∙◌, subst}
 use native.Mathlib.Omega.{arith}
 use Rattle.accept.specs.Inner.Placing.{Placeable}
 use Rattle.accept.proofs.WalkLaws.{first_few, first_fits, placed_free}
-use borrow.Author.Rules.{rules}
 use Rattle.accept.proofs.walks.place_entry.Goals as goal
 
 pub take_wire-requires : goal.take_wire-requires

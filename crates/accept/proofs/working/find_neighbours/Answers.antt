@@ -1,8 +1,7 @@
 -- `accept::working::find_neighbours` meets its contract: in the loop the neighbours of the nodes before `node` are put.
 use native.Mathlib.Omega.{arith}
-use Prim.Native.Nat.{◌-◌}
 use Rattle.torus.proofs.NeighbourLaws.{bounds}
-use Rattle.accept.proofs.WorkingLaws.{Putting, putting_start, putting_more, putting_done, still_inside}
+use Rattle.accept.proofs.WorkingLaws.{putting_start, putting_more, putting_done, still_inside}
 use Rattle.accept.proofs.working.find_neighbours.Goals as goal
 
 pub overflow_mul-count : goal.overflow_mul-count

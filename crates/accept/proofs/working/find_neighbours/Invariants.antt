@@ -1,8 +1,6 @@
 -- `accept::working::find_neighbours` meets its contract: in the loop the neighbours of the nodes before `node` are put.
-use native.Mathlib.Omega.{arith}
 use Prim.Native.Nat.{◌-◌}
-use Rattle.torus.proofs.NeighbourLaws.{bounds}
-use Rattle.accept.proofs.WorkingLaws.{Putting, putting_start, putting_more, putting_done, still_inside}
+use Rattle.accept.proofs.WorkingLaws.{Putting}
 use Rattle.accept.proofs.working.find_neighbours.Given as goal
 
 abbrev pub invariant-loop-node : goal.invariant-loop-node

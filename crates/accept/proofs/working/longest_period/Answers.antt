@@ -1,8 +1,6 @@
 -- `accept::working::longest_period` meets its contract: in the loop no period of the schedules before `j` exceeds `longest`.
 use native.Mathlib.Omega.{arith}
-use Prim.Native.Nat.{ℕ, ◌+◌, ◌-◌, ◌≤◌}
-use mathlib.Core.Logic.{⊎_elim}
-use borrow.Author.Rules.{rules}
+use Prim.Native.Nat.{ℕ, ◌+◌, ◌≤◌}
 use Rattle.accept.proofs.WorkingLaws.{Longest, longest_start, longest_more}
 use Rattle.accept.proofs.working.longest_period.Goals as goal
 use Rattle.accept.proofs.working.longest_period.Goals.{then-longest-period, else-longest-period}

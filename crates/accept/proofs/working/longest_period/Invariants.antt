@@ -1,9 +1,6 @@
 -- `accept::working::longest_period` meets its contract: in the loop no period of the schedules before `j` exceeds `longest`.
-use native.Mathlib.Omega.{arith}
-use Prim.Native.Nat.{ℕ, ◌+◌, ◌-◌, ◌≤◌}
-use mathlib.Core.Logic.{⊎_elim}
-use borrow.Author.Rules.{rules}
-use Rattle.accept.proofs.WorkingLaws.{Longest, longest_start, longest_more}
+use Prim.Native.Nat.{◌-◌}
+use Rattle.accept.proofs.WorkingLaws.{Longest}
 use Rattle.accept.proofs.working.longest_period.Given as goal
 
 abbrev pub invariant-loop-j : goal.invariant-loop-j

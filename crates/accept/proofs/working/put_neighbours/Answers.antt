@@ -3,7 +3,6 @@ use native.Mathlib.Omega.{arith}
 use lib.ListN.{length-set}
 use Rattle.torus.proofs.NeighbourLaws.{bounds}
 use Rattle.accept.proofs.WorkingLaws.{neighbour_few, put_are}
-use borrow.Author.Rules.{rules}
 use Rattle.accept.proofs.working.put_neighbours.Goals as goal
 
 pub overflow_mul-at : goal.overflow_mul-at

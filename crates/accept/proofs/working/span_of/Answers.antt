@@ -1,7 +1,6 @@
 -- `accept::working::span_of` meets its contract: the sum is small, since the distance is at most 4 and the way round at most 3.
 use native.Mathlib.Omega.{arith}
 use Rattle.accept.proofs.WorkingLaws.{far_few, down_few, span_long, span_short}
-use borrow.Author.Rules.{rules}
 use Rattle.accept.proofs.working.span_of.Goals as goal
 
 pub overflow_mul-span : goal.overflow_mul-span

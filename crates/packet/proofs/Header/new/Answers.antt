@@ -1,6 +1,5 @@
 -- `packet::Header::new` meets its contract: each test is that a part fits its field, and parts that fit make a word.
 use Rattle.packet.proofs.HeaderLaws.{kind_wide, address_wide, route_wide, all_fit}
-use borrow.Author.Rules.{rules}
 use Rattle.packet.proofs.Header.new.Goals as goal
 
 pub returns-then-kind-ge-KINDS : goal.returns-then-kind-ge-KINDS

@@ -2,7 +2,6 @@
 use Rattle.words.specs.Tests.{◌≤?◌}
 use Rattle.quiet.proofs.OpeningLaws.{live_no, live_rest}
 use native.Mathlib.Omega.{arith}
-use borrow.Author.Rules.{rules}
 use Rattle.quiet.proofs.openings.is_live.Goals as goal
 
 pub returns-then-entry-cycle : goal.returns-then-entry-cycle

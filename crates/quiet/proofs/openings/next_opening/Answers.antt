@@ -1,8 +1,6 @@
 -- `quiet::openings::next_opening` meets its contract: of the entries passed none that begins in this cycle or later has words left, and those behind begin no earlier.
 use native.Mathlib.Omega.{arith}
-use Prim.Native.Nat.{◌-◌}
-use Rattle.quiet.proofs.OpeningLaws.{Seeking, seeking_start, seeking_inside, seeking_more, opening_none, opening_late, opening_live}
-use borrow.Author.Rules.{rules}
+use Rattle.quiet.proofs.OpeningLaws.{seeking_start, seeking_inside, seeking_more, opening_none, opening_late, opening_live}
 use Rattle.quiet.proofs.openings.next_opening.Goals as goal
 
 pub entries_of-entries-requires : goal.entries_of-entries-requires

@@ -1,8 +1,6 @@
 -- `quiet::openings::next_opening` meets its contract: of the entries passed none that begins in this cycle or later has words left, and those behind begin no earlier.
-use native.Mathlib.Omega.{arith}
 use Prim.Native.Nat.{◌-◌}
-use Rattle.quiet.proofs.OpeningLaws.{Seeking, seeking_start, seeking_inside, seeking_more, opening_none, opening_late, opening_live}
-use borrow.Author.Rules.{rules}
+use Rattle.quiet.proofs.OpeningLaws.{Seeking}
 use Rattle.quiet.proofs.openings.next_opening.Given as goal
 
 abbrev pub invariant-loop-i : goal.invariant-loop-i

@@ -1,7 +1,6 @@
 -- `receivers::clock::is_due` meets its contract: the period's turn, the order's mark and its period are tested one by one.
 use Rattle.words.specs.Tests.{◌=?◌}
 use Rattle.receivers.proofs.ClockLaws.{due_within, due_none, due_rest}
-use Rattle.std.proofs.Common.{rules}
 use Rattle.receivers.proofs.clock.is_due.Goals as goal
 
 pub returns-then-reg-eq0 : goal.returns-then-reg-eq0

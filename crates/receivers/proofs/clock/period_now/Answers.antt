@@ -1,6 +1,5 @@
 -- `receivers::clock::period_now` meets its contract: the sheet is the state's own, and the schedule in force is one of it.
 use Rattle.receivers.proofs.ClockLaws.{period_asked, period_read}
-use Rattle.std.proofs.Common.{rules}
 use Rattle.receivers.proofs.clock.period_now.Goals as goal
 
 pub schedule_period-requires : goal.schedule_period-requires

@@ -1,6 +1,5 @@
 -- `receivers::clock::put_clock` meets its contract: the four registers are set in turn.
 use Rattle.receivers.proofs.ClockLaws.{clock_is}
-use Rattle.std.proofs.Common.{rules}
 use Rattle.receivers.proofs.clock.put_clock.Goals as goal
 
 pub returns : goal.returns

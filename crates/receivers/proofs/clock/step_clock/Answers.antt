@@ -1,5 +1,5 @@
 -- `receivers::clock::step_clock` meets its contract: each register is picked from what was read, and the six places of the row are as the stage wants them.
-use Rattle.std.proofs.Common.{ap, ◌∙◌, arith, rules}
+use Rattle.std.proofs.Common.{ap, ◌∙◌, arith}
 use Rattle.words.specs.Tests.{◌=?◌}
 use Rattle.network.specs.Cycle.{next_number}
 use Rattle.receivers.proofs.ClockLaws.{turns_is, clock_done}

@@ -1,6 +1,6 @@
 -- `receivers::receiving::clear_landings` meets its contract: in the loop the landings of the nodes before `node` are cleared.
-use Rattle.std.proofs.Common.{◌-◌, arith, length-set}
-use Rattle.receivers.proofs.ClearLaws.{Clearing, clearing_start, clearing_more, clearing_done}
+use Rattle.std.proofs.Common.{arith, length-set}
+use Rattle.receivers.proofs.ClearLaws.{clearing_start, clearing_more, clearing_done}
 use Rattle.receivers.proofs.receiving.clear_landings.Goals as goal
 
 pub loop-node-init : goal.loop-node-init

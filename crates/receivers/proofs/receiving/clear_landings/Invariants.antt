@@ -1,6 +1,6 @@
 -- `receivers::receiving::clear_landings` meets its contract: in the loop the landings of the nodes before `node` are cleared.
-use Rattle.std.proofs.Common.{◌-◌, arith, length-set}
-use Rattle.receivers.proofs.ClearLaws.{Clearing, clearing_start, clearing_more, clearing_done}
+use Rattle.std.proofs.Common.{◌-◌}
+use Rattle.receivers.proofs.ClearLaws.{Clearing}
 use Rattle.receivers.proofs.receiving.clear_landings.Given as goal
 
 abbrev pub invariant-loop-node : goal.invariant-loop-node

@@ -1,6 +1,6 @@
 -- `receivers::receiving::does_stray` meets its contract: the mark, the receive unit and its address are tested one by one.
 use Rattle.words.specs.Tests.{◌≤?◌}
-use Rattle.std.proofs.Common.{arith, rules}
+use Rattle.std.proofs.Common.{arith}
 use Rattle.receivers.proofs.StrayLaws.{stray_none, stray_idle, stray_past}
 use Rattle.receivers.proofs.receiving.does_stray.Goals as goal
 

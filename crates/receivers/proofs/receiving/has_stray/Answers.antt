@@ -1,7 +1,7 @@
 -- `receivers::receiving::has_stray` meets its contract: in the loop no node before `node` has a stray word; the nodes that are passed have nothing on
 -- their memory output.
-use Rattle.std.proofs.Common.{◌-◌, arith}
-use Rattle.receivers.proofs.StrayLaws.{StrayFree, pass_start, pass_more, pass_found, pass_over}
+use Rattle.std.proofs.Common.{arith}
+use Rattle.receivers.proofs.StrayLaws.{pass_start, pass_more, pass_found, pass_over}
 use Rattle.receivers.proofs.receiving.has_stray.Goals as goal
 
 pub loop-node-init : goal.loop-node-init

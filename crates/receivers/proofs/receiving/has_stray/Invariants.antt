@@ -1,7 +1,7 @@
 -- `receivers::receiving::has_stray` meets its contract: in the loop no node before `node` has a stray word; the nodes that are passed have nothing on
 -- their memory output.
-use Rattle.std.proofs.Common.{◌-◌, arith}
-use Rattle.receivers.proofs.StrayLaws.{StrayFree, pass_start, pass_more, pass_found, pass_over}
+use Rattle.std.proofs.Common.{◌-◌}
+use Rattle.receivers.proofs.StrayLaws.{StrayFree}
 use Rattle.receivers.proofs.receiving.has_stray.Given as goal
 
 abbrev pub invariant-loop-node : goal.invariant-loop-node

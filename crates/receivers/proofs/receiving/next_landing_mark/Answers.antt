@@ -1,5 +1,5 @@
 -- `receivers::receiving::next_landing_mark` meets its contract: a payload word lands, nothing else does.
-use Rattle.std.proofs.Common.{arith, rules}
+use Rattle.std.proofs.Common.{arith}
 use Rattle.receivers.proofs.UnitLaws.{landing_some, landing_none}
 use Rattle.receivers.proofs.receiving.next_landing_mark.Goals as goal
 

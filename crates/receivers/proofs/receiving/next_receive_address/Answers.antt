@@ -1,5 +1,5 @@
 -- `receivers::receiving::next_receive_address` meets its contract: a header sets it, a payload word adds one; a word that lands has a small address.
-use Rattle.std.proofs.Common.{arith, rules}
+use Rattle.std.proofs.Common.{arith}
 use Rattle.receivers.proofs.UnitLaws.{address_header, address_next, address_held, address_small}
 use Rattle.receivers.proofs.receiving.next_receive_address.Goals as goal
 

@@ -1,6 +1,5 @@
 -- `receivers::receiving::next_receive_kind` meets its contract: a header sets it, else it stays.
 use Rattle.receivers.proofs.UnitLaws.{kind_header, kind_held}
-use Rattle.std.proofs.Common.{rules}
 use Rattle.receivers.proofs.receiving.next_receive_kind.Goals as goal
 
 pub returns-then-memory_mark-eq1 : goal.returns-then-memory_mark-eq1

@@ -1,5 +1,5 @@
 -- `receivers::receiving::next_receive_mark` meets its contract: a header sets it, a packet's last word drops it, else it stays.
-use Rattle.std.proofs.Common.{arith, rules}
+use Rattle.std.proofs.Common.{arith}
 use Rattle.receivers.proofs.UnitLaws.{mark_header, mark_last, mark_held}
 use Rattle.receivers.proofs.receiving.next_receive_mark.Goals as goal
 

@@ -1,6 +1,5 @@
 -- `receivers::receiving::put_landing` meets its contract: all is read before the four registers are set in turn.
 use Rattle.receivers.proofs.UnitLaws.{landing_is}
-use Rattle.std.proofs.Common.{rules}
 use Rattle.receivers.proofs.receiving.put_landing.Goals as goal
 
 pub returns : goal.returns

@@ -1,5 +1,5 @@
 -- `receivers::receiving::put_memory` meets its contract: a payload word is set at its place, and nothing else is.
-use Rattle.std.proofs.Common.{arith, rules}
+use Rattle.std.proofs.Common.{arith}
 use Rattle.receivers.proofs.UnitLaws.{memory_kept, memory_stored, place_small}
 use Rattle.receivers.proofs.receiving.put_memory.Goals as goal
 

@@ -1,6 +1,5 @@
 -- `receivers::receiving::put_receive` meets its contract: all is read before the three registers are set in turn.
 use Rattle.receivers.proofs.UnitLaws.{receive_is}
-use Rattle.std.proofs.Common.{rules}
 use Rattle.receivers.proofs.receiving.put_receive.Goals as goal
 
 pub returns : goal.returns

@@ -1,6 +1,6 @@
 -- `receivers::receiving::step_receiver` meets its contract: the landing that is put leaves what the receive unit reads, and where nothing is on
 -- the memory output the receive unit stays.
-use Rattle.std.proofs.Common.{arith, rules}
+use Rattle.std.proofs.Common.{arith}
 use Rattle.receivers.proofs.UnitLaws.{memory_kept}
 use Rattle.receivers.proofs.NodeLaws.{landing_kept, node_is, node_rests}
 use Rattle.receivers.proofs.receiving.step_receiver.Goals as goal

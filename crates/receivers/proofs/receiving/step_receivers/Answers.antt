@@ -1,7 +1,7 @@
 -- `receivers::receiving::step_receivers` meets its contract: in the loop the nodes before `node` have their rows and memories as after the cycle, and
 -- the others as they were when the landings had been cleared, which is what the cycle leaves at the nodes that are passed.
-use Rattle.std.proofs.Common.{◌-◌, min, arith}
-use Rattle.receivers.proofs.RoundLaws.{Receiving, round_start, round_fits, round_more, round_length, round_rows, round_memory}
+use Rattle.std.proofs.Common.{arith}
+use Rattle.receivers.proofs.RoundLaws.{round_start, round_fits, round_more, round_length, round_rows, round_memory}
 use Rattle.receivers.proofs.receiving.step_receivers.Goals as goal
 
 pub returns-then-s-lt-MOVING_WORDS : goal.returns-then-s-lt-MOVING_WORDS

@@ -1,12 +1,8 @@
 -- `sheet::circuits::keeps_rule4` meets its contract. Number 4: in the loop every circuit before `k` fits.
-use Prim.Native.Nat.{◌≤◌, ◌-◌}
-use mathlib.Core.Bool.{true}
-use mathlib.Core.Path.{◌≡◌, sym}
+use mathlib.Core.Path.{sym}
 use native.Mathlib.Omega.{arith}
-use Rattle.words.specs.Tests.{all}
 use Rattle.words.proofs.AllLaws.{all_none, all_more, all_done, all_fails}
-use Rattle.sheet.specs.Sheet.{circuits, nodes as nodesOf, memory_words, circuit_at}
-use Rattle.sheet.specs.Rules.{circuit_fits, rule4}
+use Rattle.sheet.specs.Rules.{rule4}
 use Rattle.sheet.proofs.CircuitLaws.{fits_read}
 use Rattle.sheet.proofs.circuits.keeps_rule4.Goals as goal
 

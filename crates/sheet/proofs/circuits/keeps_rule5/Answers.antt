@@ -1,11 +1,7 @@
 -- `sheet::circuits::keeps_rule5` meets its contract. Number 5: in the loop every circuit before `k` precedes the next one.
-use Prim.Native.Nat.{◌≤◌, ◌+◌, ◌-◌}
-use mathlib.Core.Bool.{true}
-use mathlib.Core.Path.{◌≡◌, sym, ◌∙◌, ap₂}
+use mathlib.Core.Path.{sym, ◌∙◌, ap₂}
 use native.Mathlib.Omega.{arith}
-use Rattle.words.specs.Tests.{all}
 use Rattle.words.proofs.AllLaws.{all_none, all_more, all_done, all_fails}
-use Rattle.sheet.specs.Sheet.{circuits, circuit_at}
 use Rattle.sheet.specs.Rules.{circuit_precedes, rule5}
 use Rattle.sheet.proofs.circuits.keeps_rule5.Goals as goal
 

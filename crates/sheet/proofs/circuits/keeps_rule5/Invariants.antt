@@ -1,12 +1,10 @@
 -- `sheet::circuits::keeps_rule5` meets its contract. Number 5: in the loop every circuit before `k` precedes the next one.
 use Prim.Native.Nat.{◌≤◌, ◌+◌, ◌-◌}
 use mathlib.Core.Bool.{true}
-use mathlib.Core.Path.{◌≡◌, sym, ◌∙◌, ap₂}
-use native.Mathlib.Omega.{arith}
+use mathlib.Core.Path.{◌≡◌}
 use Rattle.words.specs.Tests.{all}
-use Rattle.words.proofs.AllLaws.{all_none, all_more, all_done, all_fails}
 use Rattle.sheet.specs.Sheet.{circuits, circuit_at}
-use Rattle.sheet.specs.Rules.{circuit_precedes, rule5}
+use Rattle.sheet.specs.Rules.{circuit_precedes}
 use Rattle.sheet.proofs.circuits.keeps_rule5.Given as goal
 
 abbrev pub invariant-loop-k : goal.invariant-loop-k

@@ -1,13 +1,8 @@
 -- `sheet::circuits::keeps_rule6` meets its contract. Number 6: in the loop every receive region before `j` is apart from all others.
-use Prim.Native.Nat.{◌≤◌, ◌-◌}
-use mathlib.Core.Bool.{true}
-use mathlib.Core.Path.{◌≡◌, sym, ◌∙◌}
+use mathlib.Core.Path.{sym, ◌∙◌}
 use native.Mathlib.Omega.{arith}
-use borrow.Author.Rules.{rules}
-use Rattle.words.specs.Tests.{all}
 use Rattle.words.proofs.AllLaws.{all_none, all_more, all_done, all_fails}
-use Rattle.sheet.specs.Sheet.{circuits}
-use Rattle.sheet.specs.Rules.{receive_apart, rule6}
+use Rattle.sheet.specs.Rules.{rule6}
 use Rattle.sheet.proofs.circuits.keeps_rule6.Goals as goal
 
 pub loop-j-init : goal.loop-j-init

@@ -1,13 +1,10 @@
 -- `sheet::circuits::keeps_rule6` meets its contract. Number 6: in the loop every receive region before `j` is apart from all others.
 use Prim.Native.Nat.{◌≤◌, ◌-◌}
 use mathlib.Core.Bool.{true}
-use mathlib.Core.Path.{◌≡◌, sym, ◌∙◌}
-use native.Mathlib.Omega.{arith}
-use borrow.Author.Rules.{rules}
+use mathlib.Core.Path.{◌≡◌}
 use Rattle.words.specs.Tests.{all}
-use Rattle.words.proofs.AllLaws.{all_none, all_more, all_done, all_fails}
 use Rattle.sheet.specs.Sheet.{circuits}
-use Rattle.sheet.specs.Rules.{receive_apart, rule6}
+use Rattle.sheet.specs.Rules.{receive_apart}
 use Rattle.sheet.proofs.circuits.keeps_rule6.Given as goal
 
 abbrev pub invariant-loop-j : goal.invariant-loop-j

@@ -1,5 +1,4 @@
 -- `sheet::circuits::pair_apart` meets its contract. Number 6 at a pair of circuits: the nodes decide where none is common, else the regions.
-use native.Mathlib.Omega.{arith}
 use Rattle.sheet.specs.Sheet.{circuit_at}
 use Rattle.sheet.proofs.CircuitLaws.{pair_nodes}
 use Rattle.sheet.proofs.circuits.pair_apart.Goals as goal

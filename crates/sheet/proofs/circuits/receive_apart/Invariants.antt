@@ -1,11 +1,8 @@
 -- `sheet::circuits::receive_apart` meets its contract. Number 6 at one receive region: in the loop it is apart from every circuit before `k`.
 use Prim.Native.Nat.{◌≤◌, ◌-◌}
 use mathlib.Core.Bool.{true}
-use mathlib.Core.Path.{◌≡◌, sym, ap, ◌∙◌}
-use native.Mathlib.Omega.{arith}
+use mathlib.Core.Path.{◌≡◌}
 use Rattle.words.specs.Tests.{all}
-use Rattle.words.proofs.AllLaws.{all_none, all_more, all_done, all_fails}
-use Rattle.sheet.specs.declared.circuits.Circuit.{Circuit}
 use Rattle.sheet.specs.Sheet.{circuits}
 use Rattle.sheet.specs.Rules.{receive_apart}
 use Rattle.sheet.proofs.circuits.receive_apart.Given as goal

@@ -1,12 +1,7 @@
 -- `sheet::entries::entries_ascend` meets its contract. Number 8 at a schedule's entries: in the loop each one before `i` precedes the next.
-use Prim.Native.Nat.{◌≤◌, ◌+◌, ◌-◌}
-use mathlib.Core.Bool.{true}
-use mathlib.Core.Path.{◌≡◌, sym, ◌∙◌, ap₂}
+use mathlib.Core.Path.{sym, ◌∙◌, ap₂}
 use native.Mathlib.Omega.{arith}
-use borrow.Author.Rules.{rules}
-use Rattle.words.specs.Tests.{all}
 use Rattle.words.proofs.AllLaws.{all_none, all_more, all_done, all_fails}
-use Rattle.sheet.specs.Sheet.{entry_at}
 use Rattle.sheet.specs.Rules.{entry_precedes}
 use Rattle.sheet.proofs.entries.entries_ascend.Goals as goal
 

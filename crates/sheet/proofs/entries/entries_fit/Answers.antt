@@ -1,12 +1,7 @@
 -- `sheet::entries::entries_fit` meets its contract. Number 7 at the entries of a schedule: in the loop every entry before `i` fits.
-use Prim.Native.Nat.{◌≤◌, ◌-◌}
-use mathlib.Core.Bool.{true}
-use mathlib.Core.Path.{◌≡◌, sym, ◌∙◌, ap}
+use mathlib.Core.Path.{sym, ◌∙◌, ap}
 use native.Mathlib.Omega.{arith}
-use borrow.Author.Rules.{rules}
-use Rattle.words.specs.Tests.{all}
 use Rattle.words.proofs.AllLaws.{all_none, all_more, all_done, all_fails}
-use Rattle.sheet.specs.Sheet.{entry_at}
 use Rattle.sheet.specs.Rules.{entry_fits}
 use Rattle.sheet.proofs.entries.entries_fit.Goals as goal
 

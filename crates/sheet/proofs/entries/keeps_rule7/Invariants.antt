@@ -1,13 +1,10 @@
 -- `sheet::entries::keeps_rule7` meets its contract. Number 7: in the loop every schedule before `j` keeps the rule.
 use Prim.Native.Nat.{◌≤◌, ◌-◌}
 use mathlib.Core.Bool.{true}
-use mathlib.Core.Path.{◌≡◌, sym, ◌∙◌}
-use native.Mathlib.Omega.{arith}
-use borrow.Author.Rules.{rules}
+use mathlib.Core.Path.{◌≡◌}
 use Rattle.words.specs.Tests.{all}
-use Rattle.words.proofs.AllLaws.{all_none, all_more, all_done, all_fails}
 use Rattle.sheet.specs.Sheet.{schedules}
-use Rattle.sheet.specs.Rules.{rule7_at, rule7}
+use Rattle.sheet.specs.Rules.{rule7_at}
 use Rattle.sheet.proofs.entries.keeps_rule7.Given as goal
 
 abbrev pub invariant-loop-j : goal.invariant-loop-j

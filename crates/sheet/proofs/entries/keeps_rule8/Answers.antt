@@ -1,13 +1,8 @@
 -- `sheet::entries::keeps_rule8` meets its contract. Number 8: in the loop every schedule before `j` keeps the rule.
-use Prim.Native.Nat.{◌≤◌, ◌-◌}
-use mathlib.Core.Bool.{true}
-use mathlib.Core.Path.{◌≡◌, sym, ◌∙◌}
+use mathlib.Core.Path.{sym, ◌∙◌}
 use native.Mathlib.Omega.{arith}
-use borrow.Author.Rules.{rules}
-use Rattle.words.specs.Tests.{all}
 use Rattle.words.proofs.AllLaws.{all_none, all_more, all_done, all_fails}
-use Rattle.sheet.specs.Sheet.{schedules}
-use Rattle.sheet.specs.Rules.{rule8_at, rule8}
+use Rattle.sheet.specs.Rules.{rule8}
 use Rattle.sheet.proofs.EntryLaws.{schedule_ascends}
 use Rattle.sheet.proofs.entries.keeps_rule8.Goals as goal
 

@@ -1,5 +1,4 @@
 -- `sheet::entries::schedule_fits` meets its contract. Number 7 at one schedule: its period's range is tested first, then its entries.
-use borrow.Author.Rules.{rules}
 use Rattle.sheet.proofs.EntryLaws.{schedule_no, schedule_rest}
 use Rattle.sheet.proofs.entries.schedule_fits.Goals as goal
 

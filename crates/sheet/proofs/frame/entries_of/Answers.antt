@@ -1,6 +1,4 @@
 -- `sheet::frame::entries_of` meets its contract: the part from `from` to `to` is the entries' part by the definition.
-use native.Mathlib.Omega.{arith}
-use borrow.Author.Rules.{rules}
 use Rattle.sheet.proofs.FrameLaws.{part_is}
 use Rattle.sheet.proofs.frame.entries_of.Goals as goal
 

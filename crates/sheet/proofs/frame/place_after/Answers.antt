@@ -1,6 +1,5 @@
 -- `sheet::frame::place_after` meets its contract: the two tests are the definition's, and the sum is the next place.
 use native.Mathlib.Omega.{arith}
-use borrow.Author.Rules.{rules}
 use Rattle.sheet.proofs.FrameLaws.{after_yes, after_short, after_many}
 use Rattle.sheet.proofs.frame.place_after.Goals as goal
 

@@ -1,5 +1,4 @@
 -- `sheet::frame::schedule_period` meets its contract: the word at the schedule's place is its period.
-use borrow.Author.Rules.{rules}
 use Rattle.sheet.proofs.FrameLaws.{period_is}
 use Rattle.sheet.proofs.frame.schedule_period.Goals as goal
 

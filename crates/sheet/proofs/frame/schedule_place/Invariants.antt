@@ -1,12 +1,8 @@
 -- `sheet::frame::schedule_place` meets its contract: in the loop `at` is the place of schedule `i`, which lies within the sheet by rule 3.
 use Prim.Native.Nat.{◌≤◌, ◌-◌}
-use mathlib.Core.Path.{◌≡◌, ◌∙◌, ap}
-use native.Mathlib.Omega.{arith}
-use borrow.Author.Rules.{rules}
+use mathlib.Core.Path.{◌≡◌}
 use Rattle.sheet.specs.Sheet.{schedule_place}
 use Rattle.sheet.specs.Inner.Passed.{Placed}
-use Rattle.sheet.proofs.PassedLaws.{placed_at}
-use Rattle.sheet.proofs.FrameLaws.{place_next, first_place}
 use Rattle.sheet.proofs.frame.schedule_place.Given as goal
 
 abbrev pub invariant-loop-i : goal.invariant-loop-i

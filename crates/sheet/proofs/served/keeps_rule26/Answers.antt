@@ -1,13 +1,8 @@
 -- `sheet::served::keeps_rule26` meets its contract. Number 26: in the loop every circuit before `c` has its mark.
-use Prim.Native.Nat.{◌≤◌, ◌-◌}
-use mathlib.Core.Bool.{true}
-use mathlib.Core.Path.{◌≡◌, sym}
+use mathlib.Core.Path.{sym}
 use native.Mathlib.Omega.{arith}
-use borrow.Author.Rules.{rules}
-use Rattle.words.specs.Tests.{all}
 use Rattle.words.proofs.AllLaws.{all_none, all_more, all_done, all_fails}
-use Rattle.sheet.specs.Sheet.{circuits}
-use Rattle.sheet.specs.Rules.{is_served, rule26}
+use Rattle.sheet.specs.Rules.{rule26}
 use Rattle.sheet.proofs.ServedLaws.{unmarked, has_mark}
 use Rattle.sheet.proofs.served.keeps_rule26.Goals as goal
 

@@ -1,10 +1,6 @@
 -- `sheet::served::mark_circuits` meets its contract: in the loop the circuits of the entries before `i` are marked too.
 use Prim.Native.Nat.{◌-◌}
-use mathlib.Core.Path.{sym, ◌∙◌, ap}
-use native.Mathlib.Omega.{arith}
-use borrow.Author.Rules.{rules}
-use Rattle.sheet.specs.declared.entries.Entry.{Entry}
-use Rattle.sheet.proofs.ServedLaws.{Marking, marking_start, marking_more, marking_length, marking_done}
+use Rattle.sheet.proofs.ServedLaws.{Marking}
 use Rattle.sheet.proofs.served.mark_circuits.Given as goal
 
 abbrev pub invariant-loop-i : goal.invariant-loop-i

@@ -1,10 +1,8 @@
 -- `sheet::served::served_marks` meets its contract: in the loop the circuits that the schedules before `j` serve are marked.
-use Prim.Native.Nat.{◌≤◌, ◌-◌}
-use mathlib.Core.Path.{◌≡◌, sym, ◌∙◌, ap, ap₂}
+use mathlib.Core.Path.{sym, ◌∙◌, ap, ap₂}
 use native.Mathlib.Omega.{arith}
 use lib.ListN.{length}
-use Rattle.sheet.specs.Sheet.{schedules}
-use Rattle.sheet.specs.Inner.Served.{marked_by, marks_of}
+use Rattle.sheet.specs.Inner.Served.{marked_by}
 use Rattle.sheet.proofs.ServedLaws.{marks_start, marks_length, marks_more, marks_done, markable}
 use Rattle.sheet.proofs.served.served_marks.Goals as goal
 

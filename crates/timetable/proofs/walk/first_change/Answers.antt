@@ -1,10 +1,8 @@
 -- `timetable::walk::first_change` meets its contract: in the loop every minute from `from` on that lies
 -- before `at` has the schedule, since it stays up to the next edge.
-use Prim.Native.Nat.{◌≤◌, ◌-◌}
 use native.Mathlib.Omega.{arith}
-use Rattle.timetable.specs.Inner.Edges.{EndedBefore}
 use Rattle.timetable.proofs.EdgeLaws.{edge_later}
-use Rattle.timetable.proofs.WalkLaws.{Passed, passed_none, passed_more, change_found, change_none, ended_on}
+use Rattle.timetable.proofs.WalkLaws.{passed_none, passed_more, change_found, change_none, ended_on}
 use Rattle.timetable.proofs.walk.first_change.Goals as goal
 
 pub loop-at-init : goal.loop-at-init

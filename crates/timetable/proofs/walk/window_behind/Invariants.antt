@@ -1,10 +1,8 @@
 -- `timetable::walk::window_behind` meets its contract: in the loop every window before `k` has ended by the minute.
 use Prim.Native.Nat.{◌-◌}
 use mathlib.Core.Path.{◌≡◌}
-use native.Mathlib.Omega.{arith}
 use Rattle.timetable.specs.Timetable.{windows}
 use Rattle.timetable.specs.Inner.Edges.{EndedBefore}
-use Rattle.timetable.proofs.TimetableLaws.{few, ended_more}
 use Rattle.timetable.proofs.walk.window_behind.Given as goal
 
 abbrev pub invariant-loop-k : goal.invariant-loop-k

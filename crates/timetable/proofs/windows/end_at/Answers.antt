@@ -4,7 +4,6 @@ use mathlib.Core.Path.{ap}
 use Prim.Native.Nat.{◌+◌, ◌*◌}
 use Rattle.words.specs.Words.{word}
 use Rattle.timetable.specs.Timetable.{windows, end_at, length_at}
-use borrow.Author.Rules.{rules}
 use Rattle.timetable.proofs.windows.end_at.Goals as goal
 
 pub bounds-list-k : goal.bounds-list-k

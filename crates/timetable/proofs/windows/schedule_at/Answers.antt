@@ -2,7 +2,6 @@
 use native.Mathlib.Omega.{arith}
 use mathlib.Core.Path.{refl}
 use Rattle.timetable.specs.Timetable.{windows, schedule_at}
-use borrow.Author.Rules.{rules}
 use Rattle.timetable.proofs.windows.schedule_at.Goals as goal
 
 pub bounds-list-k : goal.bounds-list-k

@@ -4,7 +4,6 @@ use native.Mathlib.Omega.{arith}
 use mathlib.Core.Path.{ap, ◌∙◌}
 use Rattle.words.specs.Tests.{◌≤?◌}
 use Rattle.timetable.proofs.TimetableLaws.{fits_empty, fits_late, fits_rest}
-use borrow.Author.Rules.{rules}
 use Rattle.timetable.proofs.windows.window_fits.Goals as goal
 
 pub returns-then-end-start : goal.returns-then-end-start

@@ -1,9 +1,8 @@
 -- `timetable::windows::windows_fit` meets its contract: in the loop the windows before `k` fit and are in order, and `ended` is where
 -- the last of them has ended.
-use Prim.Native.Nat.{◌≤◌, ◌-◌}
 use mathlib.Core.Path.{sym, ◌∙◌}
 use native.Mathlib.Omega.{arith}
-use Rattle.timetable.proofs.TimetableLaws.{Kept, kept_none, kept_more, kept_unfit, kept_early, kept_done}
+use Rattle.timetable.proofs.TimetableLaws.{kept_none, kept_more, kept_unfit, kept_early, kept_done}
 use Rattle.timetable.proofs.windows.windows_fit.Goals as goal
 
 pub loop-k-init : goal.loop-k-init

@@ -1,5 +1,4 @@
 -- `sheet::circuits::Circuit::at` meets its contract: the six words are those of the definition.
-use native.Mathlib.Omega.{arith}
 use Rattle.sheet.proofs.CircuitLaws.{circuit_is}
 use Rattle.sheet.proofs.circuits.Circuit.at.Goals as goal
 

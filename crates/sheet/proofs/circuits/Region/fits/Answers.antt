@@ -1,7 +1,5 @@
 -- `sheet::circuits::Region::fits` meets its contract: the end in 64 bits is the definition's sum.
 use mathlib.Core.Path.{refl}
-use native.Mathlib.Omega.{arith}
-use borrow.Author.Rules.{rules}
 use Rattle.words.specs.Tests.{◌≤?◌}
 use Rattle.words.proofs.TestLaws.{and_no, and_on, yes≤, no≤}
 use Rattle.sheet.specs.Rules.{region_fits}

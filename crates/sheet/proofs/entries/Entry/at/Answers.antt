@@ -1,7 +1,5 @@
 -- `sheet::entries::Entry::at` meets its contract: the four words are those of the definition.
 use mathlib.Core.Path.{refl}
-use native.Mathlib.Omega.{arith}
-use borrow.Author.Rules.{rules}
 use Rattle.sheet.specs.Sheet.{entry_at}
 use Rattle.sheet.proofs.entries.Entry.at.Goals as goal
 
