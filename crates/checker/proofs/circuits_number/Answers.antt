@@ -1,0 +1,26 @@
+-- `checker::circuits_number` meets its contract: Numbers 4 to 6: each test decides where those before it are passed.
+use mathlib.Core.Path.{sym, ◌∙◌}
+use Rattle.sheet.proofs.VerdictLaws.{here, on, done}
+use borrow.Author.Rules.{rules}
+use Rattle.checker.proofs.circuits_number.Goals as goal
+
+pub keeps_rule6-requires : goal.keeps_rule6-requires
+keeps_rule6-requires c = (c.requires, sym c.keeps_rule4.ensures ∙ c.if-keeps_rule4.true)
+
+pub returns-then-keeps_rule6 : goal.returns-then-keeps_rule6
+returns-then-keeps_rule6 c =
+    on _ _ _ (sym c.keeps_rule4.ensures ∙ c.if-keeps_rule4.true)
+    (on _ _ _ (sym c.keeps_rule5.ensures ∙ c.if-keeps_rule5.true)
+    (on _ _ _ (sym c.keeps_rule6.ensures ∙ c.if-keeps_rule6.true) (done _)))
+
+pub returns-then-keeps_rule5 : goal.returns-then-keeps_rule5
+returns-then-keeps_rule5 c =
+    on _ _ _ (sym c.keeps_rule4.ensures ∙ c.if-keeps_rule4.true)
+    (on _ _ _ (sym c.keeps_rule5.ensures ∙ c.if-keeps_rule5.true)
+    (here _ _ _ (sym c.keeps_rule6.ensures ∙ c.if-keeps_rule6.false)))
+
+pub returns-then-keeps_rule4 : goal.returns-then-keeps_rule4
+returns-then-keeps_rule4 c = on _ _ _ (sym c.keeps_rule4.ensures ∙ c.if-keeps_rule4.true) (here _ _ _ (sym c.keeps_rule5.ensures ∙ c.if-keeps_rule5.false))
+
+pub returns : goal.returns
+returns c = here _ _ _ (sym c.keeps_rule4.ensures ∙ c.if-keeps_rule4.false)

@@ -1,0 +1,27 @@
+-- `checker::frame_number` meets its contract: Numbers 1 to 3: each test decides where those before it are passed, and the first two give what the third asks.
+use mathlib.Core.Path.{sym, ◌∙◌}
+use Rattle.sheet.proofs.PassedLaws.{headed}
+use Rattle.sheet.proofs.VerdictLaws.{here, on, done}
+use borrow.Author.Rules.{rules}
+use Rattle.checker.proofs.frame_number.Goals as goal
+
+pub keeps_rule3-requires : goal.keeps_rule3-requires
+keeps_rule3-requires c = headed _ (sym c.keeps_rule1.ensures ∙ c.if-keeps_rule1.true) (sym c.keeps_rule2.ensures ∙ c.if-keeps_rule2.true)
+
+pub returns-then-keeps_rule3 : goal.returns-then-keeps_rule3
+returns-then-keeps_rule3 c =
+    on _ _ _ (sym c.keeps_rule1.ensures ∙ c.if-keeps_rule1.true)
+    (on _ _ _ (sym c.keeps_rule2.ensures ∙ c.if-keeps_rule2.true)
+    (on _ _ _ (sym c.keeps_rule3.ensures ∙ c.if-keeps_rule3.true) (done _)))
+
+pub returns-then-keeps_rule2 : goal.returns-then-keeps_rule2
+returns-then-keeps_rule2 c =
+    on _ _ _ (sym c.keeps_rule1.ensures ∙ c.if-keeps_rule1.true)
+    (on _ _ _ (sym c.keeps_rule2.ensures ∙ c.if-keeps_rule2.true)
+    (here _ _ _ (sym c.keeps_rule3.ensures ∙ c.if-keeps_rule3.false)))
+
+pub returns-then-keeps_rule1 : goal.returns-then-keeps_rule1
+returns-then-keeps_rule1 c = on _ _ _ (sym c.keeps_rule1.ensures ∙ c.if-keeps_rule1.true) (here _ _ _ (sym c.keeps_rule2.ensures ∙ c.if-keeps_rule2.false))
+
+pub returns : goal.returns
+returns c = here _ _ _ (sym c.keeps_rule1.ensures ∙ c.if-keeps_rule1.false)

@@ -1,0 +1,13 @@
+-- `scan::sending_in` meets its contract: in the loop the circuits before `c` that the mask has not have nothing to go.
+use Prim.Native.Nat.{ℕ, ◌-◌}
+use mathlib.Core.Path.{◌≡◌}
+use native.Mathlib.Omega.{arith}
+use Rattle.network.specs.Registers.{reg, to_go_row}
+use Rattle.scan.proofs.ScanLaws.{Gathered, gathered_start, gathered_more, gathered_done}
+use Rattle.scan.proofs.sending_in.Given as goal
+
+abbrev pub invariant-loop-c : goal.invariant-loop-c
+invariant-loop-c l = Gathered (λ n. reg l.s to_go_row n ≡ 0) l.count l.mask l.c
+
+abbrev pub decreases-loop-c : goal.decreases-loop-c
+decreases-loop-c l = l.count - l.c
