@@ -1,0 +1,18 @@
+-- `soundness::extras_sound` meets its contract: without long links no register is there; in the loop every one before `k` is sound.
+use Prim.Native.Nat.{◌≤◌, ◌*◌, ◌-◌}
+use mathlib.Core.Bool.{true}
+use mathlib.Core.Path.{◌≡◌, sym}
+use native.Mathlib.Omega.{arith}
+use Rattle.words.specs.Tests.{all}
+use Rattle.words.proofs.AllLaws.{all_none}
+use Rattle.sheet.specs.Sheet.{nodes}
+use Rattle.network.specs.Registers.{sheet_in, row_words}
+use Rattle.soundness.specs.Sound.{extra_sound}
+use Rattle.soundness.proofs.SoundnessLaws.{extras_short, long_is, count_inputs, tested_more, tested_fails, tested_all}
+use Rattle.soundness.proofs.extras_sound.Given as goal
+
+abbrev pub invariant-loop-k : goal.invariant-loop-k
+invariant-loop-k l = (l.count ≡ nodes (sheet_in l.s) * 5) × (l.count ≤ row_words) × (l.k ≤ l.count) × (all l.k (extra_sound l.s) ≡ true)
+
+abbrev pub decreases-loop-k : goal.decreases-loop-k
+decreases-loop-k l = l.count - l.k
