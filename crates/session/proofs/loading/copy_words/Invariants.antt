@@ -1,0 +1,10 @@
+-- `session::loading::copy_words` meets its contract: each turn copies one more word to its place.
+use Rattle.std.proofs.Common.{◌-◌, length, arith}
+use Rattle.session.proofs.LoadingLaws.{Copied, copy_start, copy_more, copy_done}
+use Rattle.session.proofs.loading.copy_words.Given as goal
+
+abbrev pub invariant-loop-k : goal.invariant-loop-k
+invariant-loop-k l = Copied l.initial.s l.s l.at l.from l.k
+
+abbrev pub decreases-loop-k : goal.decreases-loop-k
+decreases-loop-k l = length l.from - l.k
