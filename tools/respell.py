@@ -33,6 +33,9 @@ BY_HAND = {
 
 # Names that port.py had turned already and that fall together with one turned here, each in its file.
 IN_FILE = {
+    "crates/network/proofs/QuietLaws.antt": {"empty-at": "empty_place"},
+    "crates/sheet/proofs/ServedLaws.antt": {"mark_at": "mark_within"},
+    "crates/isolation/proofs/Reckoning/SenderFollowed.antt": {"opened_now": "opened_now_is"},
     "crates/timetable/proofs/TimetableLaws.antt": {"in_order": "in_order_when"},
     "crates/machine/proofs/JoinLaws.antt": {"memory_word": "memory_word_is"},
     "crates/machine/proofs/CarryLaws.antt": {"memory_word": "memory_word_is"},
@@ -40,7 +43,7 @@ IN_FILE = {
 
 TOKEN = re.compile(r"[^\s(){}\[\];,.|`\"@:\u03bb]+")
 HEAD = re.compile(r"^((?:pub |private |unfoldable |abbrev |opaque )*)([A-Za-z][^\s(){}\[\];,.:]*)\s*:\s")
-FIELD = re.compile(r"^\s+(?:pub )?([A-Za-z][^\s(){}\[\];,.:]*)\s*:\s")
+FIELD = re.compile(r"^\s+(?:pub |private |unfoldable |abbrev |opaque )*([A-Za-z][^\s(){}\[\];,.:]*)\s*:\s")
 
 
 def snake(name):

@@ -203,8 +203,8 @@ module _ (room : ℕ) (near z : List ℕ) (ends stride : ℕ) (e : Entry) (p : P
   walk left node entry delay rest = follow left (columns z) (rows z) (is_long z) node entry delay rest
 
   -- the cycles of the hops between a node and the destination
-  abbrev spanTo : ℕ → ℕ
-  spanTo node = span_between (columns z) (rows z) (is_long z) node (destination_of z e.circuit)
+  abbrev span_to : ℕ → ℕ
+  span_to node = span_between (columns z) (rows z) (is_long z) node (destination_of z e.circuit)
 
   -- the walk has followed the route: so many hops are behind it, the wires up to there are taken, and the mask is that of the next wire. The
   -- cycles that are left do not lead to the destination from the node before
@@ -217,8 +217,8 @@ module _ (room : ℕ) (near z : List ℕ) (ends stride : ℕ) (e : Entry) (p : P
     pub spent : router_cycles * hops + vertical + left ≡ circuit_span z e.circuit
     pub mask_is : mask ≡ slot_mask (e.offset % 32 + (router_cycles + (router_cycles * hops + vertical))) e.size
     pub taking : Taking (row_places stride) e.size e.offset start table uses
-    pub enough : left ≤ spanTo node
-    pub onward : back < 4 → left < spanTo (neighbour_of (columns z) (rows z) node back)
+    pub enough : left ≤ span_to node
+    pub onward : back < 4 → left < span_to (neighbour_of (columns z) (rows z) node back)
 
   -- the walk stands at the first wire of a node, and has followed the route up to there, or too few cycles are left
   pub record Walking (start table : List ℕ) (at back left rest mask : ℕ) : Type 0 where
@@ -226,7 +226,7 @@ module _ (room : ℕ) (near z : List ℕ) (ends stride : ℕ) (e : Entry) (p : P
     pub here : InGrid (columns z) (rows z) node
     pub at_is : at ≡ node * wires_per_node
     pub same_length : length table ≡ length start
-    pub way : Following start table node back left rest mask ⊎ (left < spanTo node)
+    pub way : Following start table node back left rest mask ⊎ (left < span_to node)
 
   behind_none : (r : Route) → r ≡ behind [] 0 0 r
   behind_none (leads uses node hops vertical) = ap₂ (λ (a b : ℕ). leads uses node a b) (sym (add-zero hops)) (sym (add-zero vertical))
@@ -303,7 +303,7 @@ module _ (room : ℕ) (near z : List ℕ) (ends stride : ℕ) (e : Entry) (p : P
       by_few : by < 4
       by_few = mod-lt rest (zero-lt-suc 3)
 
-      nearer : spanTo w.node ≤ spanTo to + (3 + link)
+      nearer : span_to w.node ≤ span_to to + (3 + link)
       unfolding hop_cycles
       nearer = omega (arith, l, span_step (columns z) (rows z) (is_long z) w.node (destination_of z e.circuit) by w.here p.joined.destination_inside by_few)
 
@@ -338,12 +338,12 @@ module _ (room : ℕ) (near z : List ℕ) (ends stride : ℕ) (e : Entry) (p : P
             taking = taken_more g after q by (side w.node by) f refl h ok;
             enough = omega (arith, g.enough, nearer, b);
             onward = λ c.
-                omega (arith, g.enough, b, ap spanTo (neighbour_back w.here by by_few));
+                omega (arith, g.enough, b, ap span_to (neighbour_back w.here by by_few));
           }
 
       -- and back by that side it has too few cycles left
-      strays : Following start table w.node back left rest mask → by ≡ back → left - (3 + link) < spanTo to
-      strays g c = omega (arith, g.onward (omega (arith, c, by_few)), ap (λ (x : ℕ). spanTo (neighbour_of (columns z) (rows z) w.node x)) c)
+      strays : Following start table w.node back left rest mask → by ≡ back → left - (3 + link) < span_to to
+      strays g c = omega (arith, g.onward (omega (arith, c, by_few)), ap (λ (x : ℕ). span_to (neighbour_of (columns z) (rows z) w.node x)) c)
 
       pub walking_more : Walking start after next ((rest % 4 + 2) % 4) (left - (3 + link)) (rest / 4) (mask * 2 ^ shift % 2 ^ 64)
       walking_more = record {
@@ -356,7 +356,7 @@ module _ (room : ℕ) (near z : List ℕ) (ends stride : ℕ) (e : Entry) (p : P
         where
           turns : Following start table w.node back left rest mask → Dec (by ≡ back)
               → Following start after to ((rest % 4 + 2) % 4) (left - (3 + link)) (rest / 4) (mask * 2 ^ shift % 2 ^ 64)
-              ⊎ (left - (3 + link) < spanTo to)
+              ⊎ (left - (3 + link) < span_to to)
           turns g (yes c) = inr (strays g c)
           turns g (no ne) = inl (follows g ne)
 
@@ -391,8 +391,8 @@ module _ (room : ℕ) (near z : List ℕ) (ends stride : ℕ) (e : Entry) (p : P
       pub walking_end : FollowedFree start after z stride e
       walking_end = ⊎_elim followed (λ c. absurd (let y : ⊥ = omega (arith, none, c, at_end_is) in y)) w.way
         where
-          at_end_is : spanTo w.node ≡ 0
-          at_end_is = ap spanTo arrived ∙ span_none (columns z) (rows z) (is_long z) (destination_of z e.circuit) p.joined.destination_inside
+          at_end_is : span_to w.node ≡ 0
+          at_end_is = ap span_to arrived ∙ span_none (columns z) (rows z) (is_long z) (destination_of z e.circuit) p.joined.destination_inside
 
   -- the source's wire, before the walk
   abbrev first : Use

@@ -154,20 +154,20 @@ neighbour_few cols rows node side next g e =
 
 -- the cycles of the hops between two nodes, and that they are few
 module _ (cols count source destination : ℕ) where
-  abbrev pub spanBy : Bool → ℕ
-  spanBy long =
+  abbrev pub span_by : Bool → ℕ
+  span_by long =
       router_cycles * distance_of cols count source destination + pick long (shorter_way count (source / cols) (destination / cols)) 0
 
   pub span_long : {long : Bool} {far down : ℕ} → long ≡ true → far ≡ distance_of cols count source destination
-      → down ≡ shorter_way count (source / cols) (destination / cols) → router_cycles * far + down ≡ spanBy long
+      → down ≡ shorter_way count (source / cols) (destination / cols) → router_cycles * far + down ≡ span_by long
   span_long {long} {far} {down} l d v =
       ap₂ (λ (a b : ℕ). router_cycles * a + b) d v
-      ∙ ap (λ (b : Bool). spanBy b) (sym l)
+      ∙ ap (λ (b : Bool). span_by b) (sym l)
 
   pub span_short : {long : Bool} {far : ℕ} → long ≡ false → far ≡ distance_of cols count source destination
-      → router_cycles * far ≡ spanBy long
+      → router_cycles * far ≡ span_by long
   span_short {long} {far} l d =
-      let none : spanBy false ≡ spanBy long = ap (λ (b : Bool). spanBy b) (sym l) in
+      let none : span_by false ≡ span_by long = ap (λ (b : Bool). span_by b) (sym l) in
       omega (arith, d, none)
 
   module _ (g : InGrid cols count source) (h : InGrid cols count destination) where
@@ -177,14 +177,14 @@ module _ (cols count source destination : ℕ) where
     pub far_few : {far : ℕ} → far ≡ distance_of cols count source destination → far ≤ 4
     far_few d = omega (arith, d, distance_most cols count source destination g h)
 
-    pub span_few : (long : Bool) {span : ℕ} → span ≡ spanBy long → span ≤ 15
+    pub span_few : (long : Bool) {span : ℕ} → span ≡ span_by long → span ≤ 15
     span_few true e = omega (arith, e, far_few refl, down_few refl)
     span_few false e = omega (arith, e, far_few refl)
 
 -- the same nodes of the same grid
 span_same : {cols count source destination cols₁ count₁ source₁ destination₁ : ℕ} {long long₁ : Bool} → cols ≡ cols₁ → count ≡ count₁
     → source ≡ source₁ → destination ≡ destination₁ → long ≡ long₁
-    → spanBy cols count source destination long ≡ spanBy cols₁ count₁ source₁ destination₁ long₁
+    → span_by cols count source destination long ≡ span_by cols₁ count₁ source₁ destination₁ long₁
 span_same x y p q l = cc
 
 -- the ends of a circuit as they were read
@@ -206,7 +206,7 @@ module _ (z : List ℕ) (f : Framed z) (r : rule4 z ≡ true) (k : ℕ) (h : k <
       )
 
   -- the number made of them and their span is small
-  pub ends_few : (long : Bool) (span : ℕ) → span ≡ spanBy cols count source destination long
+  pub ends_few : (long : Bool) (span : ℕ) → span ≡ span_by cols count source destination long
       → source * 6 + destination * 1536 + span * 65536 < 1048576
   ends_few long span s =
       let small = bounds ends_inside.0 in
@@ -214,11 +214,11 @@ module _ (z : List ℕ) (f : Framed z) (r : rule4 z ≡ true) (k : ℕ) (h : k <
       omega (arith, small.grid_high, ends_inside.0.inside, ends_inside.1.inside, few)
 
   -- and it is the circuit's
-  pub ends_word_is : (long : Bool) (span : ℕ) → long ≡ is_long z → span ≡ spanBy cols count source destination long
+  pub ends_word_is : (long : Bool) (span : ℕ) → long ≡ is_long z → span ≡ span_by cols count source destination long
       → source * 6 + destination * 1536 + span * 65536 ≡ ends_word z k
   unfolding ends_word circuit_span vertical_of
   ends_word_is long span l s =
-      let same : span ≡ spanBy (columns z) (rows z) (source_of z k) (destination_of z k) (is_long z) =
+      let same : span ≡ span_by (columns z) (rows z) (source_of z k) (destination_of z k) (is_long z) =
       s ∙ span_same x y source_is destination_is l in
       omega (arith, source_is, destination_is, same)
 

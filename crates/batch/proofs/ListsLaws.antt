@@ -14,7 +14,7 @@ use Rattle.words.proofs.TestLaws.{is=}
 use Rattle.session.specs.declared.Transfer.{Transfer}
 use Rattle.session.specs.Calls.{state_number, start_all_number, started_all, answers_all, start_all, after, answers_after, lend_state}
 use Rattle.session.proofs.NumberLaws.{list_passed}
-use Rattle.batch.specs.Lists.{transferAt, transfersOf, sameLengths, startListsNumber, listsState, listsAnswers}
+use Rattle.batch.specs.Lists.{transfer_at, transfers_of, same_lengths, start_lists_number, lists_state, lists_answers}
 use Rattle.batch.proofs.BatchLaws.{first_length, all_passes, all_kept, all_written}
 
 -- behind a number, a test that holds adds nothing
@@ -28,46 +28,46 @@ then_none a = go (a =? 0) refl
 
 module _ (circuits reads writes counts kinds : List ℕ) where
   abbrev made : List Transfer
-  made = transfersOf circuits reads writes counts kinds
+  made = transfers_of circuits reads writes counts kinds
 
   as_long : (s : List ℕ) (answerWords : ℕ) → start_all_number s (length circuits) answerWords ≡ start_all_number s (length made) answerWords
   as_long s answerWords = ap (λ k. start_all_number s k answerWords) (sym (first_length _ (length circuits)))
 
   -- the lists' number, from that of a list of transfers and from the test of their lengths
   pub lists_early : (s : List ℕ) (answerWords : ℕ) {n : ℕ} → n ≡ start_all_number s (length circuits) answerWords → (n ≡ 0 → ⊥)
-      → n ≡ startListsNumber circuits reads writes counts kinds s answerWords
-  unfolding startListsNumber
+      → n ≡ start_lists_number circuits reads writes counts kinds s answerWords
+  unfolding start_lists_number
   lists_early s answerWords e ne = then_first _ (e ∙ as_long s answerWords) ne
 
   pub lists_even : (s : List ℕ) (answerWords : ℕ) {n : ℕ} {b : Bool} → n ≡ start_all_number s (length circuits) answerWords → n ≡ 0
-      → b ≡ sameLengths circuits reads writes counts kinds → b ≡ true → 0 ≡ startListsNumber circuits reads writes counts kinds s answerWords
-  unfolding startListsNumber
+      → b ≡ same_lengths circuits reads writes counts kinds → b ≡ true → 0 ≡ start_lists_number circuits reads writes counts kinds s answerWords
+  unfolding start_lists_number
   lists_even s answerWords e z f t = then_next (sym (e ∙ as_long s answerWords) ∙ z) (unless_yes 21 (sym f ∙ t))
 
   pub lists_uneven : (s : List ℕ) (answerWords : ℕ) {n : ℕ} {b : Bool} → n ≡ start_all_number s (length circuits) answerWords → n ≡ 0
-      → b ≡ sameLengths circuits reads writes counts kinds → b ≡ false → 21 ≡ startListsNumber circuits reads writes counts kinds s answerWords
-  unfolding startListsNumber
+      → b ≡ same_lengths circuits reads writes counts kinds → b ≡ false → 21 ≡ start_lists_number circuits reads writes counts kinds s answerWords
+  unfolding start_lists_number
   lists_uneven s answerWords e z f t = then_next (sym (e ∙ as_long s answerWords) ∙ z) (unless_no 21 (sym f ∙ t))
 
   -- lists that are taken: of one length, and their transfers are taken
-  taken_both : (s : List ℕ) (answerWords : ℕ) {n : ℕ} → n ≡ startListsNumber circuits reads writes counts kinds s answerWords → n ≡ 0
-      → (start_all_number s (length made) answerWords ≡ 0) × (sameLengths circuits reads writes counts kinds ≡ true)
-  unfolding startListsNumber
+  taken_both : (s : List ℕ) (answerWords : ℕ) {n : ℕ} → n ≡ start_lists_number circuits reads writes counts kinds s answerWords → n ≡ 0
+      → (start_all_number s (length made) answerWords ≡ 0) × (same_lengths circuits reads writes counts kinds ≡ true)
+  unfolding start_lists_number
   taken_both s answerWords e z =
       let parts = then_zero _ _ (sym e ∙ z) in
       (parts.0, unless_zero 21 _ (omega arith) parts.1)
 
-  pub lists_passed : (s : List ℕ) (answerWords : ℕ) {n : ℕ} → n ≡ startListsNumber circuits reads writes counts kinds s answerWords → n ≡ 0
+  pub lists_passed : (s : List ℕ) (answerWords : ℕ) {n : ℕ} → n ≡ start_lists_number circuits reads writes counts kinds s answerWords → n ≡ 0
       → (state_number s ≡ 0) × (length circuits ≤ answerWords)
   lists_passed s answerWords e z =
       let taken = as_long s answerWords ∙ (taken_both s answerWords e z).0 in
       (all_passes s (length circuits) answerWords taken, (list_passed s (length circuits) answerWords taken).answered)
 
   -- what they leave
-  pub lists_kept : (s answers : List ℕ) {n : ℕ} → n ≡ startListsNumber circuits reads writes counts kinds s (length answers) → (n ≡ 0 → ⊥)
-      → (s ≡ listsState circuits reads writes counts kinds s (length answers)) × (answers ≡ listsAnswers circuits reads writes counts kinds s answers)
-  unfolding listsState listsAnswers startListsNumber
-  lists_kept s answers {n} e ne = go (sameLengths circuits reads writes counts kinds) e
+  pub lists_kept : (s answers : List ℕ) {n : ℕ} → n ≡ start_lists_number circuits reads writes counts kinds s (length answers) → (n ≡ 0 → ⊥)
+      → (s ≡ lists_state circuits reads writes counts kinds s (length answers)) × (answers ≡ lists_answers circuits reads writes counts kinds s answers)
+  unfolding lists_state lists_answers start_lists_number
+  lists_kept s answers {n} e ne = go (same_lengths circuits reads writes counts kinds) e
     where
       go : (b : Bool) → n ≡ (start_all_number s (length made) (length answers) then unless 21 b)
           → (s ≡ pick b (after (start_all made (length answers)) (lend_state s)).state s) × (answers ≡ pick b (answers_after s made answers) answers)
@@ -75,11 +75,11 @@ module _ (circuits reads writes counts kinds : List ℕ) where
       go false f = (refl, refl)
 
   pub lists_written : (s answers : List ℕ) {n : ℕ} {next written : List ℕ}
-      → n ≡ startListsNumber circuits reads writes counts kinds s (length answers) → n ≡ 0
+      → n ≡ start_lists_number circuits reads writes counts kinds s (length answers) → n ≡ 0
       → next ≡ started_all s made → written ≡ answers_all s made ++ drop (length circuits) answers
-      → (next ≡ listsState circuits reads writes counts kinds s (length answers))
-      × (written ≡ listsAnswers circuits reads writes counts kinds s answers)
-  unfolding listsState listsAnswers
+      → (next ≡ lists_state circuits reads writes counts kinds s (length answers))
+      × (written ≡ lists_answers circuits reads writes counts kinds s answers)
+  unfolding lists_state lists_answers
   lists_written s answers e z f g =
       let both = taken_both s (length answers) e z in
       let left = all_written made s answers refl both.0 f (g ∙ ap (λ k. answers_all s made ++ drop k answers) (sym (first_length _ (length circuits)))) in
@@ -87,5 +87,5 @@ module _ (circuits reads writes counts kinds : List ℕ) where
 
   -- a transfer of five words
   pub transfer_is : {a b c d e : ℕ} (i : ℕ) → a ≡ word circuits i → b ≡ word reads i → c ≡ word writes i → d ≡ word counts i → e ≡ word kinds i
-      → record { circuit = a; read = b; write = c; count = d; kind = e } ≡ transferAt circuits reads writes counts kinds i
+      → record { circuit = a; read = b; write = c; count = d; kind = e } ≡ transfer_at circuits reads writes counts kinds i
   transfer_is i p q r s t = rw p (rw q (rw r (rw s (rw t refl))))

@@ -13,29 +13,29 @@ first_of (suc n) at = first_of n at ++ (at n ∷ [])
 
 module _ (circuits reads writes counts kinds : List ℕ) where
   -- a transfer is a word of each list, at one place
-  abbrev pub transferAt : ℕ → Transfer
-  transferAt i =
+  abbrev pub transfer_at : ℕ → Transfer
+  transfer_at i =
       record { circuit = word circuits i; read = word reads i; write = word writes i; count = word counts i; kind = word kinds i }
 
   -- as many as the list of circuits has words
-  abbrev pub transfersOf : List Transfer
-  transfersOf = first_of (length circuits) transferAt
+  abbrev pub transfers_of : List Transfer
+  transfers_of = first_of (length circuits) transfer_at
 
   -- the five lists are equally long
-  unfoldable pub sameLengths : Bool
-  sameLengths =
+  unfoldable pub same_lengths : Bool
+  same_lengths =
       length reads =? length circuits
       and length writes =? length circuits
       and length counts =? length circuits
       and length kinds =? length circuits
 
   -- 12, 13 and 21 as that list of transfers answers them, then lists of different lengths (21)
-  unfoldable pub startListsNumber : List ℕ → ℕ → ℕ
-  startListsNumber s answerWords = number (start_all transfersOf answerWords) (lend_state s) then unless 21 sameLengths
+  unfoldable pub start_lists_number : List ℕ → ℕ → ℕ
+  start_lists_number s answerWords = number (start_all transfers_of answerWords) (lend_state s) then unless 21 same_lengths
 
   -- the state afterwards, and the answer words: as that list leaves them, and as they were where the lengths differ
-  unfoldable pub listsState : List ℕ → ℕ → List ℕ
-  listsState s answerWords = pick sameLengths (after (start_all transfersOf answerWords) (lend_state s)).state s
+  unfoldable pub lists_state : List ℕ → ℕ → List ℕ
+  lists_state s answerWords = pick same_lengths (after (start_all transfers_of answerWords) (lend_state s)).state s
 
-  unfoldable pub listsAnswers : List ℕ → List ℕ → List ℕ
-  listsAnswers s answers = pick sameLengths (answers_after s transfersOf answers) answers
+  unfoldable pub lists_answers : List ℕ → List ℕ → List ℕ
+  lists_answers s answers = pick same_lengths (answers_after s transfers_of answers) answers

@@ -2,7 +2,7 @@
 ghost use Rattle.std.specs.Prelude.{◌≡◌, ◌++◌, ◌≤◌, length, drop};
 ghost use Rattle.session.specs.Calls.{state_number, started_all, answers_all};
 ghost use Rattle.session.specs.Answers.{answer_of};
-ghost use Rattle.batch.specs.Lists.{transferAt, transfersOf, sameLengths, startListsNumber, listsState, listsAnswers};
+ghost use Rattle.batch.specs.Lists.{transfer_at, transfers_of, same_lengths, start_lists_number, lists_state, lists_answers};
 
 use crate::{start_all_number, start_one};
 use session::{Answer, Transfer};
@@ -15,7 +15,7 @@ fn same_lengths(
     counts: &[u32],
     kinds: &[u32],
 ) -> bool
-    ensures { result ≡ sameLengths circuits.now reads.now writes.now counts.now kinds.now }
+    ensures { result ≡ same_lengths circuits.now reads.now writes.now counts.now kinds.now }
 {
     let n = circuits.len();
     if reads.len() != n {
@@ -40,7 +40,7 @@ fn start_lists_number(
     kinds: &[u32],
     answers: usize,
 ) -> u32
-    ensures { result ≡ startListsNumber
+    ensures { result ≡ start_lists_number
         circuits.now reads.now writes.now counts.now kinds.now
         s.now answers }
 {
@@ -63,7 +63,7 @@ fn transfer_at(
     kinds: &[u32],
     i: usize,
 ) -> Transfer
-    ensures { result ≡ transferAt circuits.now reads.now writes.now counts.now kinds.now i }
+    ensures { result ≡ transfer_at circuits.now reads.now writes.now counts.now kinds.now i }
 {
     Transfer {
         circuit: words::get(circuits, i),
@@ -85,9 +85,9 @@ fn start_words(
     answers: &mut [u32],
 )
     requires { (state_number s.old ≡ 0) × (length circuits.now ≤ length answers.old) }
-    ensures state { s.new ≡ started_all s.old (transfersOf
+    ensures state { s.new ≡ started_all s.old (transfers_of
         circuits.now reads.now writes.now counts.now kinds.now) }
-    ensures answers { answers.new ≡ answers_all s.old (transfersOf
+    ensures answers { answers.new ≡ answers_all s.old (transfers_of
         circuits.now reads.now writes.now counts.now kinds.now)
         ++ drop (length circuits.now) answers.old }
 {
@@ -109,13 +109,13 @@ pub fn start_lists(
     kinds: &[u32],
     answers: &mut [u32],
 ) -> Answer
-    ensures answer { result ≡ answer_of (startListsNumber
+    ensures answer { result ≡ answer_of (start_lists_number
         circuits.now reads.now writes.now counts.now kinds.now
         s.old (length answers.old)) }
-    ensures state { s.new ≡ listsState
+    ensures state { s.new ≡ lists_state
         circuits.now reads.now writes.now counts.now kinds.now
         s.old (length answers.old) }
-    ensures answers { answers.new ≡ listsAnswers
+    ensures answers { answers.new ≡ lists_answers
         circuits.now reads.now writes.now counts.now kinds.now
         s.old answers.old }
 {

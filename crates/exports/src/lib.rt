@@ -8,7 +8,7 @@ ghost use Rattle.checker.specs.Answers.{entries_number};
 ghost use Rattle.network.specs.Registers.{state_words};
 ghost use Rattle.session.specs.Calls.{lend, lend_state, load, start, start_all, store, order, cycle, number, after, answers_after};
 ghost use Rattle.session.specs.Answers.{fetch_answer, left_answer, period_answer, landed_answer};
-ghost use Rattle.batch.specs.Lists.{startListsNumber, listsState, listsAnswers};
+ghost use Rattle.batch.specs.Lists.{start_lists_number, lists_state, lists_answers};
 ghost use Rattle.timetable.specs.Timetable.{hours_answer};
 ghost use Rattle.exports.specs.Packed.{packed, entries_place, entries_field, chosen, packed_found, packed_landed, hours_field, packed_hours};
 
@@ -155,13 +155,13 @@ pub extern "C" fn argo_start_lists(
     kinds: &[u32],
     answers: &mut [u32],
 ) -> u32
-    ensures answer { result ≡ startListsNumber
+    ensures answer { result ≡ start_lists_number
         circuits.now reads.now writes.now counts.now kinds.now
         state.old (length answers.old) }
-    ensures state { state.new ≡ listsState
+    ensures state { state.new ≡ lists_state
         circuits.now reads.now writes.now counts.now kinds.now
         state.old (length answers.old) }
-    ensures answers { answers.new ≡ listsAnswers
+    ensures answers { answers.new ≡ lists_answers
         circuits.now reads.now writes.now counts.now kinds.now
         state.old answers.old }
 {

@@ -15,7 +15,7 @@ use Rattle.network.specs.View.{memory_output}
 use Rattle.network.specs.Cycle.{output_for}
 use Rattle.network.specs.Inbound.{bound_for}
 use Rattle.network.proofs.StageLaws.{output_for_small}
-use Rattle.network.proofs.BoundLaws.{bound_memory, bound_none, fromNext, bound_side}
+use Rattle.network.proofs.BoundLaws.{bound_memory, bound_none, from_next, bound_side}
 
 -- the header w at an output of a node, so many routers left, on its way to what is bound
 pub record Walking (bound : ℕ) (z : List ℕ) (cols row_count node output w further : ℕ) : Type 0 where
@@ -45,7 +45,7 @@ module _ {bound : ℕ} {z : List ℕ} {cols row_count node output w further : �
 
   -- what the next router has, as it was worked out
   at_next : {next onto v : ℕ} → next ≡ neighbour_of (columns z) (rows z) node output → onto ≡ output_for (opposite_of output) w → v ≡ shifted_word w
-      → (m : ℕ) → bound_for m z next onto v ≡ fromNext z node output w m
+      → (m : ℕ) → bound_for m z next onto v ≡ from_next z node output w m
   at_next n o h m = cc
 
   -- it goes on there

@@ -68,8 +68,8 @@ start_on transfer r = record {
 
 module _ (z : List ℕ) (circuit : ℕ) where
   -- a cycle, which begins with the calendar k: its slots are those of the schedule in force
-  abbrev pub cycleOn : Calendar → Reckoned → Reckoned
-  cycleOn k r = record {
+  abbrev pub cycle_on : Calendar → Reckoned → Reckoned
+  cycle_on k r = record {
     transfer = r.transfer;
     sent = record {
       gone = r.sent.gone + pick (leaves_in r k.cycles) 1 0;
@@ -84,8 +84,8 @@ module _ (z : List ℕ) (circuit : ℕ) where
   }
 
   -- a store at the circuit's source or destination
-  abbrev pub storeOn : ℕ → ℕ → ℕ → Reckoned → Reckoned
-  storeOn node address new r = record {
+  abbrev pub store_on : ℕ → ℕ → ℕ → Reckoned → Reckoned
+  store_on node address new r = record {
     transfer = r.transfer;
     sent = r.sent;
     words = record {
@@ -95,15 +95,15 @@ module _ (z : List ℕ) (circuit : ℕ) where
   }
 
   -- an event, before which the calendar was k; an order changes the calendar alone
-  abbrev pub reckonEvent : Event → Calendar → Reckoned → Reckoned
-  reckonEvent (start_done c transfer) k r = pick (c =? circuit) (start_on transfer r) r
-  reckonEvent (store_done node address new) k r = storeOn node address new r
-  reckonEvent (order_done schedule period_number) k r = r
-  reckonEvent cycle_done k r = cycleOn k r
+  abbrev pub reckon_event : Event → Calendar → Reckoned → Reckoned
+  reckon_event (start_done c transfer) k r = pick (c =? circuit) (start_on transfer r) r
+  reckon_event (store_done node address new) k r = store_on node address new r
+  reckon_event (order_done schedule period_number) k r = r
+  reckon_event cycle_done k r = cycle_on k r
 
   -- directly after the load: nothing owed, nothing left, the memories as lent
-  abbrev pub atLoad : List ℕ → Reckoned
-  atLoad memory = record {
+  abbrev pub at_load : List ℕ → Reckoned
+  at_load memory = record {
     transfer = record { read_address = 0; write_address = 0; count = 0; kind = 0 };
     sent = record { gone = 0; packet_words = λ t. 0; leaving = λ t. none };
     words = record {
@@ -113,10 +113,10 @@ module _ (z : List ℕ) (circuit : ℕ) where
   }
 
   -- some events, before which the calendar was k
-  abbrev pub reckonAll : List Event → Calendar → Reckoned → Reckoned
-  reckonAll [] k r = r
-  reckonAll (e ∷ es) k r = reckonAll es (calendar_event z e k) (reckonEvent e k r)
+  abbrev pub reckon_all : List Event → Calendar → Reckoned → Reckoned
+  reckon_all [] k r = r
+  reckon_all (e ∷ es) k r = reckon_all es (calendar_event z e k) (reckon_event e k r)
 
 -- the reckoning of a circuit after some events since the load, from the sheet and the memory at load
 abbrev pub reckon : List ℕ → ℕ → List ℕ → List Event → Reckoned
-reckon z circuit memory es = reckonAll z circuit es calendar_at_load (atLoad z circuit memory)
+reckon z circuit memory es = reckon_all z circuit es calendar_at_load (at_load z circuit memory)

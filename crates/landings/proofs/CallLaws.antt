@@ -156,13 +156,13 @@ module _ (bytes s m : List ℕ) {sheet : List ℕ} (z : sheet ≡ sheet_of bytes
   pub load_passes : n ≡ 0 → state_number s' ≡ 0
   load_passes q = ap state_number load_state ∙ memory_state _ m (ready_loaded (sheet_of bytes) s m (sym load_number_is ∙ q))
 
-  abbrev all-starts : Called
-  all-starts = starts_on bytes (after (load (sheet_of bytes)) (lend s m)).state (transfers bytes)
+  abbrev all_starts : Called
+  all_starts = starts_on bytes (after (load (sheet_of bytes)) (lend s m)).state (transfers bytes)
 
   calls_refused : (n ≡ 0 → ⊥) → calls_on bytes s m ≡ stands n s'
   unfolding calls_on
   calls_refused ne =
-      ap (λ (t : Bool). pick t all-starts (called (load (sheet_of bytes)) (lend s m))) (no= (λ q. ne (load_number_is ∙ q)))
+      ap (λ (t : Bool). pick t all_starts (called (load (sheet_of bytes)) (lend s m))) (no= (λ q. ne (load_number_is ∙ q)))
       ∙ ap₂ stands (sym load_number_is) (sym load_state)
 
   pub call_refused : (n ≡ 0 → ⊥) → (n ≡ (calls_on bytes s m).refusal) × (s' ≡ (calls_on bytes s m).state)
@@ -173,7 +173,7 @@ module _ (bytes s m : List ℕ) {sheet : List ℕ} (z : sheet ≡ sheet_of bytes
   unfolding calls_on
   calls_started q =
       ap (λ (x : List ℕ). starts_on bytes x (transfers bytes)) load_state
-      ∙ sym (ap (λ (t : Bool). pick t all-starts (called (load (sheet_of bytes)) (lend s m))) (yes= (sym load_number_is ∙ q)))
+      ∙ sym (ap (λ (t : Bool). pick t all_starts (called (load (sheet_of bytes)) (lend s m))) (yes= (sym load_number_is ∙ q)))
 
   pub call_started : (count : ℕ) {r : ℕ} {s'' : List ℕ}
       → n ≡ 0

@@ -44,16 +44,16 @@ module _ (z : List ℕ) (node output w : ℕ) where
   bound_none ne = rw (no= ne, bound_for) refl
 
   -- on a side's output it comes where it comes from the next router
-  abbrev pub fromNext : ℕ → ℕ
-  fromNext further =
+  abbrev pub from_next : ℕ → ℕ
+  from_next further =
       bound_for further z (neighbour_of (columns z) (rows z) node output) (output_for (opposite_of output) w) (shifted_word w)
 
-  pub bound_side : (further : ℕ) → (output ≡ memory_output → ⊥) → bound_for (suc further) z node output w ≡ fromNext further
+  pub bound_side : (further : ℕ) → (output ≡ memory_output → ⊥) → bound_for (suc further) z node output w ≡ from_next further
   unfolding bound_for
   bound_side further ne = rw (no= ne, bound_for) refl
 
   -- so two numbers of routers that agree at the next router agree here
-  both_next : (more fewer : ℕ) → fromNext more ≡ fromNext fewer
+  both_next : (more fewer : ℕ) → from_next more ≡ from_next fewer
       → bound_for (suc more) z node output w ≡ bound_for (suc fewer) z node output w
   both_next more fewer h = go (ℕ_discrete output memory_output)
     where

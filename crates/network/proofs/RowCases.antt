@@ -12,7 +12,7 @@ use Rattle.words.proofs.AllLaws.{all_at}
 use Rattle.network.specs.Registers.{row_count, clock_row, clock_words, link_mark, link_word, head_mark, head_word, choice_row, latch_row, out_mark}
 use Rattle.network.specs.Registers.{out_word, receive_mark, receive_kind, receive_address, landing_mark, landing_kind, landing_address, landing_word}
 use Rattle.network.specs.Registers.{left_row, read_row, write_row, kind_row, to_go_row, extra_mark, extra_word}
-use Rattle.network.specs.Inner.Machine.{Row, register_row, row_in, next_rows, five_aNode, one_aNode, one_aCircuit}
+use Rattle.network.specs.Inner.Machine.{Row, register_row, row_in, next_rows, five_a_node, one_a_node, one_a_circuit}
 
 infixr 20 ◌also◌
 infixr 20 ◌besides◌
@@ -56,10 +56,10 @@ by_row s m P each row l = each_found P (next_rows s m) each row (all_at (listed 
 -- how many registers of a row the sheet has
 pub record Extent (s : List ℕ) (x : Row) : Type 0 where
   pub clock : x.number ≡ clock_row → x.extent ≡ clock_words
-  pub router : link_mark ≤ x.number → x.number ≤ out_word → x.extent ≡ five_aNode s
-  pub node : receive_mark ≤ x.number → x.number ≤ landing_word → x.extent ≡ one_aNode s
-  pub circuit : left_row ≤ x.number → x.number ≤ to_go_row → x.extent ≡ one_aCircuit s
-  pub extra : extra_mark ≤ x.number → x.number ≤ extra_word → x.extent ≡ five_aNode s
+  pub router : link_mark ≤ x.number → x.number ≤ out_word → x.extent ≡ five_a_node s
+  pub node : receive_mark ≤ x.number → x.number ≤ landing_word → x.extent ≡ one_a_node s
+  pub circuit : left_row ≤ x.number → x.number ≤ to_go_row → x.extent ≡ one_a_circuit s
+  pub extra : extra_mark ≤ x.number → x.number ≤ extra_word → x.extent ≡ five_a_node s
 
 -- a row of the clock, of the routers, of the nodes, of the circuits and of the extra registers
 module _ {s : List ℕ} (row : ℕ) {next : ℕ → ℕ} where
@@ -72,7 +72,7 @@ module _ {s : List ℕ} (row : ℕ) {next : ℕ → ℕ} where
     extra = λ c d. absurd (omega arith);
   }
 
-  of_router : link_mark ≤ row → row ≤ out_word → Extent s (register_row row (five_aNode s) next)
+  of_router : link_mark ≤ row → row ≤ out_word → Extent s (register_row row (five_a_node s) next)
   of_router a b = record {
     clock = λ c. absurd (omega arith);
     router = λ c d. refl;
@@ -81,7 +81,7 @@ module _ {s : List ℕ} (row : ℕ) {next : ℕ → ℕ} where
     extra = λ c d. absurd (omega arith);
   }
 
-  of_node : receive_mark ≤ row → row ≤ landing_word → Extent s (register_row row (one_aNode s) next)
+  of_node : receive_mark ≤ row → row ≤ landing_word → Extent s (register_row row (one_a_node s) next)
   of_node a b = record {
     clock = λ c. absurd (omega arith);
     router = λ c d. absurd (omega arith);
@@ -90,7 +90,7 @@ module _ {s : List ℕ} (row : ℕ) {next : ℕ → ℕ} where
     extra = λ c d. absurd (omega arith);
   }
 
-  of_circuit : left_row ≤ row → row ≤ to_go_row → Extent s (register_row row (one_aCircuit s) next)
+  of_circuit : left_row ≤ row → row ≤ to_go_row → Extent s (register_row row (one_a_circuit s) next)
   of_circuit a b = record {
     clock = λ c. absurd (omega arith);
     router = λ c d. absurd (omega arith);
@@ -99,7 +99,7 @@ module _ {s : List ℕ} (row : ℕ) {next : ℕ → ℕ} where
     extra = λ c d. absurd (omega arith);
   }
 
-  of_extra : extra_mark ≤ row → row ≤ extra_word → Extent s (register_row row (five_aNode s) next)
+  of_extra : extra_mark ≤ row → row ≤ extra_word → Extent s (register_row row (five_a_node s) next)
   of_extra a b = record {
     clock = λ c. absurd (omega arith);
     router = λ c d. absurd (omega arith);
@@ -146,16 +146,16 @@ module _ (s m : List ℕ) (row : ℕ) (l : row < row_count) where
   pub clock_extent : row ≡ clock_row → (row_in (next_rows s m) row).extent ≡ clock_words
   clock_extent e = extents.clock (same ∙ e)
 
-  pub router_extent : link_mark ≤ row → row ≤ out_word → (row_in (next_rows s m) row).extent ≡ five_aNode s
+  pub router_extent : link_mark ≤ row → row ≤ out_word → (row_in (next_rows s m) row).extent ≡ five_a_node s
   router_extent a b = extents.router (omega (arith, same)) (omega (arith, same))
 
-  pub node_extent : receive_mark ≤ row → row ≤ landing_word → (row_in (next_rows s m) row).extent ≡ one_aNode s
+  pub node_extent : receive_mark ≤ row → row ≤ landing_word → (row_in (next_rows s m) row).extent ≡ one_a_node s
   node_extent a b = extents.node (omega (arith, same)) (omega (arith, same))
 
-  pub circuit_extent : left_row ≤ row → row ≤ to_go_row → (row_in (next_rows s m) row).extent ≡ one_aCircuit s
+  pub circuit_extent : left_row ≤ row → row ≤ to_go_row → (row_in (next_rows s m) row).extent ≡ one_a_circuit s
   circuit_extent a b = extents.circuit (omega (arith, same)) (omega (arith, same))
 
-  pub extra_extent : extra_mark ≤ row → row ≤ extra_word → (row_in (next_rows s m) row).extent ≡ five_aNode s
+  pub extra_extent : extra_mark ≤ row → row ≤ extra_word → (row_in (next_rows s m) row).extent ≡ five_a_node s
   extra_extent a b = extents.extra (omega (arith, same)) (omega (arith, same))
 
 -- a statement about each row from one to another

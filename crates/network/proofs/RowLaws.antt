@@ -22,7 +22,7 @@ use Rattle.network.specs.Registers.{landing_address, landing_word, left_row, rea
 use Rattle.network.specs.Seen.{seen_sender}
 use Rattle.network.specs.Inner.Machine.{next_sender, next_link_mark, next_link_word, next_head_word, next_choice, next_latch, next_out_mark, next_out_word, next_extra_mark, next_extra_word}
 use Rattle.network.specs.Inner.Machine.{memory_word, next_receive_mark, next_receive_kind, next_receive_address, next_landing_mark, turns, is_due}
-use Rattle.network.specs.Inner.Machine.{next_clock, five_aNode, row_in, next_rows, next_in_row, exists, next_word, next_state}
+use Rattle.network.specs.Inner.Machine.{next_clock, five_a_node, row_in, next_rows, next_in_row, exists, next_word, next_state}
 
 -- the one law of the table: register k of a row, where the sheet has it and where it has not
 module _ (s m : List ℕ) (row k : ℕ) (rl : row < row_count) (kl : k < row_words) where
@@ -82,7 +82,7 @@ router_after s m few node i nl il =
     let k : ℕ = at node i in
     let n : k / 5 ≡ node = node_at node i il in
     let j : k % 5 ≡ i = input_at node i il in
-    let l : k < five_aNode s = omega arith in
+    let l : k < five_a_node s = omega arith in
     let kl : k < row_words = omega arith in
     record {
       link_mark_is = next_row s m link_mark k (omega arith) kl l ∙ ap₂ (next_link_mark s) n j;
@@ -181,17 +181,17 @@ clock_same s t sheet same k l =
 module _ (s m : List ℕ) (k : ℕ) (kl : k < row_words) (none : has_extra (sheet_in s) (k % 5) ≡ false) where
   mark_kept : reg (next_state s m) extra_mark k ≡ reg s extra_mark k
   unfolding next_in_row row_in next_rows ◌=?◌ next_extra_mark
-  mark_kept = go (dec_lt k (five_aNode s))
+  mark_kept = go (dec_lt k (five_a_node s))
     where
-      go : Dec (k < five_aNode s) → reg (next_state s m) extra_mark k ≡ reg s extra_mark k
+      go : Dec (k < five_a_node s) → reg (next_state s m) extra_mark k ≡ reg s extra_mark k
       go (yes l) = next_row s m extra_mark k (omega arith) kl l ∙ ap (λ (b : Bool). pick b (reg s out_mark k) (reg s extra_mark k)) none
       go (no l) = next_off s m extra_mark k (omega arith) kl (omega (arith, l))
 
   word_kept : reg (next_state s m) extra_word k ≡ reg s extra_word k
   unfolding next_in_row row_in next_rows ◌=?◌ next_extra_word
-  word_kept = go (dec_lt k (five_aNode s))
+  word_kept = go (dec_lt k (five_a_node s))
     where
-      go : Dec (k < five_aNode s) → reg (next_state s m) extra_word k ≡ reg s extra_word k
+      go : Dec (k < five_a_node s) → reg (next_state s m) extra_word k ≡ reg s extra_word k
       go (yes l) = next_row s m extra_word k (omega arith) kl l ∙ ap (λ (b : Bool). pick b (reg s out_word k) (reg s extra_word k)) none
       go (no l) = next_off s m extra_word k (omega arith) kl (omega (arith, l))
 

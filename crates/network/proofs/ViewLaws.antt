@@ -17,8 +17,8 @@ use Rattle.torus.specs.Torus.{opposite_of}
 use Rattle.sheet.specs.Sheet.{memory_words, circuits, nodes}
 use Rattle.sheet.specs.Slots.{source_of}
 use Rattle.network.specs.View.{Cell, empty, payload, source_input, Sender, Receiver, View, no_order, pending}
-use Rattle.network.specs.Cycle.{advance, choose, hold, goes_to, asks, join, gather, has_extra, link_end, step_routers, Move, rests, opens, sends, sent_cell, moveNow}
-use Rattle.network.specs.Cycle.{headNow, readNow, sentNow, sourceWire, landing_of, step_receiver, stored_by, next_number, schedule_after, order_after}
+use Rattle.network.specs.Cycle.{advance, choose, hold, goes_to, asks, join, gather, has_extra, link_end, step_routers, Move, rests, opens, sends, sent_cell, move_now}
+use Rattle.network.specs.Cycle.{head_now, read_now, sent_now, source_wire, landing_of, step_receiver, stored_by, next_number, schedule_after, order_after}
 use Rattle.network.specs.Cycle.{period_ends, tick}
 use Rattle.network.specs.Registers.{reg, sheet_in, room, clock_row, number_place, in_force_place, order_mark_place, order_schedule_place}
 use Rattle.network.specs.Registers.{order_period_place, link_mark, link_word, head_mark, head_word, choice_row, latch_row, receive_mark, receive_kind}
@@ -175,14 +175,14 @@ order_law true (suc mark) ordered period number = rw (yes≤ {a = 1} {b = suc ma
     go false = refl
 
 -- what a circuit puts on its wire, and what a node's source does
-pub sent_same : (s m : List ℕ) (circuit : ℕ) → seen_cell (sent_mark s circuit) (sent_word s m circuit) ≡ sentNow (sheet_in s) (view s m) circuit
+pub sent_same : (s m : List ℕ) (circuit : ℕ) → seen_cell (sent_mark s circuit) (sent_word s m circuit) ≡ sent_now (sheet_in s) (view s m) circuit
 unfolding sent_mark sent_word slot_in
 sent_same s m circuit =
-    sent_cell_is (moveNow (sheet_in s) (view s m) circuit) (headNow (sheet_in s) (view s m) circuit)
-    (readNow (sheet_in s) (view s m) circuit) (seen_sender s circuit)
+    sent_cell_is (move_now (sheet_in s) (view s m) circuit) (head_now (sheet_in s) (view s m) circuit)
+    (read_now (sheet_in s) (view s m) circuit) (seen_sender s circuit)
 
-pub wire_same : (s m : List ℕ) (node : ℕ) → seen_cell (source_mark s node) (source_word s m node) ≡ sourceWire (sheet_in s) (view s m) node
-unfolding sourceWire source_mark source_word
+pub wire_same : (s m : List ℕ) (node : ℕ) → seen_cell (source_mark s node) (source_word s m node) ≡ source_wire (sheet_in s) (view s m) node
+unfolding source_wire source_mark source_word
 wire_same s m node =
     cell_first (circuits (sheet_in s)) (own_mark s node) (sent_word s m)
     ∙ gather_same (circuits (sheet_in s)) _ _ (λ c l.

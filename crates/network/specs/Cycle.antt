@@ -104,26 +104,26 @@ sent_cell opens head word sender = header head
 sent_cell sends head word sender = payload word (sender.to_go =? 1)
 
 module _ (z : List ℕ) (v : View) where
-  abbrev pub slotNow : ℕ → ℕ
-  slotNow circuit = slot_length z v.schedule v.cycle circuit
+  abbrev pub slot_now : ℕ → ℕ
+  slot_now circuit = slot_length z v.schedule v.cycle circuit
 
-  abbrev pub moveNow : ℕ → Move
-  moveNow circuit = move (slotNow circuit) (v.sender circuit)
+  abbrev pub move_now : ℕ → Move
+  move_now circuit = move (slot_now circuit) (v.sender circuit)
 
   -- the header of the packet that a circuit would open, and the memory word that it would send, read in this cycle
-  abbrev pub headNow : ℕ → ℕ
-  headNow circuit =
+  abbrev pub head_now : ℕ → ℕ
+  head_now circuit =
       header_word (v.sender circuit).kind (v.sender circuit).write_address (slot_route z v.schedule v.cycle circuit)
 
-  abbrev pub readNow : ℕ → ℕ
-  readNow circuit = v.memory (source_of z circuit) (v.sender circuit).read_address
+  abbrev pub read_now : ℕ → ℕ
+  read_now circuit = v.memory (source_of z circuit) (v.sender circuit).read_address
 
-  abbrev pub sentNow : ℕ → Cell
-  sentNow circuit = sent_cell (moveNow circuit) (headNow circuit) (readNow circuit) (v.sender circuit)
+  abbrev pub sent_now : ℕ → Cell
+  sent_now circuit = sent_cell (move_now circuit) (head_now circuit) (read_now circuit) (v.sender circuit)
 
   -- the wire from a node's source: the first of the node's circuits that puts a cell on it
-  unfoldable pub sourceWire : ℕ → Cell
-  sourceWire node = gather (circuits z) (λ circuit. pick (source_of z circuit =? node) (sentNow circuit) empty)
+  unfoldable pub source_wire : ℕ → Cell
+  source_wire node = gather (circuits z) (λ circuit. pick (source_of z circuit =? node) (sent_now circuit) empty)
 
 -- the receive unit: a header at the memory output begins a packet, a payload word is stored at its address, and the last ends it
 abbrev pub landing_of : Receiver → Cell → Landing
@@ -160,14 +160,14 @@ period_ends z v = v.cycle + 1 =? period z v.schedule
 -- one cycle of it all: reads come before stores
 abbrev pub tick : List ℕ → View → View
 tick z v = record {
-  routers = step_routers z (sourceWire z v) v.routers;
+  routers = step_routers z (source_wire z v) v.routers;
   memory = λ node address.
       stored_by (landing_of (v.receiver node) (v.routers.out node memory_output)) address (v.memory node address);
   cycle = pick (period_ends z v) 0 (v.cycle + 1);
   period_number = pick (period_ends z v) (next_number v.period_number) v.period_number;
   schedule = pick (period_ends z v) (schedule_after v.order (next_number v.period_number) v.schedule) v.schedule;
   order = pick (period_ends z v) (order_after v.order (next_number v.period_number)) v.order;
-  sender = λ circuit. step_sender (moveNow z v circuit) (slotNow z v circuit) (v.sender circuit);
+  sender = λ circuit. step_sender (move_now z v circuit) (slot_now z v circuit) (v.sender circuit);
   receiver = λ node. step_receiver (v.receiver node) (v.routers.out node memory_output);
   landing = λ node. landing_of (v.receiver node) (v.routers.out node memory_output);
 }
@@ -193,10 +193,10 @@ collides v node output = 2 ≤? count_of ports (λ input. is_full (asks v.router
 
 -- two circuits of a node put a word on its source wire, or one opens a packet while it still sends another
 unfoldable pub crowds : List ℕ → View → ℕ → Bool
-crowds z v node = 2 ≤? count_of (circuits z) (λ circuit. source_of z circuit =? node and is_full (sentNow z v circuit))
+crowds z v node = 2 ≤? count_of (circuits z) (λ circuit. source_of z circuit =? node and is_full (sent_now z v circuit))
 
 unfoldable pub reopens : List ℕ → View → ℕ → Bool
-reopens z v circuit = 1 ≤? slotNow z v circuit and 1 ≤? (v.sender circuit).left and 1 ≤? (v.sender circuit).to_go
+reopens z v circuit = 1 ≤? slot_now z v circuit and 1 ≤? (v.sender circuit).left and 1 ≤? (v.sender circuit).to_go
 
 -- a payload word in the link register for which no choice is held, or one that left the header stage with no choice
 unfoldable pub headless : View → ℕ → ℕ → Bool

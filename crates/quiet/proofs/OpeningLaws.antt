@@ -46,20 +46,20 @@ last_of_some test (suc n) k l e z = go (test n) refl z (ℕ_discrete k n) (last_
     go false q w (no d) r = r (omega (arith, d)) e w
 
 module _ (s z : List ℕ) where
-  abbrev inForce : ℕ
-  inForce = reg s clock_row in_force_place
+  abbrev in_force : ℕ
+  in_force = reg s clock_row in_force_place
 
   abbrev entry : ℕ → Entry
-  entry k = entry_at (entries_of z inForce) k
+  entry k = entry_at (entries_of z in_force) k
 
   abbrev count : ℕ
-  count = entry_count (entries_of z inForce)
+  count = entry_count (entries_of z in_force)
 
-  begins : (cycle c k : ℕ) → begins_at z inForce cycle c k ≡ true → ((entry k).offset ≡ cycle) × ((entry k).circuit ≡ c)
+  begins : (cycle c k : ℕ) → begins_at z in_force cycle c k ≡ true → ((entry k).offset ≡ cycle) × ((entry k).circuit ≡ c)
   unfolding begins_at
   begins cycle c k e = (is= _ _ (and_left _ _ e), is= _ _ (and_right _ _ e))
 
-  begins_own : (k : ℕ) → begins_at z inForce (entry k).offset (entry k).circuit k ≡ true
+  begins_own : (k : ℕ) → begins_at z in_force (entry k).offset (entry k).circuit k ≡ true
   unfolding begins_at
   begins_own k = and_both (yes= refl) (yes= refl)
 
@@ -68,23 +68,23 @@ module _ (s z : List ℕ) where
     pub inside : i ≤ size
     pub whole : size ≡ count
     pub few : size ≤ 256
-    pub same : entries ≡ entries_of z inForce
+    pub same : entries ≡ entries_of z in_force
     pub dead : (k : ℕ) → k < i → cycle ≤ (entry k).offset → reg s left_row (entry k).circuit ≡ 0
 
   module _ (g : Paired s z) where
     -- one circuit in one cycle: a slot of it begins in no other way than by an entry
     idle_circuit : (cycle c : ℕ)
         → ((k : ℕ) → k < count → (entry k).offset ≡ cycle → reg s left_row (entry k).circuit ≡ 0)
-        → slot_length z inForce cycle c =? 0 or reg s left_row c =? 0 ≡ true
+        → slot_length z in_force cycle c =? 0 or reg s left_row c =? 0 ≡ true
     unfolding entry_beginning
-    idle_circuit cycle c dead = go (ℕ_discrete (entry_beginning z inForce cycle c) 0)
+    idle_circuit cycle c dead = go (ℕ_discrete (entry_beginning z in_force cycle c) 0)
       where
-        go : Dec (entry_beginning z inForce cycle c ≡ 0) → slot_length z inForce cycle c =? 0 or reg s left_row c =? 0 ≡ true
-        go (yes e) = sym (or_yes _ (yes= (sym (length_none z inForce cycle c _ refl e))))
+        go : Dec (entry_beginning z in_force cycle c ≡ 0) → slot_length z in_force cycle c =? 0 or reg s left_row c =? 0 ≡ true
+        go (yes e) = sym (or_yes _ (yes= (sym (length_none z in_force cycle c _ refl e))))
         go (no ne) =
-            let k = last_of count (begins_at z inForce cycle c) - 1 in
-            let most = last_of_le (begins_at z inForce cycle c) count in
-            let at = begins cycle c k (last_of_passes (begins_at z inForce cycle c) count ne) in
+            let k = last_of count (begins_at z in_force cycle c) - 1 in
+            let most = last_of_le (begins_at z in_force cycle c) count in
+            let at = begins cycle c k (last_of_passes (begins_at z in_force cycle c) count ne) in
             sym (or_skip _ (sym (yes= (ap (reg s left_row) (sym at.1) ∙ dead k (omega (arith, ne)) at.0))))
 
     idle_cycle : (cycle : ℕ)
@@ -92,7 +92,7 @@ module _ (s z : List ℕ) where
     unfolding none_begins
     idle_cycle cycle dead =
         all_of (circuits (sheet_in s)) _ (λ c l.
-        subst (λ (x : List ℕ). slot_length x inForce cycle c =? 0 or reg s left_row c =? 0 ≡ true) g.own (idle_circuit cycle c dead))
+        subst (λ (x : List ℕ). slot_length x in_force cycle c =? 0 or reg s left_row c =? 0 ≡ true) g.own (idle_circuit cycle c dead))
 
     -- a cycle in which an entry of a circuit with words left begins
     live_cycle : Ranged z → (i : ℕ) → i < count → 1 ≤ reg s left_row (entry i).circuit → none_begins s (entry i).offset ≡ false
@@ -100,26 +100,26 @@ module _ (s z : List ℕ) where
     live_cycle ranged i l live =
         let c = (entry i).circuit in
         let cycle = (entry i).offset in
-        let found = last_of count (begins_at z inForce cycle c) in
-        let most = last_of_le (begins_at z inForce cycle c) count in
-        let some : found ≡ 0 → ⊥ = last_of_some (begins_at z inForce cycle c) count i l (begins_own i) in
-        let size = length_is z inForce cycle c found refl (entries_of z inForce) refl (entry (found - 1)) refl some in
-        let small = entry_small z ranged inForce g.in_force (found - 1) (omega (arith, some)) in
-        let inside = (entry_small z ranged inForce g.in_force i l).circuit_inside in
+        let found = last_of count (begins_at z in_force cycle c) in
+        let most = last_of_le (begins_at z in_force cycle c) count in
+        let some : found ≡ 0 → ⊥ = last_of_some (begins_at z in_force cycle c) count i l (begins_own i) in
+        let size = length_is z in_force cycle c found refl (entries_of z in_force) refl (entry (found - 1)) refl some in
+        let small = entry_small z ranged in_force g.in_force (found - 1) (omega (arith, some)) in
+        let inside = (entry_small z ranged in_force g.in_force i l).circuit_inside in
         let own : circuits z ≡ circuits (sheet_in s) = ap circuits g.own in
-        let same : slot_length z inForce cycle c ≡ slot_length (sheet_in s) inForce cycle c = ap (λ (x : List ℕ). slot_length x inForce cycle c) g.own in
+        let same : slot_length z in_force cycle c ≡ slot_length (sheet_in s) in_force cycle c = ap (λ (x : List ℕ). slot_length x in_force cycle c) g.own in
         sym (all_fails _ (circuits (sheet_in s)) c (omega (arith, inside, own))
         (sym (or_on (no= (λ e. omega (arith, small.size_low, size, same, e))) (sym (no= (λ e. omega (arith, live, e)))))))
 
-    pub seeking_start : (cycle j : ℕ) (entries : List ℕ) (i : ℕ) → j ≡ inForce → entries ≡ entries_of z j → BegunBefore entries cycle i
+    pub seeking_start : (cycle j : ℕ) (entries : List ℕ) (i : ℕ) → j ≡ in_force → entries ≡ entries_of z j → BegunBefore entries cycle i
         → Seeking cycle entries (entry_count entries) i
     seeking_start cycle j entries i a e b =
-        let same : entries ≡ entries_of z inForce = e ∙ ap (entries_of z) a in
+        let same : entries ≡ entries_of z in_force = e ∙ ap (entries_of z) a in
         let q : entry_count entries ≡ count = ap entry_count same in
         record {
           inside = b.inside;
           whole = q;
-          few = omega (arith, q, entries_few z g.framed inForce g.in_force);
+          few = omega (arith, q, entries_few z g.framed in_force g.in_force);
           same = same;
           dead = λ k l late.
               let early = subst (λ (x : List ℕ). (entry_at x k).offset < cycle) same (b.earlier k l) in
@@ -171,7 +171,7 @@ module _ (s z : List ℕ) where
       idle_before : rule8 z ≡ true → (r : ℕ) → r ≤ (entry i).offset → (k : ℕ) → i ≤ k → k < count → r ≤ (entry k).offset
       idle_before ascending r low k il l =
           let q : i + (k - i) ≡ k = omega arith in
-          let up = no_later z inForce 0 ascending g.in_force i (k - i) (omega arith) in
+          let up = no_later z in_force 0 ascending g.in_force i (k - i) (omega arith) in
           let up' : (entry i).offset ≤ (entry k).offset = subst (λ (n : ℕ). (entry i).offset ≤ (entry n).offset) q up in
           omega arith
 

@@ -223,13 +223,13 @@ module _ (z : List ℕ) (k : ℕ) (circuit : Circuit) (c : circuit ≡ circuit_a
 
 -- the table of the spans: each stands at its circuit's number, 0 at the others
 module _ (z : List ℕ) where
-  abbrev spanAt : ℕ → ℕ
-  spanAt k = pick (k <? circuits z) (circuit_span z k) 0
+  abbrev span_at : ℕ → ℕ
+  span_at k = pick (k <? circuits z) (circuit_span z k) 0
 
   -- the first i spans are read, the others are 0
   pub record Reading (i : ℕ) (spans : List ℕ) : Type 0 where
     pub full : length spans ≡ 64
-    pub done : (k : ℕ) → k < i → word spans k ≡ spanAt k
+    pub done : (k : ℕ) → k < i → word spans k ≡ span_at k
     pub later : (k : ℕ) → i ≤ k → word spans k ≡ 0
 
   pub reading_start : Reading 0 (replicate 64 0)
@@ -245,16 +245,16 @@ module _ (z : List ℕ) where
   reading_more i spans g h l d e =
       record {
         full = length-set spans i d ∙ g.full;
-        done = fill_more spans i d spanAt (omega (arith, g.full)) g.done
+        done = fill_more spans i d span_at (omega (arith, g.full)) g.done
             (e ∙ sym (ap (λ (b : Bool). pick b (circuit_span z i) 0) (yes< h)));
         later = λ k b. get_or-set_other spans i k d 0 (λ q. let e₀ : ⊥ = omega (arith, q) in e₀) ∙ g.later k (omega arith);
       }
 
   pub spans_done : (i : ℕ) (spans : List ℕ) → Reading i spans → i ≡ circuits z → spans ≡ circuit_spans z
   unfolding circuit_spans
-  spans_done i spans g e = tab_is spans 64 spanAt g.full (λ k h. go k (dec_lt k i))
+  spans_done i spans g e = tab_is spans 64 span_at g.full (λ k h. go k (dec_lt k i))
     where
-      go : (k : ℕ) → Dec (k < i) → word spans k ≡ spanAt k
+      go : (k : ℕ) → Dec (k < i) → word spans k ≡ span_at k
       go k (yes b) = g.done k b
       go k (no b) =
           g.later k (omega arith) ∙ sym (ap (λ (c : Bool). pick c (circuit_span z k) 0) (no< (omega (arith, e))))
@@ -266,7 +266,7 @@ module _ (z : List ℕ) where
   span_read e g spans p n r =
       r
       ∙ ap (λ (x : List ℕ). word x e.circuit) p
-      ∙ tab_at 64 spanAt e.circuit (omega (arith, g.circuit_inside, g.circuits_high))
+      ∙ tab_at 64 span_at e.circuit (omega (arith, g.circuit_inside, g.circuits_high))
       ∙ ap (λ (b : Bool). pick b (circuit_span z e.circuit) 0) (yes< g.circuit_inside)
 
 -- an entry of a schedule, as it was read

@@ -40,11 +40,11 @@ module _ (z s : List ℕ) where
 
 -- a start: the four registers of its circuit
 module _ (s : List ℕ) (circuit read_address write_address count kind : ℕ) (few : circuit < row_words) where
-  abbrev with-left : List ℕ
-  with-left = put s left_row circuit count
+  abbrev with_left : List ℕ
+  with_left = put s left_row circuit count
 
   abbrev with_read : List ℕ
-  with_read = put with-left read_row circuit read_address
+  with_read = put with_left read_row circuit read_address
 
   abbrev with_write : List ℕ
   with_write = put with_read write_row circuit write_address
@@ -57,7 +57,7 @@ module _ (s : List ℕ) (circuit read_address write_address count kind : ℕ) (f
   started_other row k kl h =
       put_other with_write kind_row circuit kind row k (no kind_row (omega arith) (omega arith))
       ∙ put_other with_read write_row circuit write_address row k (no write_row (omega arith) (omega arith))
-      ∙ put_other with-left read_row circuit read_address row k (no read_row (omega arith) (omega arith))
+      ∙ put_other with_left read_row circuit read_address row k (no read_row (omega arith) (omega arith))
       ∙ put_other s left_row circuit count row k (no left_row (omega arith) (omega arith))
     where
       no : (changed : ℕ) → left_row ≤ changed → changed ≤ kind_row → row * row_words + k ≡ changed * row_words + circuit → ⊥
@@ -70,11 +70,11 @@ module _ (s : List ℕ) (circuit read_address write_address count kind : ℕ) (f
   started_sender l = sender_same _ _
       (put_other with_write kind_row circuit kind left_row circuit (λ e. omega arith)
       ∙ put_other with_read write_row circuit write_address left_row circuit (λ e. omega arith)
-      ∙ put_other with-left read_row circuit read_address left_row circuit (λ e. omega arith)
+      ∙ put_other with_left read_row circuit read_address left_row circuit (λ e. omega arith)
       ∙ put_same s left_row circuit count (omega arith))
       (put_other with_write kind_row circuit kind read_row circuit (λ e. omega arith)
       ∙ put_other with_read write_row circuit write_address read_row circuit (λ e. omega arith)
-      ∙ put_same with-left read_row circuit read_address (simp length-set (omega arith)))
+      ∙ put_same with_left read_row circuit read_address (simp length-set (omega arith)))
       (put_other with_write kind_row circuit kind write_row circuit (λ e. omega arith)
       ∙ put_same with_read write_row circuit write_address (simp length-set (omega arith)))
       (put_same with_write kind_row circuit kind (simp length-set (omega arith)))
@@ -85,7 +85,7 @@ module _ (s : List ℕ) (circuit read_address write_address count kind : ℕ) (f
   started_sheet =
       put_sheet with_write kind_row circuit kind (omega arith)
       ∙ put_sheet with_read write_row circuit write_address (omega arith)
-      ∙ put_sheet with-left read_row circuit read_address (omega arith)
+      ∙ put_sheet with_left read_row circuit read_address (omega arith)
       ∙ put_sheet s left_row circuit count (omega arith)
 
   pub started_sheet_length : sheet_length begun ≡ sheet_length s
@@ -93,7 +93,7 @@ module _ (s : List ℕ) (circuit read_address write_address count kind : ℕ) (f
   started_sheet_length =
       put_sheet_length with_write kind_row circuit kind (omega arith)
       ∙ put_sheet_length with_read write_row circuit write_address (omega arith)
-      ∙ put_sheet_length with-left read_row circuit read_address (omega arith)
+      ∙ put_sheet_length with_left read_row circuit read_address (omega arith)
       ∙ put_sheet_length s left_row circuit count (omega arith)
 
 pub started_length : (s : List ℕ) (circuit read_address write_address count kind : ℕ)
@@ -103,11 +103,11 @@ started_length s circuit read_address write_address count kind = simp length-set
 
 -- an order: its mark, schedule and period
 module _ (s : List ℕ) (schedule period : ℕ) where
-  abbrev with-mark : List ℕ
-  with-mark = put s clock_row order_mark_place 1
+  abbrev with_mark : List ℕ
+  with_mark = put s clock_row order_mark_place 1
 
-  abbrev with-schedule : List ℕ
-  with-schedule = put with-mark clock_row order_schedule_place schedule
+  abbrev with_schedule : List ℕ
+  with_schedule = put with_mark clock_row order_schedule_place schedule
 
   abbrev told : List ℕ
   told = ordered s schedule period
@@ -115,39 +115,39 @@ module _ (s : List ℕ) (schedule period : ℕ) where
   pub ordered_other : (row k : ℕ) → k < row_words → (row ≡ clock_row → order_mark_place ≤ k → k < clock_words → ⊥) → reg told row k ≡ reg s row k
   unfolding ordered
   ordered_other row k kl h =
-      put_other with-schedule clock_row order_period_place period row k (λ e. h (omega arith) (omega arith) (omega arith))
-      ∙ put_other with-mark clock_row order_schedule_place schedule row k (λ e. h (omega arith) (omega arith) (omega arith))
+      put_other with_schedule clock_row order_period_place period row k (λ e. h (omega arith) (omega arith) (omega arith))
+      ∙ put_other with_mark clock_row order_schedule_place schedule row k (λ e. h (omega arith) (omega arith) (omega arith))
       ∙ put_other s clock_row order_mark_place 1 row k (λ e. h (omega arith) (omega arith) (omega arith))
 
   pub ordered_mark : moving_words ≤ length s → reg told clock_row order_mark_place ≡ 1
   unfolding ordered
   ordered_mark l =
-      put_other with-schedule clock_row order_period_place period clock_row order_mark_place (λ e. omega arith)
-      ∙ put_other with-mark clock_row order_schedule_place schedule clock_row order_mark_place (λ e. omega arith)
+      put_other with_schedule clock_row order_period_place period clock_row order_mark_place (λ e. omega arith)
+      ∙ put_other with_mark clock_row order_schedule_place schedule clock_row order_mark_place (λ e. omega arith)
       ∙ put_same s clock_row order_mark_place 1 (omega arith)
 
   pub ordered_schedule : moving_words ≤ length s → reg told clock_row order_schedule_place ≡ schedule
   unfolding ordered
   ordered_schedule l =
-      put_other with-schedule clock_row order_period_place period clock_row order_schedule_place (λ e. omega arith)
-      ∙ put_same with-mark clock_row order_schedule_place schedule (simp length-set (omega arith))
+      put_other with_schedule clock_row order_period_place period clock_row order_schedule_place (λ e. omega arith)
+      ∙ put_same with_mark clock_row order_schedule_place schedule (simp length-set (omega arith))
 
   pub ordered_period : moving_words ≤ length s → reg told clock_row order_period_place ≡ period
   unfolding ordered
-  ordered_period l = put_same with-schedule clock_row order_period_place period (simp length-set (omega arith))
+  ordered_period l = put_same with_schedule clock_row order_period_place period (simp length-set (omega arith))
 
   pub ordered_sheet : sheet_in told ≡ sheet_in s
   unfolding ordered
   ordered_sheet =
-      put_sheet with-schedule clock_row order_period_place period (omega arith)
-      ∙ put_sheet with-mark clock_row order_schedule_place schedule (omega arith)
+      put_sheet with_schedule clock_row order_period_place period (omega arith)
+      ∙ put_sheet with_mark clock_row order_schedule_place schedule (omega arith)
       ∙ put_sheet s clock_row order_mark_place 1 (omega arith)
 
   pub ordered_sheet_length : sheet_length told ≡ sheet_length s
   unfolding ordered
   ordered_sheet_length =
-      put_sheet_length with-schedule clock_row order_period_place period (omega arith)
-      ∙ put_sheet_length with-mark clock_row order_schedule_place schedule (omega arith)
+      put_sheet_length with_schedule clock_row order_period_place period (omega arith)
+      ∙ put_sheet_length with_mark clock_row order_schedule_place schedule (omega arith)
       ∙ put_sheet_length s clock_row order_mark_place 1 (omega arith)
 
   pub ordered_length : length told ≡ length s

@@ -28,23 +28,23 @@ pick_either false b v w = refl
 
 -- the circuits of the first i entries are marked too
 module _ (entries before : List ℕ) where
-  abbrev markAt : ℕ → ℕ → ℕ
-  markAt i c = pick (any i (λ k. (entry_at entries k).circuit =? c)) 1 (word before c)
+  abbrev mark_at : ℕ → ℕ → ℕ
+  mark_at i c = pick (any i (λ k. (entry_at entries k).circuit =? c)) 1 (word before c)
 
-  mark_more : (i c : ℕ) → pick ((entry_at entries i).circuit =? c) 1 (markAt i c) ≡ markAt (i + 1) c
+  mark_more : (i c : ℕ) → pick ((entry_at entries i).circuit =? c) 1 (mark_at i c) ≡ mark_at (i + 1) c
   mark_more i c =
       pick_either (any i (λ k. (entry_at entries k).circuit =? c)) ((entry_at entries i).circuit =? c) 1 (word before c)
       ∙ ap (λ (b : Bool). pick b 1 (word before c)) (sym (any_more (λ k. (entry_at entries k).circuit =? c) i))
 
   pub record Marking (marks : List ℕ) (i : ℕ) : Type 0 where
     pub inside : i ≤ entry_count entries
-    pub table : marks ≡ tab 64 (markAt i)
+    pub table : marks ≡ tab 64 (mark_at i)
 
   pub marking_start : length before ≡ 64 → Marking before 0
   marking_start e = record {
     inside = omega arith;
     table =
-        tab_is before 64 (markAt 0) e
+        tab_is before 64 (mark_at 0) e
         (λ c l. ap (λ (b : Bool). pick b 1 (word before c)) (sym (any_start (λ k. (entry_at entries k).circuit =? c))));
   }
 
@@ -54,10 +54,10 @@ module _ (entries before : List ℕ) where
     inside = omega arith;
     table =
         ap (λ (list : List ℕ). set list e.circuit 1) g.table
-        ∙ ap (λ (x : Entry). set (tab 64 (markAt i)) x.circuit 1) read
-        ∙ tab_set 64 (markAt i) (markAt (i + 1)) (entry_at entries i).circuit 1
-        (λ l. ap (λ (b : Bool). pick b 1 (markAt i (entry_at entries i).circuit)) (sym (yes= refl)) ∙ mark_more i (entry_at entries i).circuit)
-        (λ c l ne. ap (λ (b : Bool). pick b 1 (markAt i c)) (sym (no= (λ h. ne (sym h)))) ∙ mark_more i c);
+        ∙ ap (λ (x : Entry). set (tab 64 (mark_at i)) x.circuit 1) read
+        ∙ tab_set 64 (mark_at i) (mark_at (i + 1)) (entry_at entries i).circuit 1
+        (λ l. ap (λ (b : Bool). pick b 1 (mark_at i (entry_at entries i).circuit)) (sym (yes= refl)) ∙ mark_more i (entry_at entries i).circuit)
+        (λ c l ne. ap (λ (b : Bool). pick b 1 (mark_at i c)) (sym (no= (λ h. ne (sym h)))) ∙ mark_more i c);
   }
 
   pub marking_length : (i : ℕ) (marks : List ℕ) → Marking marks i → length marks ≡ 64
@@ -67,12 +67,12 @@ module _ (entries before : List ℕ) where
   unfolding marked_by serves
   marking_done i marks g l =
       let e : i ≡ entry_count entries = omega (arith, g.inside) in
-      g.table ∙ ap (λ (n : ℕ). tab 64 (markAt n)) e
+      g.table ∙ ap (λ (n : ℕ). tab 64 (mark_at n)) e
 
 -- the circuits that the first schedules serve
 module _ (z : List ℕ) where
-  abbrev servedTo : ℕ → ℕ → Bool
-  servedTo n c = any n (λ j. serves (entries_of z j) c)
+  abbrev served_to : ℕ → ℕ → Bool
+  served_to n c = any n (λ j. serves (entries_of z j) c)
 
   pub marks_start : replicate 64 0 ≡ marks_of z 0
   unfolding marks_of
@@ -83,18 +83,18 @@ module _ (z : List ℕ) where
   unfolding marks_of
   marks_length n = length_tab 64 _
 
-  mark_at : (n c : ℕ) → c < 64 → word (marks_of z n) c ≡ pick (servedTo n c) 1 0
+  mark_within : (n c : ℕ) → c < 64 → word (marks_of z n) c ≡ pick (served_to n c) 1 0
   unfolding marks_of
-  mark_at n c l = tab_at 64 _ c l
+  mark_within n c l = tab_at 64 _ c l
 
   pub marks_more : (j : ℕ) → marked_by (entries_of z j) (marks_of z j) ≡ marks_of z (j + 1)
   unfolding marked_by marks_of
   marks_more j = tab_same 64 _ _ go
     where
-      go : (c : ℕ) → c < 64 → pick (serves (entries_of z j) c) 1 (word (marks_of z j) c) ≡ pick (servedTo (j + 1) c) 1 0
+      go : (c : ℕ) → c < 64 → pick (serves (entries_of z j) c) 1 (word (marks_of z j) c) ≡ pick (served_to (j + 1) c) 1 0
       go c l =
-          ap (λ (v : ℕ). pick (serves (entries_of z j) c) 1 v) (mark_at j c l)
-          ∙ pick_either (servedTo j c) (serves (entries_of z j) c) 1 0
+          ap (λ (v : ℕ). pick (serves (entries_of z j) c) 1 v) (mark_within j c l)
+          ∙ pick_either (served_to j c) (serves (entries_of z j) c) 1 0
           ∙ ap (λ (b : Bool). pick {A = ℕ} b 1 0) (sym (any_more (λ i. serves (entries_of z i) c) j))
 
   pub marks_done : (marks : List ℕ) (j : ℕ) → marks ≡ marks_of z j → j ≡ schedules z → marks ≡ marks_of z (schedules z)
@@ -111,7 +111,7 @@ module _ (z : List ℕ) where
   module _ (marks : List ℕ) (q : marks ≡ marks_of z (schedules z)) (c : ℕ) (l : c < 64) where
     mark_is : word marks c ≡ pick (is_served z c) 1 0
     unfolding is_served
-    mark_is = ap (λ (m : List ℕ). word m c) q ∙ mark_at (schedules z) c l
+    mark_is = ap (λ (m : List ℕ). word m c) q ∙ mark_within (schedules z) c l
 
     pub unmarked : word marks c ≡ 0 → is_served z c ≡ false
     unmarked e = go (is_served z c) (sym mark_is ∙ e)

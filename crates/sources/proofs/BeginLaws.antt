@@ -37,21 +37,21 @@ module _ (entry : Entry) (number cycle : ℕ) (slots : List ℕ) where
 
 -- the entries before i are in the table
 module _ (z : List ℕ) (j cycle : ℕ) where
-  abbrev lastBefore : ℕ → ℕ → ℕ
-  lastBefore i c = last_of i (begins_at z j cycle c)
+  abbrev last_before : ℕ → ℕ → ℕ
+  last_before i c = last_of i (begins_at z j cycle c)
 
   pub record Filling (entries slots : List ℕ) (count : ℕ) (begins : Bool) (i : ℕ) : Type 0 where
     pub inside : i ≤ count
     pub whole : count ≡ entry_count (entries_of z j)
     pub few : count ≤ 256
     pub same : entries ≡ entries_of z j
-    pub table : slots ≡ tab 64 (lastBefore i)
+    pub table : slots ≡ tab 64 (last_before i)
     pub none : begins ≡ false → slots ≡ tab 64 (λ (c : ℕ). 0)
 
   -- one more entry, by what its test says
-  last_begins : (i c : ℕ) (b : Bool) → begins_at z j cycle c i ≡ b → lastBefore (i + 1) c ≡ pick b (i + 1) (lastBefore i c)
+  last_begins : (i c : ℕ) (b : Bool) → begins_at z j cycle c i ≡ b → last_before (i + 1) c ≡ pick b (i + 1) (last_before i c)
   last_begins i c b e =
-      last_of_more (begins_at z j cycle c) i ∙ ap (λ (t : Bool). pick t (i + 1) (lastBefore i c)) e
+      last_of_more (begins_at z j cycle c) i ∙ ap (λ (t : Bool). pick t (i + 1) (last_before i c)) e
 
   module _ (i : ℕ) (e : Entry) (read : e ≡ entry_at (entries_of z j) i) where
     begins_is : (c : ℕ) → begins_at z j cycle c i ≡ (e.offset =? cycle and e.circuit =? c)
@@ -59,27 +59,27 @@ module _ (z : List ℕ) (j cycle : ℕ) where
     begins_is c = ap (λ (x : Entry). x.offset =? cycle and x.circuit =? c) (sym read)
 
     module _ (h : e.offset ≡ cycle) where
-      last_here : i + 1 ≡ lastBefore (i + 1) e.circuit
+      last_here : i + 1 ≡ last_before (i + 1) e.circuit
       last_here = sym (last_begins i e.circuit true (begins_is e.circuit ∙ and_both (yes= h) (yes= refl)))
 
-      last_other : (c : ℕ) → (c ≡ e.circuit → ⊥) → lastBefore i c ≡ lastBefore (i + 1) c
+      last_other : (c : ℕ) → (c ≡ e.circuit → ⊥) → last_before i c ≡ last_before (i + 1) c
       last_other c ne = sym (last_begins i c false (begins_is c ∙ and_no_right _ _ (no= (λ q. ne (sym q)))))
 
-    last_over : (e.offset ≡ cycle → ⊥) → (c : ℕ) → lastBefore i c ≡ lastBefore (i + 1) c
+    last_over : (e.offset ≡ cycle → ⊥) → (c : ℕ) → last_before i c ≡ last_before (i + 1) c
     last_over ne c = sym (last_begins i c false (begins_is c ∙ sym (and_no _ (no= ne))))
 
-    put_more : (slots : List ℕ) → slots ≡ tab 64 (lastBefore i) → slot_put e (i + 1) cycle slots ≡ tab 64 (lastBefore (i + 1))
+    put_more : (slots : List ℕ) → slots ≡ tab 64 (last_before i) → slot_put e (i + 1) cycle slots ≡ tab 64 (last_before (i + 1))
     put_more slots q = ap (slot_put e (i + 1) cycle) q ∙ go (e.offset =? cycle) refl
       where
-        go : (b : Bool) → (e.offset =? cycle) ≡ b → slot_put e (i + 1) cycle (tab 64 (lastBefore i)) ≡ tab 64 (lastBefore (i + 1))
+        go : (b : Bool) → (e.offset =? cycle) ≡ b → slot_put e (i + 1) cycle (tab 64 (last_before i)) ≡ tab 64 (last_before (i + 1))
         go true t =
             let h = is= _ _ t in
-            sym (put_begins e (i + 1) cycle (tab 64 (lastBefore i)) h)
-            ∙ tab_set 64 (lastBefore i) (lastBefore (i + 1)) e.circuit (i + 1) (λ l. last_here h) (λ c l ne. last_other h c ne)
+            sym (put_begins e (i + 1) cycle (tab 64 (last_before i)) h)
+            ∙ tab_set 64 (last_before i) (last_before (i + 1)) e.circuit (i + 1) (λ l. last_here h) (λ c l ne. last_other h c ne)
         go false t =
             let ne : e.offset ≡ cycle → ⊥ = λ q. false≢true (sym t ∙ yes= q) in
-            sym (put_not e (i + 1) cycle (tab 64 (lastBefore i)) ne)
-            ∙ tab_same 64 (lastBefore i) (lastBefore (i + 1)) (λ c l. last_over ne c)
+            sym (put_not e (i + 1) cycle (tab 64 (last_before i)) ne)
+            ∙ tab_same 64 (last_before i) (last_before (i + 1)) (λ c l. last_over ne c)
 
   -- by rule 8 the offsets ascend
   module _ (r : rule8 z ≡ true) (h : j < schedules z) where
@@ -131,23 +131,23 @@ module _ (z : List ℕ) (j cycle : ℕ) where
           let q : i + n + 1 ≡ i + suc n = omega arith in
           subst (λ (k : ℕ). cycle < (entry_at (entries_of z j) k).offset) q (omega arith)
 
-      last_late : (n : ℕ) → i + n ≤ entry_count (entries_of z j) → (c : ℕ) → lastBefore (i + n) c ≡ lastBefore i c
-      last_late zero l c = ap (λ (k : ℕ). lastBefore k c) (add-zero i)
+      last_late : (n : ℕ) → i + n ≤ entry_count (entries_of z j) → (c : ℕ) → last_before (i + n) c ≡ last_before i c
+      last_late zero l c = ap (λ (k : ℕ). last_before k c) (add-zero i)
       last_late (suc n) l c =
           let above = later n (omega arith) in
           let q : i + suc n ≡ i + n + 1 = omega arith in
-          ap (λ (k : ℕ). lastBefore k c) q
+          ap (λ (k : ℕ). last_before k c) q
           ∙ sym (last_over (i + n) (entry_at (entries_of z j) (i + n)) refl (λ e. omega arith) c)
           ∙ last_late n (omega arith) c
 
   -- of entries that begin before the cycle none begins in it
-  last_none : (n : ℕ) → ((k : ℕ) → k < n → (entry_at (entries_of z j) k).offset < cycle) → (c : ℕ) → lastBefore n c ≡ 0
+  last_none : (n : ℕ) → ((k : ℕ) → k < n → (entry_at (entries_of z j) k).offset < cycle) → (c : ℕ) → last_before n c ≡ 0
   unfolding last_of
   last_none zero early c = refl
   last_none (suc n) early c =
       let here = early n (omega arith) in
       let q : suc n ≡ n + 1 = omega arith in
-      ap (λ (k : ℕ). lastBefore k c) q
+      ap (λ (k : ℕ). last_before k c) q
       ∙ sym (last_over n (entry_at (entries_of z j) n) refl (λ e. omega arith) c)
       ∙ last_none n (λ k l. early k (omega arith)) c
 
@@ -160,7 +160,7 @@ module _ (z : List ℕ) (j cycle : ℕ) where
         whole = q;
         few = omega (arith, entries_few z f j l);
         same = e;
-        table = t ∙ tab_same 64 (λ (c : ℕ). 0) (lastBefore i)
+        table = t ∙ tab_same 64 (λ (c : ℕ). 0) (last_before i)
             (λ c h. sym (last_none i (λ k kl. subst (λ (x : List ℕ). (entry_at x k).offset < cycle) e (b.earlier k kl)) c));
         none = λ idle. t;
       }
@@ -195,13 +195,13 @@ module _ (z : List ℕ) (j cycle : ℕ) where
     }
 
     pub filling_length : length slots ≡ 64
-    filling_length = ap length g.table ∙ length_tab 64 (lastBefore i)
+    filling_length = ap length g.table ∙ length_tab 64 (last_before i)
 
     filling_done : count ≤ i → slots ≡ tab 64 (entry_beginning z j cycle)
     unfolding entry_beginning
     filling_done l =
         let q : i ≡ entry_count (entries_of z j) = omega (arith, g.inside, g.whole) in
-        g.table ∙ tab_same 64 (lastBefore i) (entry_beginning z j cycle) (λ c h. ap (λ (n : ℕ). lastBefore n c) q)
+        g.table ∙ tab_same 64 (last_before i) (entry_beginning z j cycle) (λ c h. ap (λ (n : ℕ). last_before n c) q)
 
     -- an entry later than the cycle: by rule 8 those behind it are later too
     filling_stop : rule8 z ≡ true → j < schedules z → i < count → (e : Entry) → e ≡ entry_at entries i → cycle < e.offset
@@ -212,73 +212,73 @@ module _ (z : List ℕ) (j cycle : ℕ) where
         let from : cycle < (entry_at (entries_of z j) i).offset =
         subst (λ (x : Entry). cycle < x.offset) (read ∙ ap (λ (x : List ℕ). entry_at x i) g.same) late in
         g.table
-        ∙ tab_same 64 (lastBefore i) (entry_beginning z j cycle)
-        (λ c k. sym (last_late r h i from (count - i) (omega arith) c) ∙ ap (λ (n : ℕ). lastBefore n c) q)
+        ∙ tab_same 64 (last_before i) (entry_beginning z j cycle)
+        (λ c k. sym (last_late r h i from (count - i) (omega arith) c) ∙ ap (λ (n : ℕ). last_before n c) q)
 
 -- the table of a state
 module _ (s z : List ℕ) (g : Paired s z) where
-  abbrev inForce : ℕ
-  inForce = reg s clock_row in_force_place
+  abbrev in_force : ℕ
+  in_force = reg s clock_row in_force_place
 
-  abbrev cycleNow : ℕ
-  cycleNow = reg s clock_row cycle_place
+  abbrev cycle_now : ℕ
+  cycle_now = reg s clock_row cycle_place
 
   -- the loop over the schedule in force
-  pub table_start : (cycle j : ℕ) (entries slots : List ℕ) (i : ℕ) → j ≡ inForce → entries ≡ entries_of z j → slots ≡ tab 64 (λ (c : ℕ). 0)
-      → BegunBefore entries cycle i → Filling z inForce cycle entries slots (entry_count entries) false i
+  pub table_start : (cycle j : ℕ) (entries slots : List ℕ) (i : ℕ) → j ≡ in_force → entries ≡ entries_of z j → slots ≡ tab 64 (λ (c : ℕ). 0)
+      → BegunBefore entries cycle i → Filling z in_force cycle entries slots (entry_count entries) false i
   table_start cycle j entries slots i a e t b =
-      filling_start z inForce cycle entries slots i g.framed g.in_force (e ∙ ap (entries_of z) a) t b
+      filling_start z in_force cycle entries slots i g.framed g.in_force (e ∙ ap (entries_of z) a) t b
 
-  table_as : (cycle : ℕ) (slots : List ℕ) → cycle ≡ cycleNow → slots ≡ tab 64 (entry_beginning z inForce cycle) → slots ≡ slot_table s
+  table_as : (cycle : ℕ) (slots : List ℕ) → cycle ≡ cycle_now → slots ≡ tab 64 (entry_beginning z in_force cycle) → slots ≡ slot_table s
   unfolding slot_table
   table_as cycle slots b e =
-      e ∙ ap (λ (t : ℕ). tab 64 (entry_beginning z inForce t)) b
-      ∙ ap (λ (x : List ℕ). tab 64 (entry_beginning x inForce cycleNow)) g.own
+      e ∙ ap (λ (t : ℕ). tab 64 (entry_beginning z in_force t)) b
+      ∙ ap (λ (x : List ℕ). tab 64 (entry_beginning x in_force cycle_now)) g.own
 
-  pub table_done : (cycle : ℕ) (entries slots : List ℕ) (count : ℕ) (begins : Bool) (i : ℕ) → cycle ≡ cycleNow
-      → Filling z inForce cycle entries slots count begins i → count ≤ i → slots ≡ slot_table s
+  pub table_done : (cycle : ℕ) (entries slots : List ℕ) (count : ℕ) (begins : Bool) (i : ℕ) → cycle ≡ cycle_now
+      → Filling z in_force cycle entries slots count begins i → count ≤ i → slots ≡ slot_table s
   table_done cycle entries slots count begins i b f l =
-      table_as cycle slots b (filling_done z inForce cycle entries slots count begins i f l)
+      table_as cycle slots b (filling_done z in_force cycle entries slots count begins i f l)
 
-  pub table_stop : rule8 z ≡ true → (cycle : ℕ) (entries slots : List ℕ) (count : ℕ) (begins : Bool) (i : ℕ) → cycle ≡ cycleNow
-      → Filling z inForce cycle entries slots count begins i → i < count → (e : Entry) → e ≡ entry_at entries i → cycle < e.offset
+  pub table_stop : rule8 z ≡ true → (cycle : ℕ) (entries slots : List ℕ) (count : ℕ) (begins : Bool) (i : ℕ) → cycle ≡ cycle_now
+      → Filling z in_force cycle entries slots count begins i → i < count → (e : Entry) → e ≡ entry_at entries i → cycle < e.offset
       → slots ≡ slot_table s
   table_stop r cycle entries slots count begins i b f l e read late =
-      table_as cycle slots b (filling_stop z inForce cycle entries slots count begins i f r g.in_force l e read late)
+      table_as cycle slots b (filling_stop z in_force cycle entries slots count begins i f r g.in_force l e read late)
 
   -- the entry of circuit c, as it is found in the table
   module _ (slots : List ℕ) (t : slots ≡ slot_table s) (c : ℕ) (l : c < circuits z) (found : ℕ) (e : found ≡ word slots c) where
-    found_is : found ≡ entry_beginning z inForce cycleNow c
+    found_is : found ≡ entry_beginning z in_force cycle_now c
     unfolding slot_table
     found_is =
         let few : c < 64 = omega (arith, g.framed.headed.circuits_high) in
-        e ∙ ap (λ (x : List ℕ). word x c) t ∙ tab_at 64 _ c few ∙ ap (λ (x : List ℕ). entry_beginning x inForce cycleNow c) (sym g.own)
+        e ∙ ap (λ (x : List ℕ). word x c) t ∙ tab_at 64 _ c few ∙ ap (λ (x : List ℕ). entry_beginning x in_force cycle_now c) (sym g.own)
 
-    length_own : slot_length z inForce cycleNow c ≡ slot_in s c
+    length_own : slot_length z in_force cycle_now c ≡ slot_in s c
     unfolding slot_in
-    length_own = ap (λ (x : List ℕ). slot_length x inForce cycleNow c) g.own
+    length_own = ap (λ (x : List ℕ). slot_length x in_force cycle_now c) g.own
 
-    route_own : slot_route z inForce cycleNow c ≡ slot_route (sheet_in s) inForce cycleNow c
-    route_own = ap (λ (x : List ℕ). slot_route x inForce cycleNow c) g.own
+    route_own : slot_route z in_force cycle_now c ≡ slot_route (sheet_in s) in_force cycle_now c
+    route_own = ap (λ (x : List ℕ). slot_route x in_force cycle_now c) g.own
 
     pub no_slot : found ≡ 0 → 0 ≡ slot_in s c
-    no_slot h = length_none z inForce cycleNow c found found_is h ∙ length_own
+    no_slot h = length_none z in_force cycle_now c found found_is h ∙ length_own
 
-    pub no_route : found ≡ 0 → 0 ≡ slot_route (sheet_in s) inForce cycleNow c
-    no_route h = route_none z inForce cycleNow c found found_is h ∙ route_own
+    pub no_route : found ≡ 0 → 0 ≡ slot_route (sheet_in s) in_force cycle_now c
+    no_route h = route_none z in_force cycle_now c found found_is h ∙ route_own
 
-    module _ (ne : found ≡ 0 → ⊥) (j : ℕ) (a : j ≡ inForce) (entries : List ℕ) (q : entries ≡ entries_of z j) where
-      entries_own : entries ≡ entries_of z inForce
+    module _ (ne : found ≡ 0 → ⊥) (j : ℕ) (a : j ≡ in_force) (entries : List ℕ) (q : entries ≡ entries_of z j) where
+      entries_own : entries ≡ entries_of z in_force
       entries_own = q ∙ ap (entries_of z) a
 
       pub slot_inside : found - 1 < entry_count entries
-      slot_inside = found_inside z inForce cycleNow c found entries found_is ne entries_own
+      slot_inside = found_inside z in_force cycle_now c found entries found_is ne entries_own
 
       pub slot_size : (x : Entry) → x ≡ entry_at entries (found - 1) → x.size ≡ slot_in s c
-      slot_size x r = length_is z inForce cycleNow c found found_is entries entries_own x r ne ∙ length_own
+      slot_size x r = length_is z in_force cycle_now c found found_is entries entries_own x r ne ∙ length_own
 
-      pub slot_route_is : (x : Entry) → x ≡ entry_at entries (found - 1) → x.route ≡ slot_route (sheet_in s) inForce cycleNow c
-      slot_route_is x r = route_is z inForce cycleNow c found found_is entries entries_own x r ne ∙ route_own
+      pub slot_route_is : (x : Entry) → x ≡ entry_at entries (found - 1) → x.route ≡ slot_route (sheet_in s) in_force cycle_now c
+      slot_route_is x r = route_is z in_force cycle_now c found found_is entries entries_own x r ne ∙ route_own
 
 -- no entry is passed yet
 pub behind_none : (entries : List ℕ) (cycle : ℕ) → BegunBefore entries cycle 0

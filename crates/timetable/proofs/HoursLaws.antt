@@ -140,25 +140,25 @@ never_parts d m e = go (d =? week) refl e
 
 -- up to the change the schedule is that of the minute
 module _ (t : List ℕ) (minute : ℕ) where
-  abbrev differsIn : ℕ → Bool
-  differsIn d = schedule_in t ((minute + d) % week) ≠? schedule_in t minute
+  abbrev differs_in : ℕ → Bool
+  differs_in d = schedule_in t ((minute + d) % week) ≠? schedule_in t minute
 
   ahead_low : 1 ≤ changes_in t minute
   unfolding changes_in
-  ahead_low = least_from_low differsIn (week - 1) 1
+  ahead_low = least_from_low differs_in (week - 1) 1
 
   ahead_high : (changes_in t minute ≡ week → ⊥) → changes_in t minute < week
   unfolding changes_in
-  ahead_high ne = omega (arith, ne, least_from_most differsIn (week - 1) 1)
+  ahead_high ne = omega (arith, ne, least_from_most differs_in (week - 1) 1)
 
   ahead_stays : minute < week → (d : ℕ) → d < changes_in t minute → schedule_in t ((minute + d) % week) ≡ schedule_in t minute
   unfolding changes_in
   ahead_stays inside zero l = ap (schedule_in t) (omega arith)
-  ahead_stays inside (suc d) l = not≠ _ _ (least_from_before differsIn (week - 1) 1 (suc d) (omega arith) l)
+  ahead_stays inside (suc d) l = not≠ _ _ (least_from_before differs_in (week - 1) 1 (suc d) (omega arith) l)
 
   ahead_differs : changes_in t minute < week → schedule_in t ((minute + changes_in t minute) % week) ≡ schedule_in t minute → ⊥
   unfolding changes_in
-  ahead_differs l = is≠ _ _ (least_from_passes differsIn (week - 1) 1 l)
+  ahead_differs l = is≠ _ _ (least_from_passes differs_in (week - 1) 1 l)
 
 pub change_right : ChangeRight
 unfolding next_change

@@ -95,38 +95,38 @@ vertical_none output a b = rw (no= a, no= b) refl
 
 module _ (cols rows : ℕ) (long : Bool) (node entry delay route : ℕ) where
   -- the output for the route's first code
-  abbrev outputHere : ℕ
-  outputHere = output_of entry (first_code route)
+  abbrev output_here : ℕ
+  output_here = output_of entry (first_code route)
 
   -- the output to the memory is the route's end
-  pub follow_memory : (left : ℕ) → outputHere ≡ memory_output
+  pub follow_memory : (left : ℕ) → output_here ≡ memory_output
       → follow (suc left) cols rows long node entry delay route ≡ ending (later_codes route =? 0) node delay
   unfolding follow
   follow_memory left e = rw (yes= e, follow) refl
 
   -- a side output goes on at the next router
-  pub follow_side : (left : ℕ) → (outputHere ≡ memory_output → ⊥)
+  pub follow_side : (left : ℕ) → (output_here ≡ memory_output → ⊥)
       → follow (suc left) cols rows long node entry delay route
-      ≡ over_side (record { wire = side node outputHere; delay = delay }) (link_cycles long outputHere)
-      (follow left cols rows long (neighbour_of cols rows node outputHere) (opposite_of outputHere) (delay + hop_cycles long outputHere) (later_codes route))
+      ≡ over_side (record { wire = side node output_here; delay = delay }) (link_cycles long output_here)
+      (follow left cols rows long (neighbour_of cols rows node output_here) (opposite_of output_here) (delay + hop_cycles long output_here) (later_codes route))
   unfolding follow
   follow_side left ne = rw (no= ne, follow) refl
 
   -- the same where some routers are left: a route that has no bits left, one that has, and one that goes on
-  pub follow_out : (left : ℕ) → 0 < left → outputHere ≡ memory_output → later_codes route ≡ 0
+  pub follow_out : (left : ℕ) → 0 < left → output_here ≡ memory_output → later_codes route ≡ 0
       → follow left cols rows long node entry delay route ≡ leads (record { wire = memory node; delay = delay } ∷ []) node 0 0
   follow_out zero h e z = absurd (not-suc-le-zero h)
   follow_out (suc left) h e z = follow_memory left e ∙ ap (λ b. ending b node delay) (yes= z)
 
-  pub follow_lost : (left : ℕ) → 0 < left → outputHere ≡ memory_output → (later_codes route ≡ 0 → ⊥)
+  pub follow_lost : (left : ℕ) → 0 < left → output_here ≡ memory_output → (later_codes route ≡ 0 → ⊥)
       → follow left cols rows long node entry delay route ≡ nowhere
   follow_lost zero h e z = absurd (not-suc-le-zero h)
   follow_lost (suc left) h e z = follow_memory left e ∙ ap (λ b. ending b node delay) (no= z)
 
-  pub follow_on : (left : ℕ) → 0 < left → (outputHere ≡ memory_output → ⊥)
+  pub follow_on : (left : ℕ) → 0 < left → (output_here ≡ memory_output → ⊥)
       → follow left cols rows long node entry delay route
-      ≡ over_side (record { wire = side node outputHere; delay = delay }) (link_cycles long outputHere)
-      (follow (left - 1) cols rows long (neighbour_of cols rows node outputHere) (opposite_of outputHere) (delay + hop_cycles long outputHere) (later_codes route))
+      ≡ over_side (record { wire = side node output_here; delay = delay }) (link_cycles long output_here)
+      (follow (left - 1) cols rows long (neighbour_of cols rows node output_here) (opposite_of output_here) (delay + hop_cycles long output_here) (later_codes route))
   follow_on zero h ne = absurd (not-suc-le-zero h)
   follow_on (suc left) h ne = rw sub-one (follow_side left ne)
 
@@ -339,8 +339,8 @@ module _ (cols rows : ℕ) (long : Bool) where
   followed_on left node delay output g c nowhere f = tt
 
   -- the rest of a route behind the router by an output
-  abbrev onFrom : ℕ → ℕ → ℕ → ℕ → ℕ → Route
-  onFrom left node delay route output =
+  abbrev on_from : ℕ → ℕ → ℕ → ℕ → ℕ → Route
+  on_from left node delay route output =
       follow left cols rows long (neighbour_of cols rows node output) (opposite_of output) (delay + hop_cycles long output) (later_codes route)
 
   followed : (left node entry delay route : ℕ) → InGrid cols rows node
@@ -354,7 +354,7 @@ module _ (cols rows : ℕ) (long : Bool) where
       output : ℕ
       output = output_of entry (first_code route)
 
-      go : Dec (output ≡ memory_output) → Followed cols rows left (delay + hop_cycles long output) (onFrom left node delay route output)
+      go : Dec (output ≡ memory_output) → Followed cols rows left (delay + hop_cycles long output) (on_from left node delay route output)
           → Followed cols rows (suc left) delay (follow (suc left) cols rows long node entry delay route)
       go (yes e) r =
           subst (Followed cols rows (suc left) delay) (sym (follow_memory cols rows long node entry delay route left e))
@@ -362,7 +362,7 @@ module _ (cols rows : ℕ) (long : Bool) where
       go (no ne) r =
           subst (Followed cols rows (suc left) delay) (sym (follow_side cols rows long node entry delay route left ne))
           (followed_on left node delay output g (side_small entry (first_code route) (mod-lt route (omega arith)) ne)
-          (onFrom left node delay route output) r)
+          (on_from left node delay route output) r)
 
 -- what holds where a route leads from its source
 record LedFrom (cols rows : ℕ) (uses : List Use) (node hops vertical : ℕ) : Type 0 where

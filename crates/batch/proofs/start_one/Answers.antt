@@ -7,4 +7,4 @@ use Rattle.batch.proofs.start_one.Goals as goal
 
 pub returns : goal.returns
 returns c = let a = c.args in
-    let left = c.start_sound.ensures in record { answer = number_is (transfer_number a.s.now a.t) left.0 c.number_of.ensures; state = next_after a.s.now a.t left.1 }
+    let left = c.start_sound.ensures in record { answer = number_is (transfer_number a.s.now a.t) left.answer c.number_of.ensures; state = next_after a.s.now a.t left.state }

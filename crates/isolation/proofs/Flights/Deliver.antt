@@ -11,7 +11,7 @@ use Rattle.packet.proofs.HeaderLaws.{GivenBack, given_back}
 use Rattle.sheet.specs.Sheet.{memory_words, circuits, nodes, circuit_at}
 use Rattle.sheet.specs.Slots.{slot_route, destination_of}
 use Rattle.network.specs.View.{Cell, empty, header, payload, memory_output, Sender, Receiver, Landing, nothing, landed, View}
-use Rattle.network.specs.Cycle.{Move, rests, opens, sends, slotNow, moveNow, headNow, readNow, landing_of, step_receiver, tick, is_payload, strays, faulty}
+use Rattle.network.specs.Cycle.{Move, rests, opens, sends, slot_now, move_now, head_now, read_now, landing_of, step_receiver, tick, is_payload, strays, faulty}
 use Rattle.soundness.proofs.SoundLaws.{Lies, travels_small}
 use Rattle.soundness.proofs.SheetLaws.{SheetBounds, circuit_bounds}
 use Rattle.isolation.proofs.Flights.CellLaws.{payload_full}
@@ -35,7 +35,7 @@ leaving_of sends word x = landed x.kind x.write_address word
 
 -- the payload word that a circuit sends in this cycle
 abbrev pub leaving_now : List ℕ → View → ℕ → Landing
-leaving_now z v circuit = leaving_of (moveNow z v circuit) (readNow z v circuit) (v.sender circuit)
+leaving_now z v circuit = leaving_of (move_now z v circuit) (read_now z v circuit) (v.sender circuit)
 
 -- what lands is a payload word
 landing_payload : (r : Receiver) (c : Cell) → is_landed (landing_of r c) ≡ true → is_payload c ≡ true
@@ -124,8 +124,8 @@ module _ (z : List ℕ) (B : SheetBounds z) (W : Ways z) (S : ℕ → View) (J :
       let left = to_go_is z B W S J f j T e l in
       let m = sends_on z B W S J f j T e l (omega arith) in
       let x = sending f j T e l in
-      let read : readNow z (S T) f.circuit ≡ F.payload_at f (suc j) = ap (λ t. readNow z (S t) f.circuit) e in
-      ap (λ d. leaving_of d (readNow z (S T) f.circuit) ((S T).sender f.circuit)) m ∙ cc (read, x.address_is, x.kind_is)
+      let read : read_now z (S T) f.circuit ≡ F.payload_at f (suc j) = ap (λ t. read_now z (S t) f.circuit) e in
+      ap (λ d. leaving_of d (read_now z (S T) f.circuit) ((S T).sender f.circuit)) m ∙ cc (read, x.address_is, x.kind_is)
 
   -- its words come to its destination's memory output
   pub memory_word : (f : Opening z S) (j T : ℕ) → T ≡ f.start + j + W.travel f.circuit → j ≤ F.size f
@@ -175,7 +175,7 @@ module _ (z : List ℕ) (B : SheetBounds z) (W : Ways z) (S : ℕ → View) (J :
       → ReceivingWord f j ((S T).receiver (destination_of z f.circuit))
   receiving f j zero e l = absurd (omega arith)
   receiving f zero (suc T) e l =
-      let word : ℕ = headNow z (S f.start) f.circuit in
+      let word : ℕ = head_now z (S f.start) f.circuit in
       let back = header_back f in
       let next =
       receiver_next T (destination_of z f.circuit) (word_at F f (W.routers f.circuit) 0) (destination_inside f)
@@ -236,8 +236,8 @@ module _ (z : List ℕ) (B : SheetBounds z) (W : Ways z) (S : ℕ → View) (J :
       → is_landed (leaving_now z (S t) circuit) ≡ true
       → (tick z (S T)).landing (destination_of z circuit) ≡ leaving_now z (S t) circuit
   delivered t T circuit l e full =
-      let m = leaving_sends (moveNow z (S t) circuit) (readNow z (S t) circuit) ((S t).sender circuit) full in
-      let x = under_way_is z B W S J t circuit l (move_sends (slotNow z (S t) circuit) ((S t).sender circuit) m) in
+      let m = leaving_sends (move_now z (S t) circuit) (read_now z (S t) circuit) ((S t).sender circuit) full in
+      let x = under_way_is z B W S J t circuit l (move_sends (slot_now z (S t) circuit) ((S t).sender circuit) m) in
       let u = x.0 in
       let later : 0 < u.index = x.1 in
       let f = u.flight in
@@ -268,16 +268,16 @@ module _ (z : List ℕ) (B : SheetBounds z) (W : Ways z) (S : ℕ → View) (J :
   -- what a circuit sends goes into its receive region
   pub leaving_inside : (t circuit kind address word : ℕ) → circuit < circuits z
       → leaving_now z (S t) circuit ≡ landed kind address word → Lies (circuit_at z circuit).receive address 1
-  leaving_inside t circuit kind address word l e = go (moveNow z (S t) circuit) refl e
+  leaving_inside t circuit kind address word l e = go (move_now z (S t) circuit) refl e
     where
-      go : (m : Move) → moveNow z (S t) circuit ≡ m
-          → leaving_of m (readNow z (S t) circuit) ((S t).sender circuit) ≡ landed kind address word
+      go : (m : Move) → move_now z (S t) circuit ≡ m
+          → leaving_of m (read_now z (S t) circuit) ((S t).sender circuit) ≡ landed kind address word
           → Lies (circuit_at z circuit).receive address 1
       go rests q x = absurd (false≢true (ap is_landed x))
       go opens q x = absurd (false≢true (ap is_landed x))
       go sends q x =
           let same : ((S t).sender circuit).write_address ≡ address = ap address_in x in
-          let some = move_sends (slotNow z (S t) circuit) ((S t).sender circuit) q in
+          let some = move_sends (slot_now z (S t) circuit) ((S t).sender circuit) q in
           let f = transfer_inside z S J t circuit l in
           let y = f.writes (omega (arith, f.to_go_at, some)) in
           record { low = omega (arith, same, y.low); high = omega (arith, same, y.high, f.to_go_at, some) }

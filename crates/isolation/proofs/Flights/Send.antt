@@ -15,7 +15,7 @@ use Rattle.packet.specs.Header.{header_word, route_of, routes}
 use Rattle.sheet.specs.Sheet.{circuits, nodes, period}
 use Rattle.sheet.specs.Slots.{slot_length, source_of}
 use Rattle.network.specs.View.{Cell, empty, header, payload, View, ports}
-use Rattle.network.specs.Cycle.{gather, Move, rests, opens, sends, sent_cell, slotNow, moveNow, headNow, readNow, sentNow, sourceWire, is_full, crowds, reopens, strays, faulty}
+use Rattle.network.specs.Cycle.{gather, Move, rests, opens, sends, sent_cell, slot_now, move_now, head_now, read_now, sent_now, source_wire, is_full, crowds, reopens, strays, faulty}
 use Rattle.soundness.proofs.SheetLaws.{SheetBounds}
 use Rattle.isolation.proofs.Flights.CellLaws.{not_full, pick_passes, pick_full, gather_one, gather_full}
 use Rattle.isolation.proofs.Flights.Flight.{Flights, word_at, Paths, Holds, Leaves, Emits, NoClash}
@@ -31,7 +31,7 @@ pub record Opening (z : List ℕ) (S : ℕ → View) : Type 0 where
   pub start : ℕ
   pub circuit : ℕ
   pub circuit_inside : circuit < circuits z
-  pub opening : moveNow z (S start) circuit ≡ opens
+  pub opening : move_now z (S start) circuit ≡ opens
 
 -- its way
 abbrev pub course_of : (z : List ℕ) → Ways z → (S : ℕ → View) → Opening z S → Course
@@ -43,12 +43,12 @@ flights z W S = record {
   Id = Opening z S;
   start = λ f. f.start;
   routers = λ f. W.routers f.circuit;
-  size = λ f. min (slotNow z (S f.start) f.circuit - 1) ((S f.start).sender f.circuit).left;
+  size = λ f. min (slot_now z (S f.start) f.circuit - 1) ((S f.start).sender f.circuit).left;
   node = λ f. (course_of z W S f).node;
   input = λ f. (course_of z W S f).input;
   output = λ f. (course_of z W S f).output;
-  header_at = λ f k. header_after k (headNow z (S f.start) f.circuit);
-  payload_at = λ f j. readNow z (S (f.start + j)) f.circuit;
+  header_at = λ f k. header_after k (head_now z (S f.start) f.circuit);
+  payload_at = λ f j. read_now z (S (f.start + j)) f.circuit;
   delay = λ f. (course_of z W S f).delay;
 }
 
@@ -100,11 +100,11 @@ module _ (z : List ℕ) (B : SheetBounds z) (W : Ways z) (S : ℕ → View) (J :
   pub slot_of : (f : Opening z S) → Slot z (S f.start).schedule (S f.start).cycle f.circuit
   slot_of f = record {
     schedule_inside = (date z B S J f.start).schedule_inside;
-    begins = (move_opens (slotNow z (S f.start) f.circuit) ((S f.start).sender f.circuit) f.opening).0;
+    begins = (move_opens (slot_now z (S f.start) f.circuit) ((S f.start).sender f.circuit) f.opening).0;
   }
 
   pub left_of : (f : Opening z S) → 0 < ((S f.start).sender f.circuit).left
-  left_of f = (move_opens (slotNow z (S f.start) f.circuit) ((S f.start).sender f.circuit) f.opening).1
+  left_of f = (move_opens (slot_now z (S f.start) f.circuit) ((S f.start).sender f.circuit) f.opening).1
 
   pub leads_of : (f : Opening z S)
       → Leads z (S f.start).schedule (S f.start).cycle f.circuit (W.routers f.circuit) (W.travel f.circuit)
@@ -123,8 +123,8 @@ module _ (z : List ℕ) (B : SheetBounds z) (W : Ways z) (S : ℕ → View) (J :
     side_output = λ f. (leads_of f).side_output;
     last_output = λ f. (leads_of f).last_output;
     asked_output = λ f k l.
-        (leads_of f).asked_output (headNow z (S f.start) f.circuit) k (built_route _ _ _ (leads_of f).route_fits) l;
-    next_header = λ f k. header_next k (headNow z (S f.start) f.circuit);
+        (leads_of f).asked_output (head_now z (S f.start) f.circuit) k (built_route _ _ _ (leads_of f).route_fits) l;
+    next_header = λ f k. header_next k (head_now z (S f.start) f.circuit);
     first_delay = λ f. (leads_of f).first_delay;
     next_delay = λ f. (leads_of f).next_delay;
   }
@@ -141,7 +141,7 @@ module _ (z : List ℕ) (B : SheetBounds z) (W : Ways z) (S : ℕ → View) (J :
     next_period = begins_next z S;
     period = λ f. (date z B S J f.start).period;
     offset = λ f. (date z B S J f.start).offset;
-    words = λ f. slotNow z (S f.start) f.circuit;
+    words = λ f. slot_now z (S f.start) f.circuit;
     starts = λ f. (date z B S J f.start).time;
     fits = λ f. omega (arith, (slot_of f).begins);
     away = λ f. (leads_of f).away;
@@ -174,7 +174,7 @@ module _ (z : List ℕ) (B : SheetBounds z) (W : Ways z) (S : ℕ → View) (J :
       )
 
   -- its words fit its slot
-  below_slot : (f : Opening z S) (j : ℕ) → j ≤ F.size f → j < slotNow z (S f.start) f.circuit
+  below_slot : (f : Opening z S) (j : ℕ) → j ≤ F.size f → j < slot_now z (S f.start) f.circuit
   below_slot f j l = omega (arith, (slot_of f).begins)
 
   -- one packet at a time is on a source's wire
@@ -203,12 +203,12 @@ module _ (z : List ℕ) (B : SheetBounds z) (W : Ways z) (S : ℕ → View) (J :
 
   -- a packet whose words are still to go sends the next of them
   pub sends_on : (f : Opening z S) (j T : ℕ) → T ≡ f.start + suc j → suc j ≤ F.size f → 0 < ((S T).sender f.circuit).to_go
-      → moveNow z (S T) f.circuit ≡ sends
-  sends_on f j T e l some = go (moveNow z (S T) f.circuit) refl
+      → move_now z (S T) f.circuit ≡ sends
+  sends_on f j T e l some = go (move_now z (S T) f.circuit) refl
     where
-      go : (m : Move) → moveNow z (S T) f.circuit ≡ m → moveNow z (S T) f.circuit ≡ sends
+      go : (m : Move) → move_now z (S T) f.circuit ≡ m → move_now z (S T) f.circuit ≡ sends
       go sends q = q
-      go rests q = absurd (omega (arith, move_rests (slotNow z (S T) f.circuit) ((S T).sender f.circuit) q))
+      go rests q = absurd (omega (arith, move_rests (slot_now z (S T) f.circuit) ((S T).sender f.circuit) q))
       go opens q =
           let again : Opening z S =
           record { start = T; circuit = f.circuit; circuit_inside = f.circuit_inside; opening = q } in
@@ -220,8 +220,8 @@ module _ (z : List ℕ) (B : SheetBounds z) (W : Ways z) (S : ℕ → View) (J :
   to_go_is f j zero e l = absurd (omega arith)
   to_go_is f zero (suc T) e l =
       let start : T ≡ f.start = omega arith in
-      let size : min (slotNow z (S T) f.circuit - 1) ((S T).sender f.circuit).left ≡ F.size f =
-      ap (λ t. min (slotNow z (S t) f.circuit - 1) ((S t).sender f.circuit).left) start in
+      let size : min (slot_now z (S T) f.circuit - 1) ((S T).sender f.circuit).left ≡ F.size f =
+      ap (λ t. min (slot_now z (S t) f.circuit - 1) ((S t).sender f.circuit).left) start in
       omega (arith, size, to_go_next z S J T f.circuit opens f.circuit_inside (rw start f.opening))
   to_go_is f (suc j) (suc T) e l =
       let before = to_go_is f j T (omega arith) (omega arith) in
@@ -232,32 +232,32 @@ module _ (z : List ℕ) (B : SheetBounds z) (W : Ways z) (S : ℕ → View) (J :
       )
 
   -- its circuit sends its words, cycle by cycle
-  pub sent_word : (f : Opening z S) (j T : ℕ) → T ≡ f.start + j → j ≤ F.size f → sentNow z (S T) f.circuit ≡ word_at F f 0 j
+  pub sent_word : (f : Opening z S) (j T : ℕ) → T ≡ f.start + j → j ≤ F.size f → sent_now z (S T) f.circuit ≡ word_at F f 0 j
   sent_word f zero T e l =
       let start : T ≡ f.start = omega arith in
       let v : View = S f.start in
       rw start
-      (ap (λ m. sent_cell m (headNow z v f.circuit) (readNow z v f.circuit) (v.sender f.circuit)) f.opening
-      ∙ ap header (sym (header_first (headNow z v f.circuit))))
+      (ap (λ m. sent_cell m (head_now z v f.circuit) (read_now z v f.circuit) (v.sender f.circuit)) f.opening
+      ∙ ap header (sym (header_first (head_now z v f.circuit))))
   sent_word f (suc j) T e l =
       let left = to_go_is f j T e l in
-      let m : moveNow z (S T) f.circuit ≡ sends = sends_on f j T e l (omega arith) in
-      ap (λ x. sent_cell x (headNow z (S T) f.circuit) (readNow z (S T) f.circuit) ((S T).sender f.circuit)) m
-      ∙ ap (payload (readNow z (S T) f.circuit))
+      let m : move_now z (S T) f.circuit ≡ sends = sends_on f j T e l (omega arith) in
+      ap (λ x. sent_cell x (head_now z (S T) f.circuit) (read_now z (S T) f.circuit) ((S T).sender f.circuit)) m
+      ∙ ap (payload (read_now z (S T) f.circuit))
       (last_mark ((S T).sender f.circuit).to_go (suc j) (F.size f) (omega arith))
-      ∙ ap (λ t. payload (readNow z (S t) f.circuit) (suc j =? F.size f)) e
+      ∙ ap (λ t. payload (read_now z (S t) f.circuit) (suc j =? F.size f)) e
 
   -- a cycle later, words still to go are those of a packet
-  under_next : (T circuit : ℕ) → circuit < circuits z → (m : Move) → moveNow z (S T) circuit ≡ m
+  under_next : (T circuit : ℕ) → circuit < circuits z → (m : Move) → move_now z (S T) circuit ≡ m
       → (0 < ((S T).sender circuit).to_go → (u : UnderWay z W S T circuit) × (0 < u.index)) → 0 < ((S (suc T)).sender circuit).to_go
       → (u : UnderWay z W S (suc T) circuit) × (0 < u.index)
   under_next T circuit l rests q before some =
-      absurd (omega (arith, to_go_next z S J T circuit rests l q, move_rests (slotNow z (S T) circuit) ((S T).sender circuit) q))
+      absurd (omega (arith, to_go_next z S J T circuit rests l q, move_rests (slot_now z (S T) circuit) ((S T).sender circuit) q))
   under_next T circuit l opens q before some =
       let f : Opening z S = record { start = T; circuit = circuit; circuit_inside = l; opening = q } in
       (record { flight = f; index = 1; of_circuit = refl; in_packet = paths.some_size f; time = omega arith }, omega arith)
   under_next T circuit l sends q before some =
-      let x = before (move_sends (slotNow z (S T) circuit) ((S T).sender circuit) q) in
+      let x = before (move_sends (slot_now z (S T) circuit) ((S T).sender circuit) q) in
       let u = x.0 in
       let later : 0 < u.index = x.1 in
       let same : ((S T).sender u.flight.circuit).to_go ≡ ((S T).sender circuit).to_go =
@@ -277,14 +277,14 @@ module _ (z : List ℕ) (B : SheetBounds z) (W : Ways z) (S : ℕ → View) (J :
   pub under_way_is : (T circuit : ℕ) → circuit < circuits z → 0 < ((S T).sender circuit).to_go
       → (u : UnderWay z W S T circuit) × (0 < u.index)
   under_way_is zero circuit l some = absurd (omega (arith, J.none_to_go circuit l))
-  under_way_is (suc T) circuit l some = under_next T circuit l (moveNow z (S T) circuit) refl (under_way_is T circuit l) some
+  under_way_is (suc T) circuit l some = under_next T circuit l (move_now z (S T) circuit) refl (under_way_is T circuit l) some
 
   -- and so is what a circuit sends
-  pub sent_by : (T circuit : ℕ) → circuit < circuits z → is_full (sentNow z (S T) circuit) ≡ true → UnderWay z W S T circuit
-  sent_by T circuit l full = go (moveNow z (S T) circuit) refl full
+  pub sent_by : (T circuit : ℕ) → circuit < circuits z → is_full (sent_now z (S T) circuit) ≡ true → UnderWay z W S T circuit
+  sent_by T circuit l full = go (move_now z (S T) circuit) refl full
     where
-      go : (m : Move) → moveNow z (S T) circuit ≡ m
-          → is_full (sent_cell m (headNow z (S T) circuit) (readNow z (S T) circuit) ((S T).sender circuit)) ≡ true
+      go : (m : Move) → move_now z (S T) circuit ≡ m
+          → is_full (sent_cell m (head_now z (S T) circuit) (read_now z (S T) circuit) ((S T).sender circuit)) ≡ true
           → UnderWay z W S T circuit
       go rests q x = absurd (false≢true x)
       go opens q x = record {
@@ -294,11 +294,11 @@ module _ (z : List ℕ) (B : SheetBounds z) (W : Ways z) (S : ℕ → View) (J :
         in_packet = omega arith;
         time = omega arith;
       }
-      go sends q x = (under_way_is T circuit l (move_sends (slotNow z (S T) circuit) ((S T).sender circuit) q)).0
+      go sends q x = (under_way_is T circuit l (move_sends (slot_now z (S T) circuit) ((S T).sender circuit) q)).0
 
   -- two circuits of one source do not send in one cycle
   pub one_sends : (T circuit circuit' : ℕ) → circuit < circuits z → circuit' < circuits z → source_of z circuit ≡ source_of z circuit'
-      → is_full (sentNow z (S T) circuit) ≡ true → is_full (sentNow z (S T) circuit') ≡ true → circuit ≡ circuit'
+      → is_full (sent_now z (S T) circuit) ≡ true → is_full (sent_now z (S T) circuit') ≡ true → circuit ≡ circuit'
   one_sends T circuit circuit' l l' n full full' =
       let u = sent_by T circuit l full in
       let u' = sent_by T circuit' l' full' in
@@ -309,12 +309,12 @@ module _ (z : List ℕ) (B : SheetBounds z) (W : Ways z) (S : ℕ → View) (J :
       ∙ u'.of_circuit
 
   -- in each cycle the sources put the packets' words on their wires, and no others
-  pub emits : (T : ℕ) → Emits z F T (sourceWire z (S T))
-  unfolding sourceWire
+  pub emits : (T : ℕ) → Emits z F T (source_wire z (S T))
+  unfolding source_wire
   emits T = record { source_word_is = source_word_is; source_only = source_only }
     where
       own : ℕ → ℕ → Cell
-      own node circuit = pick (source_of z circuit =? node) (sentNow z (S T) circuit) empty
+      own node circuit = pick (source_of z circuit =? node) (sent_now z (S T) circuit) empty
 
       mine : (f : Opening z S) (j : ℕ) → j ≤ F.size f → T ≡ f.start + j → own (F.node f 0) f.circuit ≡ word_at F f 0 j
       mine f j l e = rw (yes= (sym (leads_of f).first_node)) (sent_word f j T e l)
@@ -322,8 +322,8 @@ module _ (z : List ℕ) (B : SheetBounds z) (W : Ways z) (S : ℕ → View) (J :
       other : (f : Opening z S) (j circuit : ℕ) → j ≤ F.size f → T ≡ f.start + j → circuit < circuits z
           → is_full (own (F.node f 0) circuit) ≡ true → circuit ≡ f.circuit
       other f j circuit l e c full =
-          let at = is= _ _ (pick_passes (source_of z circuit =? F.node f 0) (sentNow z (S T) circuit) full) in
-          let u = sent_by T circuit c (pick_full (source_of z circuit =? F.node f 0) (sentNow z (S T) circuit) full) in
+          let at = is= _ _ (pick_passes (source_of z circuit =? F.node f 0) (sent_now z (S T) circuit) full) in
+          let u = sent_by T circuit c (pick_full (source_of z circuit =? F.node f 0) (sent_now z (S T) circuit) full) in
           sym u.of_circuit
           ∙ (source_alone u.flight f u.index j u.in_packet l (omega (arith, u.time))
           (ap (source_of z) u.of_circuit ∙ at ∙ (leads_of f).first_node)).1
@@ -338,8 +338,8 @@ module _ (z : List ℕ) (B : SheetBounds z) (W : Ways z) (S : ℕ → View) (J :
       source_only : (node : ℕ) → node < nodes z → is_full (gather (circuits z) (own node)) ≡ true → Leaves F T node
       source_only node n full =
           let at = gather_full (circuits z) (own node) full in
-          let passes = pick_passes (source_of z at.place =? node) (sentNow z (S T) at.place) at.full in
-          let sent = pick_full (source_of z at.place =? node) (sentNow z (S T) at.place) at.full in
+          let passes = pick_passes (source_of z at.place =? node) (sent_now z (S T) at.place) at.full in
+          let sent = pick_full (source_of z at.place =? node) (sent_now z (S T) at.place) at.full in
           let u = sent_by T at.place at.below sent in
           record {
             flight = u.flight;
@@ -349,23 +349,23 @@ module _ (z : List ℕ) (B : SheetBounds z) (W : Ways z) (S : ℕ → View) (J :
             at_node = (leads_of u.flight).first_node ∙ ap (source_of z) u.of_circuit ∙ is= _ _ passes;
           }
 
-  runs : Runs z (λ T. sourceWire z (S T)) (λ T. (S T).routers)
+  runs : Runs z (λ T. source_wire z (S T)) (λ T. (S T).routers)
   runs = record { first = J.no_words; next = λ T. (J.between T).routers }
 
   -- before each cycle the routers hold the packets' words, and no others
   pub holds : (T : ℕ) → Holds z F T (S T).routers
-  holds = run_holds z B.ranged.framed.headed F paths no_clash (λ T. sourceWire z (S T)) emits (λ T. (S T).routers) runs
+  holds = run_holds z B.ranged.framed.headed F paths no_clash (λ T. source_wire z (S T)) emits (λ T. (S T).routers) runs
 
   -- no two circuits put a word on one source's wire
   pub none_crowds : (T node : ℕ) → crowds z (S T) node ≡ false
   unfolding crowds
   none_crowds T node =
-      let one = count_of_one (circuits z) (λ circuit. source_of z circuit =? node and is_full (sentNow z (S T) circuit)) same in
+      let one = count_of_one (circuits z) (λ circuit. source_of z circuit =? node and is_full (sent_now z (S T) circuit)) same in
       no≤ (omega (arith, one))
     where
       same : (circuit circuit' : ℕ) → circuit < circuits z → circuit' < circuits z
-          → (source_of z circuit =? node and is_full (sentNow z (S T) circuit)) ≡ true
-          → (source_of z circuit' =? node and is_full (sentNow z (S T) circuit')) ≡ true → circuit ≡ circuit'
+          → (source_of z circuit =? node and is_full (sent_now z (S T) circuit)) ≡ true
+          → (source_of z circuit' =? node and is_full (sent_now z (S T) circuit')) ≡ true → circuit ≡ circuit'
       same circuit circuit' l l' e e' =
           one_sends T circuit circuit' l l' (is= _ _ (and_left _ _ e) ∙ sym (is= _ _ (and_left _ _ e'))) (and_right _ _ e)
           (and_right _ _ e')
@@ -382,7 +382,7 @@ module _ (z : List ℕ) (B : SheetBounds z) (W : Ways z) (S : ℕ → View) (J :
           let rest = and_right _ _ e in
           let left = is≤ _ _ (and_left _ _ rest) in
           let to_go_at = is≤ _ _ (and_right _ _ rest) in
-          let again : Opening z S = record { start = T; circuit = circuit; circuit_inside = l; opening = opens_both (slotNow z (S T) circuit) ((S T).sender circuit) slot left } in
+          let again : Opening z S = record { start = T; circuit = circuit; circuit_inside = l; opening = opens_both (slot_now z (S T) circuit) ((S T).sender circuit) slot left } in
           let x = under_way_is T circuit l to_go_at in
           let u = x.0 in
           let same =

@@ -11,7 +11,7 @@ use Rattle.words.specs.Words.{pick}
 use Rattle.words.proofs.TestLaws.{yes=, no=}
 use Rattle.sheet.specs.Sheet.{circuits, schedules, nodes, circuit_at, period}
 use Rattle.network.specs.View.{Order, no_order, pending, View}
-use Rattle.network.specs.Cycle.{Move, step_sender, slotNow, moveNow, next_number, schedule_after, order_after, period_ends, tick}
+use Rattle.network.specs.Cycle.{Move, step_sender, slot_now, move_now, next_number, schedule_after, order_after, period_ends, tick}
 use Rattle.network.specs.Seen.{Agree}
 pub use Rattle.session.proofs.MoveLaws.{opens_both, move_opens, move_sends, move_rests, transfer_step}
 use Rattle.soundness.proofs.SoundLaws.{TransferParts}
@@ -198,7 +198,7 @@ module _ (z : List ℕ) (S : ℕ → View) (J : Trajectory z S) where
   transfer_tick : (T circuit : ℕ) → TransferParts (circuit_at z circuit) ((S T).sender circuit)
       → TransferParts (circuit_at z circuit) ((tick z (S T)).sender circuit)
   transfer_tick T circuit f =
-      transfer_step (circuit_at z circuit) (slotNow z (S T) circuit) ((S T).sender circuit) (moveNow z (S T) circuit) refl f
+      transfer_step (circuit_at z circuit) (slot_now z (S T) circuit) ((S T).sender circuit) (move_now z (S T) circuit) refl f
 
   -- before each cycle each circuit's transfer lies within its regions
   pub transfer_inside : (T circuit : ℕ) → circuit < circuits z → TransferParts (circuit_at z circuit) ((S T).sender circuit)
@@ -206,16 +206,16 @@ module _ (z : List ℕ) (S : ℕ → View) (J : Trajectory z S) where
   transfer_inside (suc T) circuit l = (J.between T).transfer circuit l (transfer_tick T circuit (transfer_inside T circuit l))
 
   -- the words of its packet still to go, after a cycle
-  pub to_go_next : (T circuit : ℕ) (m : Move) → circuit < circuits z → moveNow z (S T) circuit ≡ m
-      → ((S (suc T)).sender circuit).to_go ≡ (step_sender m (slotNow z (S T) circuit) ((S T).sender circuit)).to_go
+  pub to_go_next : (T circuit : ℕ) (m : Move) → circuit < circuits z → move_now z (S T) circuit ≡ m
+      → ((S (suc T)).sender circuit).to_go ≡ (step_sender m (slot_now z (S T) circuit) ((S T).sender circuit)).to_go
   to_go_next T circuit m l e =
-      (J.between T).to_go_at circuit l ∙ ap (λ x. (step_sender x (slotNow z (S T) circuit) ((S T).sender circuit)).to_go) e
+      (J.between T).to_go_at circuit l ∙ ap (λ x. (step_sender x (slot_now z (S T) circuit) ((S T).sender circuit)).to_go) e
 
   -- and while there are some, no call replaces its transfer
-  pub sender_next : (T circuit : ℕ) (m : Move) → circuit < circuits z → moveNow z (S T) circuit ≡ m
+  pub sender_next : (T circuit : ℕ) (m : Move) → circuit < circuits z → move_now z (S T) circuit ≡ m
       → 0 < ((S (suc T)).sender circuit).to_go
-      → (S (suc T)).sender circuit ≡ step_sender m (slotNow z (S T) circuit) ((S T).sender circuit)
+      → (S (suc T)).sender circuit ≡ step_sender m (slot_now z (S T) circuit) ((S T).sender circuit)
   sender_next T circuit m l e some =
       let f = transfer_tick T circuit (transfer_inside T circuit l) in
       let left : 0 < ((tick z (S T)).sender circuit).left = omega (arith, f.to_go_at, (J.between T).to_go_at circuit l) in
-      (J.between T).busy circuit l left ∙ ap (λ x. step_sender x (slotNow z (S T) circuit) ((S T).sender circuit)) e
+      (J.between T).busy circuit l left ∙ ap (λ x. step_sender x (slot_now z (S T) circuit) ((S T).sender circuit)) e

@@ -17,7 +17,7 @@ use Rattle.sheet.specs.Slots.{slot_length, source_of, destination_of}
 use Rattle.isolation.specs.Sessions.{Session, Transfer, Event, start_done, store_done, order_done, cycle_done}
 use Rattle.isolation.specs.Calendar.{Calendar, calendar_at_load, next_calendar, calendar_event, calendar_all}
 use Rattle.isolation.specs.Reckoning.{Item, none, item, Reckoned, owed, flight_cycles, reckoned_landing, last_reckoned, word_after, leaves_in}
-use Rattle.isolation.specs.Reckoning.{next_item, cycleOn, start_on, storeOn, reckonEvent, reckonAll}
+use Rattle.isolation.specs.Reckoning.{next_item, cycle_on, start_on, store_on, reckon_event, reckon_all}
 use Rattle.isolation.specs.Demand.{in_region, under_way, reckoned_busy, Act, began, read_stored, receive_stored, act_of, events_after, acts_after}
 use Rattle.isolation.proofs.Reckoning.Dates.{next_cycles, next_cycle}
 use Rattle.isolation.proofs.Reckoning.Points.{stretch, events_of}
@@ -193,7 +193,7 @@ store_acts {q} false false address new f g h e i = words_same f g q.words.read q
 
 module _ (z : List ℕ) (circuit : ℕ) where
   start_acts : {r q : Reckoned} (k : Calendar) (c : ℕ) (transfer : Transfer) → Same (circuit_at z circuit) r q
-      → Same (circuit_at z circuit) (reckonEvent z circuit (start_done c transfer) k r)
+      → Same (circuit_at z circuit) (reckon_event z circuit (start_done c transfer) k r)
       (act_all (act_of z circuit (start_done c transfer)) q)
   start_acts {r} {q} k c transfer h = go (c =? circuit)
     where
@@ -203,7 +203,7 @@ module _ (z : List ℕ) (circuit : ℕ) where
       go false = h
 
   wrote_acts : {r q : Reckoned} (node address new : ℕ) → Same (circuit_at z circuit) r q
-      → Same (circuit_at z circuit) (storeOn z circuit node address new r) (act_all (act_of z circuit (store_done node address new)) q)
+      → Same (circuit_at z circuit) (store_on z circuit node address new r) (act_all (act_of z circuit (store_done node address new)) q)
   wrote_acts {r} {q} node address new h =
       store_acts (node =? source_of z circuit and in_region (circuit_at z circuit).read address)
       (node =? destination_of z circuit and in_region (circuit_at z circuit).receive address) address new _ _ h
@@ -217,7 +217,7 @@ module _ (z : List ℕ) (circuit : ℕ) where
 
   -- a stretch without cycles does what its acts do
   pub stretch_acts : (es : List Event) (t : ℕ) (k : Calendar) (r q : Reckoned) → Same (circuit_at z circuit) r q
-      → Same (circuit_at z circuit) (reckonAll z circuit (stretch es t) k r) (act_all (acts_in z circuit es t) q)
+      → Same (circuit_at z circuit) (reckon_all z circuit (stretch es t) k r) (act_all (acts_in z circuit es t) q)
   unfolding flat_map
   stretch_acts [] t k r q h = h
   stretch_acts (cycle_done ∷ es) zero k r q h = h
@@ -339,7 +339,7 @@ module _ (z z' : List ℕ) (c d : ℕ) {m : Circuit} (k k' : Calendar) (r q : Re
 
   -- a cycle on both reckonings
   pub cycle_same : (leaves_in r k.cycles ≡ true → in_region m.read (r.transfer.read_address + r.sent.gone) ≡ true)
-      → Same m (cycleOn z c k r) (cycleOn z' d k' q)
+      → Same m (cycle_on z c k r) (cycle_on z' d k' q)
   cycle_same i = record {
     same_transfer = h.same_transfer;
     same_gone = ap₂ (λ (b : Bool) (g : ℕ). g + pick b 1 0) leaves h.same_gone;

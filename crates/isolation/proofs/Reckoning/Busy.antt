@@ -14,7 +14,7 @@ use Rattle.sheet.specs.Sheet.{circuits, nodes, circuit_at}
 use Rattle.sheet.specs.Flight.{flight_cycles}
 use Rattle.sheet.specs.Rules.{verdict}
 use Rattle.network.specs.View.{View, Landing, nothing, landed, ports}
-use Rattle.network.specs.Cycle.{slotNow, moveNow, readNow}
+use Rattle.network.specs.Cycle.{slot_now, move_now, read_now}
 use Rattle.network.specs.Seen.{view}
 use Rattle.network.specs.Inbound.{header_inbound, is_arriving, is_inbound}
 use Rattle.soundness.proofs.SheetLaws.{sheet_bounds}
@@ -118,8 +118,8 @@ module _ (z : List ℕ) (passes : verdict z ≡ 0) (circuit : ℕ) (inside : cir
   under_way_on t l e late =
       let sent : is_landed (leaving_now z (S t) circuit) ≡ true =
       sym (item_landed (leaving_now z (S t) circuit)) ∙ ap is_item (sym (left_then t l)) ∙ e in
-      let m = leaving_sends (moveNow z (S t) circuit) (readNow z (S t) circuit) ((S t).sender circuit) sent in
-      let u = (under_way_is z (sheet_bounds z passes) (ways_of z passes) S J t circuit inside (move_sends (slotNow z (S t) circuit) ((S t).sender circuit) m)).0 in
+      let m = leaving_sends (move_now z (S t) circuit) (read_now z (S t) circuit) ((S t).sender circuit) sent in
+      let u = (under_way_is z (sheet_bounds z passes) (ways_of z passes) S J t circuit inside (move_sends (slot_now z (S t) circuit) ((S t).sender circuit) m)).0 in
       let travel : (ways_of z passes).travel u.flight.circuit ≡ flight_cycles z circuit =
       travel_is z passes u.flight.circuit ∙ ap (flight_cycles z) u.of_circuit in
       record {

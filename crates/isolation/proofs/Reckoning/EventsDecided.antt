@@ -27,7 +27,7 @@ use Rattle.session.specs.Calls.{Question, ask, question_number}
 use Rattle.words.proofs.NumberLaws.{zero_then, zero_unless, unless_test, after_zero, test_then, then_stop}
 use Rattle.isolation.specs.Sessions.{Session, after_load, standing, Event, start_of, event_of, events_before}
 use Rattle.isolation.specs.Calendar.{Calendar, calendar_at_load, calendar_all, calendar_after, calendar_at, cycles_done}
-use Rattle.isolation.specs.Reckoning.{Reckoned, reckon, atLoad}
+use Rattle.isolation.specs.Reckoning.{Reckoned, reckon, at_load}
 use Rattle.isolation.specs.Demand.{reckoned_busy}
 use Rattle.isolation.proofs.Reckoning.Stream.{is_cycle, seen, Fine, fine_does, a_cycle, machine_at, session_passes, session_trajectory}
 use Rattle.isolation.proofs.Reckoning.ReckonedWords.{Now, start_now, start_leaving}
@@ -147,12 +147,12 @@ module _ (z : List ℕ) (passes : verdict z ≡ 0) (S : ℕ → View) (J : Traje
   shown_start t s es e p = record {
     fine = fine_does z (as_start t) (lend s memory) refl e p.fine;
     now = λ circuit inside.
-        subst (Now z circuit (lend (started_by s t) memory) n) (sym (reckon_last z circuit es (start_of t) calendar_at_load (atLoad z circuit m)))
+        subst (Now z circuit (lend (started_by s t) memory) n) (sym (reckon_last z circuit es (start_of t) calendar_at_load (at_load z circuit m)))
         (start_now z circuit inside (lend s memory) p.fine n (calendar_all z es calendar_at_load) (reckon z circuit m es)
         (p.now circuit inside) t.circuit t.read t.write t.count t.kind e);
     wires = start_wires z (S n) (lend s memory) p.fine t.circuit t.read t.write t.count t.kind e p.wires;
     left_then = λ circuit inside i l.
-        ap (λ (r : Reckoned). r.sent.leaving i) (reckon_last z circuit es (start_of t) calendar_at_load (atLoad z circuit m))
+        ap (λ (r : Reckoned). r.sent.leaving i) (reckon_last z circuit es (start_of t) calendar_at_load (at_load z circuit m))
         ∙ start_leaving circuit t.circuit _ (reckon z circuit m es) i ∙ p.left_then circuit inside i l;
     counted = ap (λ (k : Calendar). k.cycles) (calendar_append z es (start_of t ∷ []) calendar_at_load) ∙ p.counted;
   }

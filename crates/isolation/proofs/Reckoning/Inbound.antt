@@ -36,7 +36,7 @@ use Rattle.isolation.proofs.Flights.Send.{Opening, flights, leads_of, paths}
 use Rattle.isolation.proofs.Flights.Deliver.{receiving}
 use Rattle.isolation.proofs.Flights.Arriving.{arriving_lands}
 use Rattle.isolation.proofs.Flights.Bound.{header_mark, chosen, word_header, HeaderIn, header_somewhere}
-use Rattle.isolation.proofs.Reckoning.OnWay.{OnWay, writeAt, address_inside, own_circuit, own_comes, stage_on_way}
+use Rattle.isolation.proofs.Reckoning.OnWay.{OnWay, write_at, address_inside, own_circuit, own_comes, stage_on_way}
 
 -- a known receive mark that says that a packet is arriving
 marked_one : (mark : ℕ) → mark ≤ 1 → marked mark ≡ true → mark ≡ 1
@@ -199,7 +199,7 @@ module _ (z : List ℕ) (passes : verdict z ≡ 0) (S : ℕ → View) (J : Traje
           let w = arriving_lands z (sheet_bounds z passes) W S J T node n arriving in
           let f = w.flight in
           let there = receiving z (sheet_bounds z passes) W S J f w.index T w.time w.in_packet in
-          let address : reg s receive_address node ≡ writeAt z passes S J f + w.index =
+          let address : reg s receive_address node ≡ write_at z passes S J f + w.index =
           ap (λ (x : Receiver). x.address) unit ∙ ap (λ i. ((S T).receiver i).address) (sym w.at_node) ∙ there.address_is in
           record {
             flight = f;
@@ -312,7 +312,7 @@ module _ (z : List ℕ) (passes : verdict z ≡ 0) (S : ℕ → View) (J : Traje
           let unit = units node n in
           let mark = marked_one (reg s receive_mark node) (parts.units node n).receiving
           (ap (λ (x : Receiver). x.arriving) unit ∙ there.is_arriving_is) in
-          let address : writeAt z passes S J f + j ≡ reg s receive_address node = sym (ap (λ (x : Receiver). x.address) unit ∙ there.address_is) in
+          let address : write_at z passes S J f + j ≡ reg s receive_address node = sym (ap (λ (x : Receiver). x.address) unit ∙ there.address_is) in
           and_both (yes= mark) (subst (λ a. in_region its a ≡ true) address (address_inside z passes S J f j l))
 
     -- where a packet of a circuit is on its way, words are inbound

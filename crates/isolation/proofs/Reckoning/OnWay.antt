@@ -14,7 +14,7 @@ use Rattle.sheet.specs.Sheet.{is_long, circuits, circuit_at}
 use Rattle.sheet.specs.Slots.{destination_of}
 use Rattle.sheet.specs.Rules.{verdict}
 use Rattle.network.specs.View.{View}
-use Rattle.network.specs.Cycle.{headNow}
+use Rattle.network.specs.Cycle.{head_now}
 use Rattle.network.specs.Inbound.{bound_for, furthest, comes_into}
 use Rattle.soundness.proofs.SheetLaws.{sheet_bounds}
 use Rattle.isolation.specs.Demand.{in_region}
@@ -47,25 +47,25 @@ module _ (z : List ℕ) (passes : verdict z ≡ 0) (S : ℕ → View) (J : Traje
     pub unfinished : T ≤ F.start flight + F.size flight + W.travel flight.circuit
 
   -- the address of its first word, as its header has it all the way
-  abbrev pub writeAt : Opening z S → ℕ
-  writeAt f = (first z (sheet_bounds z passes) W S J f).write_address
+  abbrev pub write_at : Opening z S → ℕ
+  write_at f = (first z (sheet_bounds z passes) W S J f).write_address
 
-  addressed : (f : Opening z S) (k : ℕ) → address_of (F.header_at f k) ≡ writeAt f
+  addressed : (f : Opening z S) (k : ℕ) → address_of (F.header_at f k) ≡ write_at f
   addressed f k =
-      header_address k (headNow z (S f.start) f.circuit) ∙ (header_back z (sheet_bounds z passes) W S J f).address_back
+      header_address k (head_now z (S f.start) f.circuit) ∙ (header_back z (sheet_bounds z passes) W S J f).address_back
 
   -- its words' addresses lie in its circuit's receive region
-  pub address_inside : (f : Opening z S) (j : ℕ) → j < F.size f → in_region (circuit_at z f.circuit).receive (writeAt f + j) ≡ true
+  pub address_inside : (f : Opening z S) (j : ℕ) → j < F.size f → in_region (circuit_at z f.circuit).receive (write_at f + j) ≡ true
   address_inside f j l =
       let lies = written z (sheet_bounds z passes) W S J f in
-      in_region_when (circuit_at z f.circuit).receive (writeAt f + j) (omega (arith, lies.low)) (omega (arith, lies.high))
+      in_region_when (circuit_at z f.circuit).receive (write_at f + j) (omega (arith, lies.low)) (omega (arith, lies.high))
 
   -- and in no other's at its destination
   pub own_circuit : (f : Opening z S) (circuit j : ℕ) → circuit < circuits z → j < F.size f
       → destination_of z f.circuit ≡ destination_of z circuit
-      → in_region (circuit_at z circuit).receive (writeAt f + j) ≡ true → f.circuit ≡ circuit
+      → in_region (circuit_at z circuit).receive (write_at f + j) ≡ true → f.circuit ≡ circuit
   own_circuit f circuit j inside l same here =
-      receive_once z passes f.circuit circuit f.circuit_inside inside same (writeAt f + j) (address_inside f j l) here
+      receive_once z passes f.circuit circuit f.circuit_inside inside same (write_at f + j) (address_inside f j l) here
 
   -- from each router its header leads to its destination
   header_bound : (f : Opening z S) (k : ℕ) → k < F.routers f
@@ -83,7 +83,7 @@ module _ (z : List ℕ) (passes : verdict z ≡ 0) (S : ℕ → View) (J : Traje
   unfolding comes_into
   comes_own f k circuit inside l e =
       let there = is= _ _ (and_left _ _ e) in
-      let address : address_of (F.header_at f (suc k)) ≡ writeAt f + 0 = omega (arith, addressed f (suc k)) in
+      let address : address_of (F.header_at f (suc k)) ≡ write_at f + 0 = omega (arith, addressed f (suc k)) in
       own_circuit f circuit 0 inside (P.some_size f) (omega (arith, there, header_bound f k l))
       (subst (λ a. in_region (circuit_at z circuit).receive a ≡ true) address (and_right _ _ e))
 
@@ -92,7 +92,7 @@ module _ (z : List ℕ) (passes : verdict z ≡ 0) (S : ℕ → View) (J : Traje
       → comes_into z (circuit_at z f.circuit).receive (F.node f k) (F.output f k) (F.header_at f (suc k)) ≡ true
   unfolding comes_into
   own_comes f k l =
-      let address : writeAt f + 0 ≡ address_of (F.header_at f (suc k)) = omega (arith, addressed f (suc k)) in
+      let address : write_at f + 0 ≡ address_of (F.header_at f (suc k)) = omega (arith, addressed f (suc k)) in
       and_both (yes= (header_bound f k l))
       (subst (λ a. in_region (circuit_at z f.circuit).receive a ≡ true) address (address_inside f 0 (P.some_size f)))
 

@@ -16,7 +16,7 @@ use Rattle.session.specs.declared.Transfer.{Transfer as Listed}
 use Rattle.session.specs.Calls.{Lent, Call, load, start, start_all, store, order, cycle, number, after, after_all, ask, carried_out}
 use Rattle.isolation.specs.Sessions.{Session, after_load, standing, Event, start_done, store_done, order_done, cycle_done, start_of, event_of, events, events_before}
 use Rattle.isolation.specs.Calendar.{Calendar, calendar_at_load, next_calendar, calendar_event, calendar_all, cycles_done, point_after}
-use Rattle.isolation.specs.Reckoning.{Reckoned, cycleOn, reckonEvent, reckonAll}
+use Rattle.isolation.specs.Reckoning.{Reckoned, cycle_on, reckon_event, reckon_all}
 use Rattle.isolation.specs.Demand.{CycleAt}
 use Rattle.isolation.proofs.Reckoning.Dates.{next_cycles}
 use Rattle.isolation.proofs.Reckoning.Starts.{by_starts}
@@ -172,30 +172,30 @@ module _ (z : List ℕ) where
 module _ (z : List ℕ) (circuit : ℕ) where
   -- the reckoning over a list and one more
   pub reckon_last : (es : List Event) (e : Event) (k : Calendar) (r : Reckoned)
-      → reckonAll z circuit (es ++ (e ∷ [])) k r ≡ reckonEvent z circuit e (calendar_all z es k) (reckonAll z circuit es k r)
+      → reckon_all z circuit (es ++ (e ∷ [])) k r ≡ reckon_event z circuit e (calendar_all z es k) (reckon_all z circuit es k r)
   reckon_last [] e k r = refl
-  reckon_last (x ∷ es) e k r = reckon_last es e (calendar_event z x k) (reckonEvent z circuit x k r)
+  reckon_last (x ∷ es) e k r = reckon_last es e (calendar_event z x k) (reckon_event z circuit x k r)
 
   -- before cycle 0 there is one stretch
   pub reckon_first : (es : List Event) (k : Calendar) (r : Reckoned)
-      → reckonAll z circuit (up_to es 0) k r ≡ reckonAll z circuit (stretch es 0) k r
+      → reckon_all z circuit (up_to es 0) k r ≡ reckon_all z circuit (stretch es 0) k r
   reckon_first [] k r = refl
   reckon_first (cycle_done ∷ es) k r = refl
-  reckon_first (start_done c transfer ∷ es) k r = reckon_first es k (reckonEvent z circuit (start_done c transfer) k r)
-  reckon_first (store_done node address new ∷ es) k r = reckon_first es k (reckonEvent z circuit (store_done node address new) k r)
+  reckon_first (start_done c transfer ∷ es) k r = reckon_first es k (reckon_event z circuit (start_done c transfer) k r)
+  reckon_first (store_done node address new ∷ es) k r = reckon_first es k (reckon_event z circuit (store_done node address new) k r)
   reckon_first (order_done schedule at ∷ es) k r = reckon_first es (calendar_event z (order_done schedule at) k) r
 
   -- from a cycle to the next: the cycle, then a stretch
   pub reckon_next : (es : List Event) (t : ℕ) (k : Calendar) (r : Reckoned) → t < cycles_in es
-      → reckonAll z circuit (up_to es (suc t)) k r
-      ≡ reckonAll z circuit (stretch es (suc t)) (next_calendar z (calendar_all z (up_to es t) k))
-      (cycleOn z circuit (calendar_all z (up_to es t) k) (reckonAll z circuit (up_to es t) k r))
+      → reckon_all z circuit (up_to es (suc t)) k r
+      ≡ reckon_all z circuit (stretch es (suc t)) (next_calendar z (calendar_all z (up_to es t) k))
+      (cycle_on z circuit (calendar_all z (up_to es t) k) (reckon_all z circuit (up_to es t) k r))
   reckon_next [] t k r l = absurd (let z : ⊥ = omega arith in z)
-  reckon_next (cycle_done ∷ es) zero k r l = reckon_first es (next_calendar z k) (cycleOn z circuit k r)
-  reckon_next (cycle_done ∷ es) (suc t) k r l = reckon_next es t (next_calendar z k) (cycleOn z circuit k r) (omega arith)
+  reckon_next (cycle_done ∷ es) zero k r l = reckon_first es (next_calendar z k) (cycle_on z circuit k r)
+  reckon_next (cycle_done ∷ es) (suc t) k r l = reckon_next es t (next_calendar z k) (cycle_on z circuit k r) (omega arith)
   reckon_next (start_done c transfer ∷ es) t k r l =
-      reckon_next es t k (reckonEvent z circuit (start_done c transfer) k r) l
-  reckon_next (store_done node address new ∷ es) t k r l = reckon_next es t k (reckonEvent z circuit (store_done node address new) k r) l
+      reckon_next es t k (reckon_event z circuit (start_done c transfer) k r) l
+  reckon_next (store_done node address new ∷ es) t k r l = reckon_next es t k (reckon_event z circuit (store_done node address new) k r) l
   reckon_next (order_done schedule at ∷ es) t k r l = reckon_next es t (calendar_event z (order_done schedule at) k) r l
 
 -- cycle t of a session: the call that it is, the point directly after it, and the events before it and through it

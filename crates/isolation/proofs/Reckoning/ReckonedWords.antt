@@ -30,7 +30,7 @@ use Rattle.soundness.proofs.SheetLaws.{SheetBounds, sheet_bounds, circuit_bounds
 use Rattle.session.proofs.RegisterLaws.{started_other, started_sender, ordered_other}
 use Rattle.isolation.specs.Sessions.{Transfer, Event, start_done, start_of, cycle_done, event_of, events}
 use Rattle.isolation.specs.Calendar.{Calendar, next_calendar, calendar_event, calendar_all}
-use Rattle.isolation.specs.Reckoning.{Item, none, Reckoned, reckoned_landing, last_reckoned, cycleOn, start_on, storeOn, reckonEvent, reckonAll, word_after, flight_cycles}
+use Rattle.isolation.specs.Reckoning.{Item, none, Reckoned, reckoned_landing, last_reckoned, cycle_on, start_on, store_on, reckon_event, reckon_all, word_after, flight_cycles}
 use Rattle.isolation.specs.Demand.{in_region}
 use Rattle.isolation.proofs.Routes.SheetWays.{ways_of}
 use Rattle.isolation.proofs.Flights.Trajectory.{Trajectory}
@@ -39,7 +39,7 @@ use Rattle.isolation.proofs.Flights.Deliver.{leaving_now}
 use Rattle.isolation.proofs.Reckoning.Dates.{next_cycles, cycles_kept, calendar_append, Point, machine_here, cycle_done_is, cycle_point, point_next}
 use Rattle.isolation.proofs.Reckoning.Landed.{landing_kept}
 use Rattle.isolation.proofs.Reckoning.SenderFollowed.{Sends, Follows, sends_cycle, sends_start, sends_same, sends_store, item_of, leaving_is, leaving_before}
-use Rattle.isolation.proofs.Reckoning.Regions.{in_high, in_region_when, item_in, stored_inside, sentBefore, lands_inside, read_kept}
+use Rattle.isolation.proofs.Reckoning.Regions.{in_high, in_region_when, item_in, stored_inside, sent_before, lands_inside, read_kept}
 use Rattle.session.proofs.WritingLaws.{after_done, after_refused}
 use Rattle.isolation.proofs.Reckoning.Stream.{is_cycle, seen, Fine, fine_parts, fine_does, fine_bounds, a_cycle, cycle_seen, fine_cycle}
 use Rattle.isolation.proofs.Reckoning.Starts.{by_starts}
@@ -96,7 +96,7 @@ module _ (z : List ℕ) (circuit : ℕ) (inside : circuit < circuits z) where
     -- a start, on this circuit or another
     pub start_now : (c read_address write_address count kind : ℕ) → number (start c read_address write_address count kind) w ≡ 0
         → Now z circuit (does (start c read_address write_address count kind) w) n
-        (reckonEvent z circuit (start_done c (transfer_of read_address write_address count kind)) k r)
+        (reckon_event z circuit (start_done c (transfer_of read_address write_address count kind)) k r)
     start_now c read_address write_address count kind e = go (ℕ_discrete c circuit)
       where
         p : StartPassed s c read_address write_address count kind
@@ -157,7 +157,7 @@ module _ (z : List ℕ) (circuit : ℕ) (inside : circuit < circuits z) where
 
     -- a store
     store_now : (node address new : ℕ) → number (store node address new) w ≡ 0
-        → Now z circuit (does (store node address new) w) n (storeOn z circuit node address new r)
+        → Now z circuit (does (store node address new) w) n (store_on z circuit node address new r)
     unfolding stored
     store_now node address new e =
         let p = place_passed s w.memory node address e in
@@ -184,22 +184,22 @@ module _ (z : List ℕ) (circuit : ℕ) (inside : circuit < circuits z) where
 
   -- a list of starts, one after another
   list_now : (w : Lent) → Fine z w → (n : ℕ) (k : Calendar) (r : Reckoned) → Now z circuit w n r → (ts : List Listed)
-      → Now z circuit (lend (started_all w.state ts) w.memory) n (reckonAll z circuit (map start_of (carried_out w.state ts)) k r)
+      → Now z circuit (lend (started_all w.state ts) w.memory) n (reckon_all z circuit (map start_of (carried_out w.state ts)) k r)
   list_now w f n k r now ts =
       by_starts
       (λ s es s'. Fine z (lend s w.memory) → (q : Reckoned) → Now z circuit (lend s w.memory) n q
-      → Now z circuit (lend s' w.memory) n (reckonAll z circuit es k q))
+      → Now z circuit (lend s' w.memory) n (reckon_all z circuit es k q))
       (λ s g q here. here)
       (λ t s s' es e rest g q here.
       let u : Lent = lend s w.memory in
-      rest (fine_does z (as_start t) u refl e g) (reckonEvent z circuit (start_of t) k q)
+      rest (fine_does z (as_start t) u refl e g) (reckon_event z circuit (start_of t) k q)
       (start_now u g n k q here t.circuit t.read t.write t.count t.kind e))
       ts w.state f r now
 
   module _ (w : Lent) (f : Fine z w) (n : ℕ) (k : Calendar) (r : Reckoned) (now : Now z circuit w n r) where
     -- any call but a cycle, carried out
     does_now : (x : Call) → is_load x ≡ false → is_cycle x ≡ false → number x w ≡ 0
-        → Now z circuit (does x w) n (reckonAll z circuit (event_of x w) k r)
+        → Now z circuit (does x w) n (reckon_all z circuit (event_of x w) k r)
     does_now (load y) l c e = absurd (false≢true (sym l))
     does_now (start c read_address write_address count kind) l q e = start_now w f n k r now c read_address write_address count kind e
     does_now (start_all ts answerWords) l c e = list_now w f n k r now ts
@@ -218,14 +218,14 @@ start_leaving circuit d transfer r t = go (d =? circuit)
     go false = refl
 
 leaving_same : (z : List ℕ) (circuit : ℕ) (x : Call) (w : Lent) (k : Calendar) (r : Reckoned) → is_cycle x ≡ false → (t : ℕ)
-    → (reckonAll z circuit (event_of x w) k r).sent.leaving t ≡ r.sent.leaving t
+    → (reckon_all z circuit (event_of x w) k r).sent.leaving t ≡ r.sent.leaving t
 leaving_same z circuit (load y) w k r c t = refl
 leaving_same z circuit (start d read_address write_address count kind) w k r c t =
     start_leaving circuit d (transfer_of read_address write_address count kind) r t
 leaving_same z circuit (start_all ts answerWords) w k r c t =
-    by_starts (λ s es s'. (q : Reckoned) → (reckonAll z circuit es k q).sent.leaving t ≡ q.sent.leaving t) (λ s q. refl)
+    by_starts (λ s es s'. (q : Reckoned) → (reckon_all z circuit es k q).sent.leaving t ≡ q.sent.leaving t) (λ s q. refl)
     (λ u s s' es e rest q.
-    rest (reckonEvent z circuit (start_of u) k q)
+    rest (reckon_event z circuit (start_of u) k q)
     ∙ start_leaving circuit u.circuit (transfer_of u.read u.write u.count u.kind) q t)
     ts w.state r
 leaving_same z circuit (store node address new) w k r c t = refl
@@ -235,9 +235,9 @@ leaving_same z circuit cycle w k r c t = absurd (false≢true (sym c))
 
 -- events one after another
 reckon_append : (z : List ℕ) (circuit : ℕ) (es fs : List Event) (k : Calendar) (r : Reckoned)
-    → reckonAll z circuit (es ++ fs) k r ≡ reckonAll z circuit fs (calendar_all z es k) (reckonAll z circuit es k r)
+    → reckon_all z circuit (es ++ fs) k r ≡ reckon_all z circuit fs (calendar_all z es k) (reckon_all z circuit es k r)
 reckon_append z circuit [] fs k r = refl
-reckon_append z circuit (e ∷ es) fs k r = reckon_append z circuit es fs (calendar_event z e k) (reckonEvent z circuit e k r)
+reckon_append z circuit (e ∷ es) fs k r = reckon_append z circuit es fs (calendar_event z e k) (reckon_event z circuit e k r)
 
 -- what is reckoned to have landed last stays where what left stays
 last_landed_same : (z : List ℕ) (circuit : ℕ) (r q : Reckoned) (n : ℕ) → ((t : ℕ) → t < n → q.sent.leaving t ≡ r.sent.leaving t)
@@ -281,13 +281,13 @@ module _ (z : List ℕ) (passes : verdict z ≡ 0) (circuit : ℕ) (inside : cir
     }
 
     -- what is reckoned to land in this cycle
-    landing_reckoned : reckoned_landing z circuit r k.cycles ≡ sentBefore z passes S J circuit inside k.cycles
+    landing_reckoned : reckoned_landing z circuit r k.cycles ≡ sent_before z passes S J circuit inside k.cycles
     unfolding reckoned_landing
     landing_reckoned = go (dec_lt k.cycles (flight_cycles z circuit))
       where
         go : Dec (k.cycles < flight_cycles z circuit)
             → pick (flight_cycles z circuit ≤? k.cycles) (r.sent.leaving (k.cycles - flight_cycles z circuit)) none
-            ≡ sentBefore z passes S J circuit inside k.cycles
+            ≡ sent_before z passes S J circuit inside k.cycles
         go (yes l) = rw (no≤ l) refl
         go (no l) =
             let late : flight_cycles z circuit ≤ k.cycles = omega (arith, l) in
@@ -299,7 +299,7 @@ module _ (z : List ℕ) (passes : verdict z ≡ 0) (circuit : ℕ) (inside : cir
         ≡ reckoned_landing z circuit r k.cycles
     landing_here =
         subst (λ (v : View). item_in (circuit_at z circuit).receive ((tick z v).landing (destination_of z circuit))
-        ≡ sentBefore z passes S J circuit inside k.cycles) here
+        ≡ sent_before z passes S J circuit inside k.cycles) here
         (lands_inside z passes S J circuit inside k.cycles)
         ∙ sym landing_reckoned
 
@@ -316,7 +316,7 @@ module _ (z : List ℕ) (passes : verdict z ≡ 0) (circuit : ℕ) (inside : cir
         in_region_when (circuit_at z circuit).read ((seen w).sender circuit).read_address lies.low (omega (arith, lies.high)) in
         ap r.words.read same ∙ a.now.reads _ i ∙ sym (seen_memory z w f (source_of z circuit) _)
 
-    cycle_now : Now z circuit (does cycle w) (next_calendar z k).cycles (cycleOn z circuit k r)
+    cycle_now : Now z circuit (does cycle w) (next_calendar z k).cycles (cycle_on z circuit k r)
     cycle_now =
         let agree = cycle_seen z w f in
         let fine = fine_cycle z w f in
@@ -344,12 +344,12 @@ module _ (z : List ℕ) (passes : verdict z ≡ 0) (circuit : ℕ) (inside : cir
               ∙ seen_memory z (does cycle w) fine (destination_of z circuit) address;
         }
 
-    cycle_left : (t : ℕ) → t < (next_calendar z k).cycles → (cycleOn z circuit k r).sent.leaving t ≡ item_of (leaving_now z (S t) circuit)
+    cycle_left : (t : ℕ) → t < (next_calendar z k).cycles → (cycle_on z circuit k r).sent.leaving t ≡ item_of (leaving_now z (S t) circuit)
     cycle_left t l = go (ℕ_discrete t k.cycles)
       where
-        go : Dec (t ≡ k.cycles) → (cycleOn z circuit k r).sent.leaving t ≡ item_of (leaving_now z (S t) circuit)
+        go : Dec (t ≡ k.cycles) → (cycle_on z circuit k r).sent.leaving t ≡ item_of (leaving_now z (S t) circuit)
         go (yes e) =
-            ap (cycleOn z circuit k r).sent.leaving e ∙ leaving_is z circuit k r (seen w) followed word_here
+            ap (cycle_on z circuit k r).sent.leaving e ∙ leaving_is z circuit k r (seen w) followed word_here
             ∙ ap (λ (v : View). item_of (leaving_now z v circuit)) (sym here)
             ∙ ap (λ (n : ℕ). item_of (leaving_now z (S n) circuit)) (sym e)
         go (no ne) =
@@ -357,12 +357,12 @@ module _ (z : List ℕ) (passes : verdict z ≡ 0) (circuit : ℕ) (inside : cir
             leaving_before z circuit k r t earlier ∙ a.left_then t earlier
 
     -- what landed in this cycle, as the reckoning has it afterwards: it left before
-    landing_after : reckoned_landing z circuit (cycleOn z circuit k r) k.cycles ≡ reckoned_landing z circuit r k.cycles
+    landing_after : reckoned_landing z circuit (cycle_on z circuit k r) k.cycles ≡ reckoned_landing z circuit r k.cycles
     unfolding reckoned_landing
     landing_after = go (dec_lt k.cycles (flight_cycles z circuit))
       where
         go : Dec (k.cycles < flight_cycles z circuit)
-            → pick (flight_cycles z circuit ≤? k.cycles) ((cycleOn z circuit k r).sent.leaving (k.cycles - flight_cycles z circuit)) none
+            → pick (flight_cycles z circuit ≤? k.cycles) ((cycle_on z circuit k r).sent.leaving (k.cycles - flight_cycles z circuit)) none
             ≡ pick (flight_cycles z circuit ≤? k.cycles) (r.sent.leaving (k.cycles - flight_cycles z circuit)) none
         go (yes l) = rw (no≤ l) refl
         go (no l) =
@@ -370,19 +370,19 @@ module _ (z : List ℕ) (passes : verdict z ≡ 0) (circuit : ℕ) (inside : cir
             (leaving_before z circuit k r (k.cycles - flight_cycles z circuit) (omega arith))
 
     cycle_last : item_in (circuit_at z circuit).receive ((seen (does cycle w)).landing (destination_of z circuit))
-        ≡ last_reckoned z circuit (cycleOn z circuit k r) (next_calendar z k).cycles
+        ≡ last_reckoned z circuit (cycle_on z circuit k r) (next_calendar z k).cycles
     cycle_last =
-        let counted : last_reckoned z circuit (cycleOn z circuit k r) (k.cycles + 1) ≡ reckoned_landing z circuit (cycleOn z circuit k r) k.cycles =
+        let counted : last_reckoned z circuit (cycle_on z circuit k r) (k.cycles + 1) ≡ reckoned_landing z circuit (cycle_on z circuit k r) k.cycles =
         rw (yes≤ {a = 1} {b = k.cycles + 1} (omega arith))
-        (ap (reckoned_landing z circuit (cycleOn z circuit k r)) (let e : k.cycles + 1 - 1 ≡ k.cycles = omega arith in e)) in
+        (ap (reckoned_landing z circuit (cycle_on z circuit k r)) (let e : k.cycles + 1 - 1 ≡ k.cycles = omega arith in e)) in
         ap (item_in (circuit_at z circuit).receive) ((cycle_seen z w f).landing (destination_of z circuit) small.destination_inside)
         ∙ landing_here ∙ sym landing_after ∙ sym counted
-        ∙ ap (last_reckoned z circuit (cycleOn z circuit k r)) (sym (next_cycles z k))
+        ∙ ap (last_reckoned z circuit (cycle_on z circuit k r)) (sym (next_cycles z k))
 
   -- a call that is no cycle
   call_at : (x : Call) (calls : List Call) (w : Lent) (k : Calendar) (r : Reckoned) → is_cycle x ≡ false → At z circuit S (x ∷ calls) w k r
       → At z circuit S calls (after x w) (calendar_all z (pick (number x w =? 0) (event_of x w) []) k)
-      (reckonAll z circuit (pick (number x w =? 0) (event_of x w) []) k r)
+      (reckon_all z circuit (pick (number x w =? 0) (event_of x w) []) k r)
   call_at x calls w k r c a = go (ℕ_discrete (number x w) 0)
     where
       f : Fine z w
@@ -402,30 +402,30 @@ module _ (z : List ℕ) (passes : verdict z ≡ 0) (circuit : ℕ) (inside : cir
       next = point_next z passes S J x calls w k a.point
 
       done : number x w ≡ 0 → Point z S calls (after x w) (calendar_all z (event_of x w) k)
-          → At z circuit S calls (after x w) (calendar_all z (event_of x w) k) (reckonAll z circuit (event_of x w) k r)
+          → At z circuit S calls (after x w) (calendar_all z (event_of x w) k) (reckon_all z circuit (event_of x w) k r)
       done e p =
           let same = cycles_kept z x w k c in
           record {
             point = p;
             left_then = λ t l. leaving_same z circuit x w k r c t ∙ a.left_then t (omega (arith, same));
             now =
-                subst (λ (n : ℕ). Now z circuit (after x w) n (reckonAll z circuit (event_of x w) k r)) (sym same)
-                (subst (λ (y : Lent). Now z circuit y k.cycles (reckonAll z circuit (event_of x w) k r)) (sym (after_done x w e))
+                subst (λ (n : ℕ). Now z circuit (after x w) n (reckon_all z circuit (event_of x w) k r)) (sym same)
+                (subst (λ (y : Lent). Now z circuit y k.cycles (reckon_all z circuit (event_of x w) k r)) (sym (after_done x w e))
                 (does_now z circuit inside w f k.cycles k r a.now x (load_no e (is_load x) refl) c e));
             last =
-                kept ∙ sym (last_landed_same z circuit r (reckonAll z circuit (event_of x w) k r) k.cycles (λ t l. leaving_same z circuit x w k r c t))
-                ∙ ap (last_reckoned z circuit (reckonAll z circuit (event_of x w) k r)) (sym same);
+                kept ∙ sym (last_landed_same z circuit r (reckon_all z circuit (event_of x w) k r) k.cycles (λ t l. leaving_same z circuit x w k r c t))
+                ∙ ap (last_reckoned z circuit (reckon_all z circuit (event_of x w) k r)) (sym same);
           }
 
       go : Dec (number x w ≡ 0) → At z circuit S calls (after x w) (calendar_all z (pick (number x w =? 0) (event_of x w) []) k)
-          (reckonAll z circuit (pick (number x w =? 0) (event_of x w) []) k r)
+          (reckon_all z circuit (pick (number x w =? 0) (event_of x w) []) k r)
       go (yes e) =
           subst (λ (b : Bool). Point z S calls (after x w) (calendar_all z (pick b (event_of x w) []) k)
-          → At z circuit S calls (after x w) (calendar_all z (pick b (event_of x w) []) k) (reckonAll z circuit (pick b (event_of x w) []) k r))
+          → At z circuit S calls (after x w) (calendar_all z (pick b (event_of x w) []) k) (reckon_all z circuit (pick b (event_of x w) []) k r))
           (sym (yes= e)) (done e) next
       go (no ne) =
           subst (λ (b : Bool). Point z S calls (after x w) (calendar_all z (pick b (event_of x w) []) k)
-          → At z circuit S calls (after x w) (calendar_all z (pick b (event_of x w) []) k) (reckonAll z circuit (pick b (event_of x w) []) k r))
+          → At z circuit S calls (after x w) (calendar_all z (pick b (event_of x w) []) k) (reckon_all z circuit (pick b (event_of x w) []) k r))
           (sym (no= ne))
           (λ p. record {
             point = p;
@@ -438,22 +438,22 @@ module _ (z : List ℕ) (passes : verdict z ≡ 0) (circuit : ℕ) (inside : cir
   -- any call
   step_at : (x : Call) (calls : List Call) (w : Lent) (k : Calendar) (r : Reckoned) → At z circuit S (x ∷ calls) w k r
       → At z circuit S calls (after x w) (calendar_all z (pick (number x w =? 0) (event_of x w) []) k)
-      (reckonAll z circuit (pick (number x w =? 0) (event_of x w) []) k r)
+      (reckon_all z circuit (pick (number x w =? 0) (event_of x w) []) k r)
   step_at x calls w k r a = go (is_cycle x) refl
     where
       go : (b : Bool) → is_cycle x ≡ b
           → At z circuit S calls (after x w) (calendar_all z (pick (number x w =? 0) (event_of x w) []) k)
-          (reckonAll z circuit (pick (number x w =? 0) (event_of x w) []) k r)
+          (reckon_all z circuit (pick (number x w =? 0) (event_of x w) []) k r)
       go false c = call_at x calls w k r c a
       go true c =
           let a' : At z circuit S (cycle ∷ calls) w k r = subst (λ (y : Call). At z circuit S (y ∷ calls) w k r) (a_cycle x c) a in
           let done = cycle_done_is z passes S J calls w k a'.point in
           subst (λ (y : Call). At z circuit S calls (after y w) (calendar_all z (pick (number y w =? 0) (event_of y w) []) k)
-          (reckonAll z circuit (pick (number y w =? 0) (event_of y w) []) k r))
+          (reckon_all z circuit (pick (number y w =? 0) (event_of y w) []) k r))
           (sym (a_cycle x c))
           (subst (λ (b : Bool). At z circuit S calls (after cycle w) (calendar_all z (pick b (cycle_done ∷ []) []) k)
-          (reckonAll z circuit (pick b (cycle_done ∷ []) []) k r)) (sym (yes= done))
-          (subst (λ (y : Lent). At z circuit S calls y (next_calendar z k) (cycleOn z circuit k r)) (sym (after_done cycle w done))
+          (reckon_all z circuit (pick b (cycle_done ∷ []) []) k r)) (sym (yes= done))
+          (subst (λ (y : Lent). At z circuit S calls y (next_calendar z k) (cycle_on z circuit k r)) (sym (after_done cycle w done))
           (record {
             point = cycle_point z passes S J calls w k a'.point;
             left_then = cycle_left calls w k r a';
@@ -464,13 +464,13 @@ module _ (z : List ℕ) (passes : verdict z ≡ 0) (circuit : ℕ) (inside : cir
   -- every point of the calls
   pub points : (n : ℕ) (calls : List Call) (w : Lent) (k : Calendar) (r : Reckoned) → At z circuit S calls w k r
       → At z circuit S (drop n calls) (after_all (take n calls) w) (calendar_all z (events (take n calls) w) k)
-      (reckonAll z circuit (events (take n calls) w) k r)
+      (reckon_all z circuit (events (take n calls) w) k r)
   points zero calls w k r a = a
   points (suc n) [] w k r a = a
   points (suc n) (x ∷ calls) w k r a =
       let own : List Event = pick (number x w =? 0) (event_of x w) [] in
       let later : List Event = events (take n calls) (after x w) in
-      subst (λ (d : Calendar). At z circuit S (drop n calls) (after_all (take n calls) (after x w)) d (reckonAll z circuit (own ++ later) k r))
+      subst (λ (d : Calendar). At z circuit S (drop n calls) (after_all (take n calls) (after x w)) d (reckon_all z circuit (own ++ later) k r))
       (sym (calendar_append z own later k))
       (subst (At z circuit S (drop n calls) (after_all (take n calls) (after x w)) (calendar_all z later (calendar_all z own k)))
       (sym (reckon_append z circuit own later k r))

@@ -113,8 +113,8 @@ module _ (z : List ℕ) (passes : verdict z ≡ 0) (S : ℕ → View) (J : Traje
     travel = flight_cycles z circuit
 
     -- what the circuit sent its travel before cycle T
-    abbrev pub sentBefore : ℕ → Item
-    sentBefore T = pick (travel ≤? T) (item_of (leaving_now z (S (T - travel)) circuit)) none
+    abbrev pub sent_before : ℕ → Item
+    sent_before T = pick (travel ≤? T) (item_of (leaving_now z (S (T - travel)) circuit)) none
 
     -- where something was sent then, it lands
     lands_sent : (T : ℕ) → travel ≤ T → (kind address word : ℕ) → leaving_now z (S (T - travel)) circuit ≡ landed kind address word
@@ -155,11 +155,11 @@ module _ (z : List ℕ) (passes : verdict z ≡ 0) (S : ℕ → View) (J : Traje
 
     -- what lands in the circuit's receive region is what it sent its travel before, or nothing
     pub lands_inside : (T : ℕ)
-        → item_in (circuit_at z circuit).receive ((tick z (S T)).landing (destination_of z circuit)) ≡ sentBefore T
+        → item_in (circuit_at z circuit).receive ((tick z (S T)).landing (destination_of z circuit)) ≡ sent_before T
     lands_inside T = go (dec_lt T travel) (leaving_now z (S (T - travel)) circuit) refl
       where
         go : Dec (T < travel) → (x : Landing) → leaving_now z (S (T - travel)) circuit ≡ x
-            → item_in (circuit_at z circuit).receive ((tick z (S T)).landing (destination_of z circuit)) ≡ sentBefore T
+            → item_in (circuit_at z circuit).receive ((tick z (S T)).landing (destination_of z circuit)) ≡ sent_before T
         go (yes l) x e = lands_only T _ refl (λ p q. omega arith) ∙ sym (rw (no≤ l) refl)
         go (no l) nothing e =
             let late : travel ≤ T = omega (arith, l) in

@@ -14,11 +14,11 @@ use Rattle.words.proofs.AllLaws.{any_at, any_none}
 use Rattle.sheet.specs.Sheet.{circuit_at}
 use Rattle.sheet.specs.Slots.{slot_length}
 use Rattle.network.specs.View.{Sender, Landing, nothing, landed, View}
-use Rattle.network.specs.Cycle.{Move, rests, opens, sends, move, step_sender, slotNow, moveNow, readNow, tick, reopens}
+use Rattle.network.specs.Cycle.{Move, rests, opens, sends, move, step_sender, slot_now, move_now, read_now, tick, reopens}
 use Rattle.soundness.proofs.SoundLaws.{TransferParts}
 use Rattle.isolation.specs.Sessions.{Transfer}
 use Rattle.isolation.specs.Calendar.{Calendar, next_calendar}
-use Rattle.isolation.specs.Reckoning.{Item, none, item, Reckoned, owed, leaves_in, next_item, cycleOn, start_on, storeOn, atLoad}
+use Rattle.isolation.specs.Reckoning.{Item, none, item, Reckoned, owed, leaves_in, next_item, cycle_on, start_on, store_on, at_load}
 use Rattle.isolation.proofs.Flights.Trajectory.{opens_both, move_opens, move_sends, move_rests}
 use Rattle.isolation.proofs.Flights.Deliver.{leaving_of, leaving_now}
 use Rattle.isolation.proofs.Reckoning.Dates.{Dated, next_cycles}
@@ -62,7 +62,7 @@ opens_none slot x h = go (dec_lt 0 slot) (dec_lt 0 x.left)
     go (no p) d = omega arith
 
 -- a circuit that does not reopen: where a slot begins with words left, none of the packet before it is still to go
-pub not_reopened : (z : List ℕ) (v : View) (circuit : ℕ) → reopens z v circuit ≡ false → 0 < slotNow z v circuit
+pub not_reopened : (z : List ℕ) (v : View) (circuit : ℕ) → reopens z v circuit ≡ false → 0 < slot_now z v circuit
     → 0 < (v.sender circuit).left → (v.sender circuit).to_go ≡ 0
 unfolding reopens
 not_reopened z v circuit e p q = go (ℕ_discrete (v.sender circuit).to_go 0)
@@ -70,7 +70,7 @@ not_reopened z v circuit e p q = go (ℕ_discrete (v.sender circuit).to_go 0)
     go : Dec ((v.sender circuit).to_go ≡ 0) → (v.sender circuit).to_go ≡ 0
     go (yes n) = n
     go (no n) =
-        let t : (1 ≤? slotNow z v circuit and 1 ≤? (v.sender circuit).left and 1 ≤? (v.sender circuit).to_go) ≡ true =
+        let t : (1 ≤? slot_now z v circuit and 1 ≤? (v.sender circuit).left and 1 ≤? (v.sender circuit).to_go) ≡ true =
         and_both (yes≤ p) (and_both (yes≤ q) (yes≤ (omega (arith, n)))) in
         absurd (false≢true (sym e ∙ t))
 
@@ -83,50 +83,50 @@ sends_opens e = let n : ◌≡◌ {A = ℕ} 0 1 = cc in omega arith
 
 module _ (z : List ℕ) (circuit : ℕ) (k : Calendar) (r : Reckoned) where
   -- the payload words of a packet that the reckoning opens in this cycle
-  abbrev openedNow : ℕ
-  openedNow = min (slot_length z k.schedule k.cycle circuit - 1) (owed r)
+  abbrev opened_now : ℕ
+  opened_now = min (slot_length z k.schedule k.cycle circuit - 1) (owed r)
 
   -- after a cycle: what was opened in it, and in the cycles before
-  opened_now : (cycleOn z circuit k r).sent.packet_words k.cycles ≡ openedNow
-  opened_now = ap (λ b. pick b openedNow (r.sent.packet_words k.cycles)) (yes= refl)
+  opened_now_is : (cycle_on z circuit k r).sent.packet_words k.cycles ≡ opened_now
+  opened_now_is = ap (λ b. pick b opened_now (r.sent.packet_words k.cycles)) (yes= refl)
 
-  opened_earlier : (s : ℕ) → s < k.cycles → (cycleOn z circuit k r).sent.packet_words s ≡ r.sent.packet_words s
+  opened_earlier : (s : ℕ) → s < k.cycles → (cycle_on z circuit k r).sent.packet_words s ≡ r.sent.packet_words s
   opened_earlier s l =
       let ne : s ≡ k.cycles → ⊥ = λ e. omega arith in
-      ap (λ b. pick b openedNow (r.sent.packet_words s)) (no= ne)
+      ap (λ b. pick b opened_now (r.sent.packet_words s)) (no= ne)
 
   -- a packet opened in a cycle before, and in this one, after the cycle
   opened_on : (to_go : ℕ) → Opened r.sent.packet_words k.cycles (suc to_go)
-      → Opened (cycleOn z circuit k r).sent.packet_words (k.cycles + 1) to_go
+      → Opened (cycle_on z circuit k r).sent.packet_words (k.cycles + 1) to_go
   opened_on to_go u = record {
     start = u.start;
     before = omega (arith, u.before);
     last = omega (arith, u.last, opened_earlier u.start u.before);
   }
 
-  opened_here : (to_go : ℕ) → openedNow ≡ to_go → Opened (cycleOn z circuit k r).sent.packet_words (k.cycles + 1) to_go
+  opened_here : (to_go : ℕ) → opened_now ≡ to_go → Opened (cycle_on z circuit k r).sent.packet_words (k.cycles + 1) to_go
   opened_here to_go e = record {
     start = k.cycles;
     before = omega arith;
-    last = omega (arith, e, opened_now);
+    last = omega (arith, e, opened_now_is);
   }
 
   -- each packet's last word has left or is still to go, after the cycle
   opened_all : (to_go after : ℕ) → ((s : ℕ) → s < k.cycles → s + r.sent.packet_words s < k.cycles + to_go) → to_go ≤ after + 1
-      → openedNow ≤ after → (s : ℕ) → s < k.cycles + 1 → s + (cycleOn z circuit k r).sent.packet_words s < k.cycles + 1 + after
+      → opened_now ≤ after → (s : ℕ) → s < k.cycles + 1 → s + (cycle_on z circuit k r).sent.packet_words s < k.cycles + 1 + after
   opened_all to_go after h a b s l = go (ℕ_discrete s k.cycles)
     where
-      go : Dec (s ≡ k.cycles) → s + (cycleOn z circuit k r).sent.packet_words s < k.cycles + 1 + after
-      go (yes e) = rw e (omega (arith, opened_now))
+      go : Dec (s ≡ k.cycles) → s + (cycle_on z circuit k r).sent.packet_words s < k.cycles + 1 + after
+      go (yes e) = rw e (omega (arith, opened_now_is))
       go (no ne) =
           let earlier : s < k.cycles = omega (arith, ne) in
           omega (arith, h s earlier, opened_earlier s earlier)
 
   -- the words gone after a cycle in which one leaves, or none
-  gone_more : leaves_in r k.cycles ≡ true → (cycleOn z circuit k r).sent.gone ≡ r.sent.gone + 1
+  gone_more : leaves_in r k.cycles ≡ true → (cycle_on z circuit k r).sent.gone ≡ r.sent.gone + 1
   gone_more e = ap (λ b. r.sent.gone + pick b 1 0) e
 
-  gone_same : leaves_in r k.cycles ≡ false → (cycleOn z circuit k r).sent.gone ≡ r.sent.gone
+  gone_same : leaves_in r k.cycles ≡ false → (cycle_on z circuit k r).sent.gone ≡ r.sent.gone
   gone_same e = ap (λ b. r.sent.gone + pick b 1 0) e ∙ add-zero r.sent.gone
 
 -- one word less is left
@@ -136,11 +136,11 @@ one_less count gone left e = omega arith
 -- a cycle, by the sender's move
 sends_moved : (z : List ℕ) (circuit : ℕ) (k : Calendar) (r : Reckoned) (slot : ℕ) (x : Sender) (m : Move) → move slot x ≡ m
     → slot_length z k.schedule k.cycle circuit ≡ slot → Sends k.cycles r x → x.to_go ≤ x.left
-    → (0 < slot → 0 < x.left → x.to_go ≡ 0) → Sends (k.cycles + 1) (cycleOn z circuit k r) (step_sender m slot x)
+    → (0 < slot → 0 < x.left → x.to_go ≡ 0) → Sends (k.cycles + 1) (cycle_on z circuit k r) (step_sender m slot x)
 sends_moved z circuit k r slot x rests e same h f o =
     let over : x.to_go ≡ 0 = move_rests slot x e in
-    let gone : (cycleOn z circuit k r).sent.gone ≡ r.sent.gone = gone_same z circuit k r (leaves_no k.cycles r x h over) in
-    let now : openedNow z circuit k r ≡ 0 =
+    let gone : (cycle_on z circuit k r).sent.gone ≡ r.sent.gone = gone_same z circuit k r (leaves_no k.cycles r x h over) in
+    let now : opened_now z circuit k r ≡ 0 =
     ap₂ (λ a b. min (a - 1) b) same h.left_is ∙ opens_none slot x (λ p. rests_opens (sym e ∙ p)) in
     record {
       gone_most = omega (arith, gone, h.gone_most);
@@ -154,8 +154,8 @@ sends_moved z circuit k r slot x rests e same h f o =
 sends_moved z circuit k r slot x opens e same h f o =
     let begun = move_opens slot x e in
     let over : x.to_go ≡ 0 = o begun.0 begun.1 in
-    let gone : (cycleOn z circuit k r).sent.gone ≡ r.sent.gone = gone_same z circuit k r (leaves_no k.cycles r x h over) in
-    let now : openedNow z circuit k r ≡ min (slot - 1) x.left = ap₂ (λ a b. min (a - 1) b) same h.left_is in
+    let gone : (cycle_on z circuit k r).sent.gone ≡ r.sent.gone = gone_same z circuit k r (leaves_no k.cycles r x h over) in
+    let now : opened_now z circuit k r ≡ min (slot - 1) x.left = ap₂ (λ a b. min (a - 1) b) same h.left_is in
     record {
       gone_most = omega (arith, gone, h.gone_most);
       left_is = ap (λ n. r.transfer.count - n) gone ∙ h.left_is;
@@ -168,8 +168,8 @@ sends_moved z circuit k r slot x opens e same h f o =
     }
 sends_moved z circuit k r slot x sends e same h f o =
     let going : 0 < x.to_go = move_sends slot x e in
-    let gone : (cycleOn z circuit k r).sent.gone ≡ r.sent.gone + 1 = gone_more z circuit k r (leaves_yes k.cycles r x h going) in
-    let now : openedNow z circuit k r ≡ 0 =
+    let gone : (cycle_on z circuit k r).sent.gone ≡ r.sent.gone + 1 = gone_more z circuit k r (leaves_yes k.cycles r x h going) in
+    let now : opened_now z circuit k r ≡ 0 =
     ap₂ (λ a b. min (a - 1) b) same h.left_is ∙ opens_none slot x (λ p. sends_opens (sym e ∙ p)) in
     let some : 0 < x.left = omega arith in
     let back : suc (x.to_go - 1) ≡ x.to_go = omega arith in
@@ -195,15 +195,15 @@ pub record Follows (z : List ℕ) (circuit : ℕ) (k : Calendar) (r : Reckoned) 
 
 -- the slot reckoned is the machine's
 pub slot_dated : (z : List ℕ) (circuit : ℕ) (k : Calendar) (v : View) → Dated k v
-    → slot_length z k.schedule k.cycle circuit ≡ slotNow z v circuit
+    → slot_length z k.schedule k.cycle circuit ≡ slot_now z v circuit
 slot_dated z circuit k v d = ap₂ (λ s c. slot_length z s c circuit) d.schedule_is d.cycle_is
 
 -- a cycle: the reckoning goes on as the sender does
 pub sends_cycle : (z : List ℕ) (circuit : ℕ) (k : Calendar) (r : Reckoned) (v : View) → Follows z circuit k r v
-    → Sends (next_calendar z k).cycles (cycleOn z circuit k r) ((tick z v).sender circuit)
+    → Sends (next_calendar z k).cycles (cycle_on z circuit k r) ((tick z v).sender circuit)
 sends_cycle z circuit k r v f =
-    subst (λ (n : ℕ). Sends n (cycleOn z circuit k r) ((tick z v).sender circuit)) (sym (next_cycles z k))
-    (sends_moved z circuit k r (slotNow z v circuit) (v.sender circuit) (moveNow z v circuit) refl
+    subst (λ (n : ℕ). Sends n (cycle_on z circuit k r) ((tick z v).sender circuit)) (sym (next_cycles z k))
+    (sends_moved z circuit k r (slot_now z v circuit) (v.sender circuit) (move_now z v circuit) refl
     (slot_dated z circuit k v f.dated) f.sending f.transfer.to_go_at (not_reopened z v circuit f.calm))
 
 -- a start on this circuit: the sender holds the new transfer, and its packet under way as before
@@ -226,7 +226,7 @@ sends_same n r x y h e = subst (Sends n r) (sym e) h
 
 -- a store
 pub sends_store : (z : List ℕ) (circuit n node address new : ℕ) (r : Reckoned) (x : Sender) → Sends n r x
-    → Sends n (storeOn z circuit node address new r) x
+    → Sends n (store_on z circuit node address new r) x
 sends_store z circuit n node address new r x h = record {
   gone_most = h.gone_most;
   left_is = h.left_is;
@@ -239,7 +239,7 @@ sends_store z circuit n node address new r x h = record {
 
 -- the load: nothing is owed and no packet is under way
 pub sends_load : (z : List ℕ) (circuit : ℕ) (memory : List ℕ) (x : Sender) → x.left ≡ 0 → x.to_go ≡ 0
-    → Sends 0 (atLoad z circuit memory) x
+    → Sends 0 (at_load z circuit memory) x
 sends_load z circuit memory x e t = record {
   gone_most = omega arith;
   left_is = sym e;
@@ -274,16 +274,16 @@ leaving_moved n r slot word x sends e h f o w =
 
 -- what is reckoned to leave in a cycle is what the sender puts on its wire, where the word reckoned is the machine's
 pub leaving_is : (z : List ℕ) (circuit : ℕ) (k : Calendar) (r : Reckoned) (v : View) → Follows z circuit k r v
-    → (0 < (v.sender circuit).to_go → r.words.read (r.transfer.read_address + r.sent.gone) ≡ readNow z v circuit)
-    → (cycleOn z circuit k r).sent.leaving k.cycles ≡ item_of (leaving_now z v circuit)
+    → (0 < (v.sender circuit).to_go → r.words.read (r.transfer.read_address + r.sent.gone) ≡ read_now z v circuit)
+    → (cycle_on z circuit k r).sent.leaving k.cycles ≡ item_of (leaving_now z v circuit)
 leaving_is z circuit k r v f w =
     ap (λ b. pick b (pick (leaves_in r k.cycles) (next_item r) none) (r.sent.leaving k.cycles)) (yes= refl)
-    ∙ leaving_moved k.cycles r (slotNow z v circuit) (readNow z v circuit) (v.sender circuit) (moveNow z v circuit) refl f.sending
+    ∙ leaving_moved k.cycles r (slot_now z v circuit) (read_now z v circuit) (v.sender circuit) (move_now z v circuit) refl f.sending
     f.transfer.to_go_at (not_reopened z v circuit f.calm) w
 
 -- a cycle leaves what was reckoned to leave before it
 pub leaving_before : (z : List ℕ) (circuit : ℕ) (k : Calendar) (r : Reckoned) (t : ℕ) → t < k.cycles
-    → (cycleOn z circuit k r).sent.leaving t ≡ r.sent.leaving t
+    → (cycle_on z circuit k r).sent.leaving t ≡ r.sent.leaving t
 leaving_before z circuit k r t l =
     let ne : t ≡ k.cycles → ⊥ = λ e. omega arith in
     ap (λ b. pick b (pick (leaves_in r k.cycles) (next_item r) none) (r.sent.leaving t)) (no= ne)

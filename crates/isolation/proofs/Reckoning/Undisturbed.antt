@@ -16,7 +16,7 @@ use Rattle.session.specs.declared.Found.{Found}
 use Rattle.session.specs.declared.Found.TheVariants.{Word as FoundWord, Refused as FoundRefused}
 use Rattle.isolation.specs.Sessions.{Session, Transfer, cycle_done}
 use Rattle.isolation.specs.Calendar.{Calendar, calendar_at_load, next_calendar, calendar_all, calendar_after, calendar_at, cycles_done, point_after, schedule_in}
-use Rattle.isolation.specs.Reckoning.{Reckoned, flight_cycles, leaves_in, cycleOn, atLoad, reckonAll, reckon}
+use Rattle.isolation.specs.Reckoning.{Reckoned, flight_cycles, leaves_in, cycle_on, at_load, reckon_all, reckon}
 use Rattle.isolation.specs.Demand.{in_region, its_record, reckoned_at, reckoned_busy, circuit_landing, AsReckoned, Alike, Undisturbed}
 use Rattle.isolation.proofs.Reckoning.Dates.{calendar_append}
 use Rattle.isolation.proofs.Reckoning.Points.{up_to, stretch, cycles_in, all_counted, point_counted, point_inside, point_first, reached}
@@ -62,11 +62,11 @@ module _ (l : Session) where
   before_is circuit t i = ap (reckon l.sheet circuit l.lent.memory) (reached l t i).before
 
   after_is : (circuit t : ℕ) → t < cycles_done l (length l.calls)
-      → reckoned_at l circuit (point_after l (suc t)) ≡ cycleOn l.sheet circuit (calendar_before l t) (before_cycle l circuit t)
+      → reckoned_at l circuit (point_after l (suc t)) ≡ cycle_on l.sheet circuit (calendar_before l t) (before_cycle l circuit t)
   after_is circuit t i =
       let r = reached l t i in
       ap (reckoned_at l circuit) r.point ∙ ap (reckon l.sheet circuit l.lent.memory) r.through
-      ∙ reckon_last l.sheet circuit (up_to (events_of l) t) cycle_done calendar_at_load (atLoad l.sheet circuit l.lent.memory)
+      ∙ reckon_last l.sheet circuit (up_to (events_of l) t) cycle_done calendar_at_load (at_load l.sheet circuit l.lent.memory)
 
   -- the schedule in force in cycle t is in force since the cycle before it
   pub schedule_before : (t : ℕ) → t < cycles_done l (length l.calls) → schedule_in l t ≡ (calendar_before l t).schedule
@@ -110,12 +110,12 @@ module _ (a b : Session) (c d n : ℕ) (ha : AsReckoned a c) (hb : AsReckoned b 
 
   -- a stretch on both
   stretch_same : (t : ℕ) → t < n → (k k' : Calendar) (r q : Reckoned) → Same m r q
-      → Same m (reckonAll a.sheet c (stretch (events_of a) t) k r) (reckonAll b.sheet d (stretch (events_of b) t) k' q)
+      → Same m (reckon_all a.sheet c (stretch (events_of a) t) k r) (reckon_all b.sheet d (stretch (events_of b) t) k' q)
   stretch_same t i k k' r q h =
-      let right = subst (λ (m : Circuit). Same m (reckonAll b.sheet d (stretch (events_of b) t) k' q)
+      let right = subst (λ (m : Circuit). Same m (reckon_all b.sheet d (stretch (events_of b) t) k' q)
       (act_all (acts_in b.sheet d (events_of b) t) q)) (sym x.same_record)
       (stretch_acts b.sheet d (events_of b) t k' q q (same_refl q)) in
-      let middle = subst (λ acts. Same m (reckonAll a.sheet c (stretch (events_of a) t) k r) (act_all acts q))
+      let middle = subst (λ acts. Same m (reckon_all a.sheet c (stretch (events_of a) t) k r) (act_all acts q))
       (acts_equal t i) (stretch_acts a.sheet c (events_of a) t k r q h) in
       same_trans middle (same_sym right)
 
@@ -174,7 +174,7 @@ module _ (a b : Session) (c d n : ℕ) (ha : AsReckoned a c) (hb : AsReckoned b 
 
   -- directly after cycle t, where before it they agree
   cycled_same : (t : ℕ) → t < n → Same m (before_cycle a c t) (before_cycle b d t)
-      → Same m (cycleOn a.sheet c (calendar_before a t) (before_cycle a c t)) (cycleOn b.sheet d (calendar_before b t) (before_cycle b d t))
+      → Same m (cycle_on a.sheet c (calendar_before a t) (before_cycle a c t)) (cycle_on b.sheet d (calendar_before b t) (before_cycle b d t))
   cycled_same t i h =
       cycle_same a.sheet b.sheet c d (calendar_before a t) (calendar_before b t) (before_cycle a c t) (before_cycle b d t) (sheets_at t i)
       (times_before t i) h (reading_at t i)
@@ -182,7 +182,7 @@ module _ (a b : Session) (c d n : ℕ) (ha : AsReckoned a c) (hb : AsReckoned b 
   before_same : (t : ℕ) → t < n → Same m (before_cycle a c t) (before_cycle b d t)
   before_same zero i =
       let h = stretch_same 0 i calendar_at_load calendar_at_load (reckoned_at a c 0) (reckoned_at b d 0) load_same in
-      let second = subst (λ (r : Reckoned). Same m r (reckonAll b.sheet d (stretch (events_of b) 0) calendar_at_load (reckoned_at b d 0)))
+      let second = subst (λ (r : Reckoned). Same m r (reckon_all b.sheet d (stretch (events_of b) 0) calendar_at_load (reckoned_at b d 0)))
       (sym (reckon_first a.sheet c (events_of a) calendar_at_load (reckoned_at a c 0))) h in
       subst (λ (r : Reckoned). Same m (before_cycle a c 0) r)
       (sym (reckon_first b.sheet d (events_of b) calendar_at_load (reckoned_at b d 0))) second
@@ -191,7 +191,7 @@ module _ (a b : Session) (c d n : ℕ) (ha : AsReckoned a c) (hb : AsReckoned b 
       let h = stretch_same (suc t) i (next_calendar a.sheet (calendar_before a t)) k' _ _
       (cycled_same t (omega arith) (before_same t (omega arith))) in
       let second = subst (λ (r : Reckoned). Same m r
-      (reckonAll b.sheet d (stretch (events_of b) (suc t)) k' (cycleOn b.sheet d (calendar_before b t) (before_cycle b d t))))
+      (reckon_all b.sheet d (stretch (events_of b) (suc t)) k' (cycle_on b.sheet d (calendar_before b t) (before_cycle b d t))))
       (sym (reckon_next a.sheet c (events_of a) t calendar_at_load (reckoned_at a c 0) (cycles_inside a t (omega arith)))) h in
       subst (λ (r : Reckoned). Same m (before_cycle a c (suc t)) r)
       (sym (reckon_next b.sheet d (events_of b) t calendar_at_load (reckoned_at b d 0) (cycles_inside b t (omega arith)))) second
@@ -202,7 +202,7 @@ module _ (a b : Session) (c d n : ℕ) (ha : AsReckoned a c) (hb : AsReckoned b 
       subst (λ (k : ℕ). Same m (reckoned_at a c k) (reckoned_at b d (point_after b 0))) (sym (point_first a))
       (subst (λ (k : ℕ). Same m (reckoned_at a c 0) (reckoned_at b d k)) (sym (point_first b)) load_same)
   after_same (suc t) i =
-      let second = subst (λ (r : Reckoned). Same m r (cycleOn b.sheet d (calendar_before b t) (before_cycle b d t)))
+      let second = subst (λ (r : Reckoned). Same m r (cycle_on b.sheet d (calendar_before b t) (before_cycle b d t)))
       (sym (after_is a c t (omega arith))) (cycled_same t (omega arith) (before_same t (omega arith))) in
       subst (λ (r : Reckoned). Same m (reckoned_at a c (point_after a (suc t))) r) (sym (after_is b d t (omega arith))) second
 

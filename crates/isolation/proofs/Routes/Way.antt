@@ -172,10 +172,10 @@ module _ (cols rows : ℕ) (long : Bool) where
       delays (suc k) h = omega (arith, f.delays k (omega arith), cycles_first stop k)
   followed_on stop delay l nowhere f = tt
 
-  abbrev followAt : ℕ → Stop → ℕ → Route
-  followAt left stop delay = follow left cols rows long stop.node stop.input delay stop.codes
+  abbrev follow_at : ℕ → Stop → ℕ → Route
+  follow_at left stop delay = follow left cols rows long stop.node stop.input delay stop.codes
 
-  followed : (left : ℕ) (stop : Stop) (delay : ℕ) → WayFollowed stop delay (followAt left stop delay)
+  followed : (left : ℕ) (stop : Stop) (delay : ℕ) → WayFollowed stop delay (follow_at left stop delay)
   unfolding follow stop_output
   followed zero stop delay = tt
   followed (suc left) stop delay =
@@ -183,15 +183,15 @@ module _ (cols rows : ℕ) (long : Bool) where
     where
       go : Dec (stop_output stop ≡ memory_output)
           → WayFollowed (next_stop cols rows stop) (delay + hop_cycles long (stop_output stop))
-          (followAt left (next_stop cols rows stop) (delay + hop_cycles long (stop_output stop)))
-          → WayFollowed stop delay (followAt (suc left) stop delay)
+          (follow_at left (next_stop cols rows stop) (delay + hop_cycles long (stop_output stop)))
+          → WayFollowed stop delay (follow_at (suc left) stop delay)
       go (yes e) r =
           subst (WayFollowed stop delay) (sym (follow_memory cols rows long stop.node stop.input delay stop.codes left e))
           (followed_out stop delay e (later_codes stop.codes =? 0))
       go (no ne) r =
           subst (WayFollowed stop delay) (sym (follow_side cols rows long stop.node stop.input delay stop.codes left ne))
           (followed_on stop delay (side_small stop.input (first_code stop.codes) (mod-lt stop.codes (omega arith)) ne)
-          (followAt left (next_stop cols rows stop) (delay + hop_cycles long (stop_output stop))) r)
+          (follow_at left (next_stop cols rows stop) (delay + hop_cycles long (stop_output stop))) r)
 
 -- a packet at its first router, which it enters from the source
 abbrev pub start_of : ℕ → ℕ → Stop

@@ -161,41 +161,41 @@ abbrev pub register_row : ℕ → ℕ → (ℕ → ℕ) → Row
 register_row number extent next = record { number = number; extent = extent; next = next }
 
 -- a row of the routers has five registers a node, the others one a node or one a circuit
-abbrev pub five_aNode : List ℕ → ℕ
-five_aNode s = nodes (sheet_in s) * 5
+abbrev pub five_a_node : List ℕ → ℕ
+five_a_node s = nodes (sheet_in s) * 5
 
-abbrev pub one_aNode : List ℕ → ℕ
-one_aNode s = nodes (sheet_in s)
+abbrev pub one_a_node : List ℕ → ℕ
+one_a_node s = nodes (sheet_in s)
 
-abbrev pub one_aCircuit : List ℕ → ℕ
-one_aCircuit s = circuits (sheet_in s)
+abbrev pub one_a_circuit : List ℕ → ℕ
+one_a_circuit s = circuits (sheet_in s)
 
 -- the rows after a cycle
 unfoldable pub next_rows : List ℕ → List ℕ → List Row
 next_rows s m =
     register_row clock_row clock_words (λ k. next_clock s k)
-    ∷ register_row link_mark (five_aNode s) (λ k. next_link_mark s (k / 5) (k % 5))
-    ∷ register_row link_word (five_aNode s) (λ k. next_link_word s m (k / 5) (k % 5))
-    ∷ register_row head_mark (five_aNode s) (λ k. reg s link_mark k)
-    ∷ register_row head_word (five_aNode s) (λ k. next_head_word (reg s link_mark k) (reg s link_word k))
-    ∷ register_row choice_row (five_aNode s) (λ k. next_choice (k % 5) (reg s latch_row k) (reg s link_mark k) (reg s link_word k))
-    ∷ register_row latch_row (five_aNode s) (λ k. next_latch (k % 5) (reg s latch_row k) (reg s link_mark k) (reg s link_word k))
-    ∷ register_row out_mark (five_aNode s) (λ k. next_out_mark s (k / 5) (k % 5))
-    ∷ register_row out_word (five_aNode s) (λ k. next_out_word s (k / 5) (k % 5))
-    ∷ register_row receive_mark (one_aNode s) (λ k. next_receive_mark s k)
-    ∷ register_row receive_kind (one_aNode s) (λ k. next_receive_kind s k)
-    ∷ register_row receive_address (one_aNode s) (λ k. next_receive_address s k)
-    ∷ register_row landing_mark (one_aNode s) (λ k. next_landing_mark s k)
-    ∷ register_row landing_kind (one_aNode s) (λ k. reg s receive_kind k)
-    ∷ register_row landing_address (one_aNode s) (λ k. reg s receive_address k)
-    ∷ register_row landing_word (one_aNode s) (λ k. memory_word s k)
-    ∷ register_row left_row (one_aCircuit s) (λ k. (next_sender s k).left)
-    ∷ register_row read_row (one_aCircuit s) (λ k. (next_sender s k).read_address)
-    ∷ register_row write_row (one_aCircuit s) (λ k. (next_sender s k).write_address)
-    ∷ register_row kind_row (one_aCircuit s) (λ k. (next_sender s k).kind)
-    ∷ register_row to_go_row (one_aCircuit s) (λ k. (next_sender s k).to_go)
-    ∷ register_row extra_mark (five_aNode s) (λ k. next_extra_mark s k)
-    ∷ register_row extra_word (five_aNode s) (λ k. next_extra_word s k)
+    ∷ register_row link_mark (five_a_node s) (λ k. next_link_mark s (k / 5) (k % 5))
+    ∷ register_row link_word (five_a_node s) (λ k. next_link_word s m (k / 5) (k % 5))
+    ∷ register_row head_mark (five_a_node s) (λ k. reg s link_mark k)
+    ∷ register_row head_word (five_a_node s) (λ k. next_head_word (reg s link_mark k) (reg s link_word k))
+    ∷ register_row choice_row (five_a_node s) (λ k. next_choice (k % 5) (reg s latch_row k) (reg s link_mark k) (reg s link_word k))
+    ∷ register_row latch_row (five_a_node s) (λ k. next_latch (k % 5) (reg s latch_row k) (reg s link_mark k) (reg s link_word k))
+    ∷ register_row out_mark (five_a_node s) (λ k. next_out_mark s (k / 5) (k % 5))
+    ∷ register_row out_word (five_a_node s) (λ k. next_out_word s (k / 5) (k % 5))
+    ∷ register_row receive_mark (one_a_node s) (λ k. next_receive_mark s k)
+    ∷ register_row receive_kind (one_a_node s) (λ k. next_receive_kind s k)
+    ∷ register_row receive_address (one_a_node s) (λ k. next_receive_address s k)
+    ∷ register_row landing_mark (one_a_node s) (λ k. next_landing_mark s k)
+    ∷ register_row landing_kind (one_a_node s) (λ k. reg s receive_kind k)
+    ∷ register_row landing_address (one_a_node s) (λ k. reg s receive_address k)
+    ∷ register_row landing_word (one_a_node s) (λ k. memory_word s k)
+    ∷ register_row left_row (one_a_circuit s) (λ k. (next_sender s k).left)
+    ∷ register_row read_row (one_a_circuit s) (λ k. (next_sender s k).read_address)
+    ∷ register_row write_row (one_a_circuit s) (λ k. (next_sender s k).write_address)
+    ∷ register_row kind_row (one_a_circuit s) (λ k. (next_sender s k).kind)
+    ∷ register_row to_go_row (one_a_circuit s) (λ k. (next_sender s k).to_go)
+    ∷ register_row extra_mark (five_a_node s) (λ k. next_extra_mark s k)
+    ∷ register_row extra_word (five_a_node s) (λ k. next_extra_word s k)
     ∷ []
 
 -- the row of a number; one that is not listed has no registers

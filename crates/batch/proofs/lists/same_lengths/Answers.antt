@@ -2,21 +2,21 @@
 use mathlib.Core.Path.{refl}
 use Rattle.words.specs.Tests.{◌=?◌}
 use Rattle.words.proofs.TestLaws.{and_no, and_on, yes=, no=}
-use Rattle.batch.specs.Lists.{sameLengths}
+use Rattle.batch.specs.Lists.{same_lengths}
 use Rattle.batch.proofs.lists.same_lengths.Goals as goal
 
 pub returns-then-reads-n : goal.returns-then-reads-n
-unfolding sameLengths
+unfolding same_lengths
 returns-then-reads-n c = and_no _ (no= c.if-reads-n.true)
 
 pub returns-then-writes-n : goal.returns-then-writes-n
-unfolding sameLengths
+unfolding same_lengths
 returns-then-writes-n c = and_on (yes= c.if-reads-n.false) (and_no _ (no= c.if-writes-n.true))
 
 pub returns-then-counts-n : goal.returns-then-counts-n
-unfolding sameLengths
+unfolding same_lengths
 returns-then-counts-n c = and_on (yes= c.if-reads-n.false) (and_on (yes= c.if-writes-n.false) (and_no _ (no= c.if-counts-n.true)))
 
 pub returns : goal.returns
-unfolding sameLengths ◌=?◌
+unfolding same_lengths ◌=?◌
 returns c = and_on (yes= c.if-reads-n.false) (and_on (yes= c.if-writes-n.false) (and_on (yes= c.if-counts-n.false) refl))

@@ -14,4 +14,4 @@ start_words-requires c = lists_passed _ _ _ _ _ _ _ c.start_lists_number-number.
 pub returns : goal.returns
 returns c = let number = c.start_lists_number-number.ensures in
     let left = c.start_words.ensures in
-    let written = lists_written _ _ _ _ _ _ _ number c.if-number-ne0.false left.0 left.1 in record { answer = answer_done _ number c.if-number-ne0.false; state = written.0; answers = written.1 }
+    let written = lists_written _ _ _ _ _ _ _ number c.if-number-ne0.false left.state left.answers in record { answer = answer_done _ number c.if-number-ne0.false; state = written.0; answers = written.1 }

@@ -1,6 +1,6 @@
 -- `batch::lists::start_words` meets its contract: after i turns the first i transfers are started, each on the state that those before it
 -- left.
-use Rattle.batch.specs.Lists.{transferAt, first_of}
+use Rattle.batch.specs.Lists.{transfer_at, first_of}
 use Rattle.batch.proofs.BatchLaws.{Started, started_long, loop_none, loop_more, loop_done}
 use borrow.Author.Rules.{rules}
 use Prim.Native.Nat.{◌-◌, ◌≤◌}
@@ -24,7 +24,7 @@ pub loop-i-preserved : goal.loop-i-preserved
 loop-i-preserved c = let one = c.start_one.ensures in (
   omega arith,
   c.loop-i.invariant.1,
-  loop_more _ _ _ c.loop-i.invariant.2 (omega arith) c.transfer_at-t.ensures one.0 one.1,
+  loop_more _ _ _ c.loop-i.invariant.2 (omega arith) c.transfer_at-t.ensures one.answer one.state,
 )
 
 pub shape_of-s : goal.shape_of-s

@@ -1,6 +1,6 @@
 -- `batch::lists::start_words` meets its contract: after i turns the first i transfers are started, each on the state that those before it
 -- left.
-use Rattle.batch.specs.Lists.{transferAt, first_of}
+use Rattle.batch.specs.Lists.{transfer_at, first_of}
 use Rattle.batch.proofs.BatchLaws.{Started, started_long, loop_none, loop_more, loop_done}
 use borrow.Author.Rules.{rules}
 use Prim.Native.Nat.{◌-◌, ◌≤◌}
@@ -11,7 +11,7 @@ use Rattle.batch.proofs.lists.start_words.Given as goal
 abbrev pub invariant-loop-i : goal.invariant-loop-i
 invariant-loop-i l = (l.i ≤ length l.circuits)
     × (length l.circuits ≤ length l.initial.answers)
-    × Started l.initial.s l.initial.answers (first_of l.i (transferAt l.circuits l.reads l.writes l.counts l.kinds)) l.s l.answers
+    × Started l.initial.s l.initial.answers (first_of l.i (transfer_at l.circuits l.reads l.writes l.counts l.kinds)) l.s l.answers
 
 abbrev pub decreases-loop-i : goal.decreases-loop-i
 decreases-loop-i l = length l.circuits - l.i

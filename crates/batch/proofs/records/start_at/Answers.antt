@@ -2,11 +2,8 @@
 use mathlib.Core.Path.{ap}
 use lib.ListN.{set}
 use borrow.Author.Rules.{rules}
-use Rattle.batch.proofs.records.start_at.Reads as reads
-use Rattle.batch.proofs.records.start_at.Lts as lts
-use Rattle.batch.proofs.start_one.Reads as start-one-reads
 use Rattle.batch.proofs.records.start_at.Goals as goal
 
 pub returns : goal.returns
 returns c = let a = c.args in
-    let one = c.start_one.ensures in record { state = one.1; answers = ap (set a.answers.now a.i) one.0 }
+    let one = c.start_one.ensures in record { state = one.state; answers = ap (set a.answers.now a.i) one.answer }
