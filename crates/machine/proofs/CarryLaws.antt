@@ -1,6 +1,6 @@
 -- A cycle that has no fault, stage by stage: what each stage requires, and what they leave together, from what the stages ensure.
 -- Assumes nothing.
-use Prim.Native.Nat.{ℕ, ◌+◌, ◌*◌, ◌/◌, ◌%◌, ◌≤◌, ◌<◌}
+use Prim.Native.Nat.{ℕ, ◌*◌, ◌/◌, ◌%◌, ◌≤◌, ◌<◌}
 use mathlib.Core.Bool.{Bool, true, false}
 use mathlib.Core.List.{List, []}
 use mathlib.Core.Path.{◌≡◌, refl, sym, ◌∙◌, ap, subst}
@@ -17,8 +17,8 @@ use Rattle.occupancy.specs.Inner.Occupancy.{bit_at}
 use Rattle.occupancy.proofs.MaskLaws.{union_free}
 use Rattle.network.specs.declared.Live.{Live}
 use Rattle.network.specs.Cycle.{has_extra}
-use Rattle.network.specs.Registers.{reg, at, sheet_in, room, moving_words, row_words, row_count, clock_row, clock_words, link_mark, link_word, head_mark, latch_row, out_mark, out_word, receive_mark, landing_word, left_row, to_go_row, extra_mark, extra_word}
-use Rattle.network.specs.Inner.Machine.{memory_mark, memory_word, next_out_mark, next_out_word, slot_in, source_mark, source_word, next_in_row, next_state, next_memory}
+use Rattle.network.specs.Registers.{reg, at, sheet_in, room, moving_words, row_words, clock_row, clock_words, link_mark, link_word, head_mark, latch_row, out_mark, out_word, receive_mark, landing_word, left_row, to_go_row, extra_mark, extra_word}
+use Rattle.network.specs.Inner.Machine.{memory_mark, memory_word, slot_in, source_mark, source_word, next_in_row, next_state, next_memory}
 use Rattle.network.specs.Inner.Stages.{stage, link_from, out_from}
 use Rattle.network.specs.Inner.Live.{EmptyBeside, Stays, Covered}
 use Rattle.network.proofs.RowCases.{in_rows, ◌besides◌, no_more}
@@ -28,12 +28,12 @@ use Rattle.network.proofs.LiveLaws.{heads_stay, out_mark_none, out_word_none, me
 use Rattle.links.specs.Inner.Linking.{NoneAt, SidesEmpty}
 use Rattle.sources.specs.Inner.Slots.{slot_table}
 use Rattle.sources.specs.Inner.Steps.{Steppable}
-use Rattle.sources.specs.Inner.Acting.{Acting, opens_in}
+use Rattle.sources.specs.Inner.Acting.{Acting}
 use Rattle.receivers.specs.Inner.Required.{Receivable, Clocked}
 use Rattle.tables.specs.Inner.Ready.{Ready}
 use Rattle.tables.specs.Inner.Tables.{Tables}
 use Rattle.tables.specs.Inner.Moving.{Moving}
-use Rattle.machine.proofs.JoinLaws.{few as few_nodes, few_circuits, headed_ready, headed_off, headed_sheet, linked_ready, linked_sheet, memory_mark_is, memory_word_is, memory_is, received_ready}
+use Rattle.machine.proofs.JoinLaws.{few_circuits, headed_ready, headed_off, headed_sheet, linked_ready, linked_sheet, memory_mark_is, memory_word_is, memory_is, received_ready}
 use Rattle.machine.proofs.JoinLaws.{extended_long, extended_off, out_mark_is, out_word_is, crossed_ready, crossed_sheet, crossed_sender, slot_is, sent_ready, received_same, clocked_same, state_is}
 
 module _ {s m slots marks cells out-marks out-words : List ℕ} (T : Tables s m slots marks cells out-marks out-words) (R : Ready s m)

@@ -1,9 +1,9 @@
 -- Where something is, looked for in all registers: the loops that gather masks, and that the masks cover the state.
 -- Assumes nothing.
 use Prim.Native.Nat.{ℕ, ◌+◌, ◌*◌, ◌/◌, ◌%◌, ◌^◌, ◌<◌, ◌≤◌}
-use mathlib.Core.Bool.{Bool, true}
+use mathlib.Core.Bool.{true}
 use mathlib.Core.List.{List}
-use mathlib.Core.Path.{◌≡◌, refl, sym, ◌∙◌, ap, subst}
+use mathlib.Core.Path.{◌≡◌, sym, ◌∙◌, ap, subst}
 use native.Mathlib.Omega.{arith}
 use native.Mathlib.Decide.{ℕ_discrete, dec_lt}
 use lib.Bits.{bit_or}
@@ -13,13 +13,12 @@ use lib.Seq.{get_or-set_other, get_or-set_same}
 use Rattle.words.specs.Tests.{◌=?◌}
 use Rattle.words.specs.Words.{word}
 use Rattle.words.proofs.TestLaws.{yes=}
-use Rattle.words.proofs.Below.{every, every_at}
+use Rattle.words.proofs.Below.{every_at}
 use Rattle.sheet.specs.Sheet.{nodes, circuits}
 use Rattle.sheet.specs.Inner.Passed.{Headed}
 use Rattle.sheet.proofs.PassedLaws.{nodes_few}
 use Rattle.occupancy.specs.Inner.Occupancy.{bit_at}
 use Rattle.occupancy.proofs.MaskLaws.{union_free}
-use Rattle.network.specs.declared.Live.{Live}
 use Rattle.network.specs.Registers.{reg, sheet_in, row_words, to_go_row}
 use Rattle.network.specs.Inner.Quiet.{empty_at}
 use Rattle.network.specs.Inner.Live.{Covered}

@@ -15,7 +15,6 @@ use Rattle.network.specs.OneMachine.{cycle_fault}
 use Rattle.network.specs.Inbound.{is_inbound}
 use Rattle.soundness.specs.Sound.{sound, kind_travels}
 use Rattle.soundness.proofs.SoundLaws.{Lies, lies}
-use Rattle.words.specs.Numbers.{◌then◌}
 use Rattle.words.proofs.NumberLaws.{then_zero, unless_zero, zero_then, zero_unless}
 use Rattle.session.specs.Calls.{state_number, memory_number, load_words_number, start_named, start_fits, is_busy, start_number, place_number, left_number}
 use Rattle.session.specs.Calls.{landed_number, is_pending, ahead, order_number, cycle_number, start_all_number}

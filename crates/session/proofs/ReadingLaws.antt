@@ -9,7 +9,6 @@ use Rattle.network.specs.View.{Landing}
 use Rattle.session.specs.declared.Found.TheVariants.{Word as FoundWord, Refused as FoundRefused}
 use Rattle.session.specs.declared.Landed.{Landed}
 use Rattle.session.specs.declared.Landed.TheVariants.{Nothing, Word as LandedWord, Refused as LandedRefused}
-use Rattle.words.specs.Numbers.{◌then◌}
 use Rattle.session.specs.Calls.{state_number, memory_number, fetched}
 use Rattle.session.specs.Answers.{found_of, landed_of}
 use Rattle.words.proofs.NumberLaws.{then_zero}

@@ -9,7 +9,6 @@ use Rattle.sheet.specs.Sheet.{circuit_at}
 use Rattle.network.specs.Registers.{reg, put, sheet_in, room, clock_row, number_place, order_mark_place, order_schedule_place, order_period_place, left_row, read_row, write_row, kind_row}
 use Rattle.session.specs.declared.Answer.TheVariants.{Done, Refused}
 use Rattle.soundness.specs.Sound.{lies_in}
-use Rattle.words.specs.Numbers.{◌then◌}
 use Rattle.session.specs.Calls.{state_number, start_number, ahead, started, ordered, stored, Lent, Call, number, does, after}
 use Rattle.session.specs.Answers.{answer_of}
 use Rattle.words.proofs.NumberLaws.{then_first}

@@ -1,7 +1,6 @@
 -- `batch::start_all_number` meets its contract: 12 and 13 are tested first, then the two lengths.
 use native.Mathlib.Omega.{arith}
 use Rattle.batch.proofs.BatchLaws.{list_early, list_many, list_unanswered, list_taken}
-use borrow.Author.Rules.{rules}
 use Rattle.batch.proofs.start_all_number.Goals as goal
 
 pub returns-then-number-ne0 : goal.returns-then-number-ne0

@@ -2,7 +2,6 @@
 use Rattle.session.specs.Calls.{transfer_number}
 use Rattle.session.proofs.AnswerLaws.{number_is}
 use Rattle.batch.proofs.BatchLaws.{next_after}
-use borrow.Author.Rules.{rules}
 use Rattle.batch.proofs.start_one.Goals as goal
 
 pub returns : goal.returns

@@ -1,7 +1,6 @@
 -- `checker::circuits_number` meets its contract: Numbers 4 to 6: each test decides where those before it are passed.
 use mathlib.Core.Path.{sym, ◌∙◌}
 use Rattle.sheet.proofs.VerdictLaws.{here, on, done}
-use borrow.Author.Rules.{rules}
 use Rattle.checker.proofs.circuits_number.Goals as goal
 
 pub keeps_rule6-requires : goal.keeps_rule6-requires

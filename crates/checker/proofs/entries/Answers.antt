@@ -2,7 +2,6 @@
 -- has no entries.
 use mathlib.Core.Path.{sym, ◌∙◌}
 use Rattle.checker.proofs.AnswerLaws.{handed_some, part_empty, part_none, part_some}
-use borrow.Author.Rules.{rules}
 use Rattle.checker.proofs.entries.Goals as goal
 
 pub returns-then-number-ne0 : goal.returns-then-number-ne0

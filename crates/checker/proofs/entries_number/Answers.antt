@@ -1,7 +1,6 @@
 -- `checker::entries_number` meets its contract: the outcome of the number of handing back entries.
 use mathlib.Core.Path.{◌∙◌, ap}
 use Rattle.checker.specs.Answers.{outcome_of}
-use borrow.Author.Rules.{rules}
 use Rattle.checker.proofs.entries_number.Goals as goal
 
 pub returns : goal.returns

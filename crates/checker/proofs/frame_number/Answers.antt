@@ -2,7 +2,6 @@
 use mathlib.Core.Path.{sym, ◌∙◌}
 use Rattle.sheet.proofs.PassedLaws.{headed}
 use Rattle.sheet.proofs.VerdictLaws.{here, on, done}
-use borrow.Author.Rules.{rules}
 use Rattle.checker.proofs.frame_number.Goals as goal
 
 pub keeps_rule3-requires : goal.keeps_rule3-requires

@@ -1,6 +1,5 @@
 -- `checker::outcome_of` meets its contract: 0 is the one number that passes.
 use Rattle.checker.proofs.AnswerLaws.{refused_is}
-use borrow.Author.Rules.{rules}
 use Rattle.checker.proofs.outcome_of.Goals as goal
 
 pub returns : goal.returns

@@ -1,7 +1,6 @@
 -- `checker::part_number` meets its contract: the sheet's number first, then whether the schedule exists.
 use native.Mathlib.Omega.{arith}
 use Rattle.checker.proofs.AnswerLaws.{sheet_refused, schedule_there, schedule_absent}
-use borrow.Author.Rules.{rules}
 use Rattle.checker.proofs.part_number.Goals as goal
 
 pub returns-then-number-ne0 : goal.returns-then-number-ne0

@@ -2,7 +2,6 @@
 -- rules follow each other in the list of rules.
 use mathlib.Core.Path.{sym, ◌∙◌}
 use Rattle.checker.proofs.AnswerLaws.{frame_kept, circuits_kept, frame_decides, circuits_decide, entries_decide}
-use borrow.Author.Rules.{rules}
 use Rattle.checker.proofs.rules_number.Goals as goal
 
 pub returns-then-accepts : goal.returns-then-accepts

@@ -3,7 +3,6 @@ use mathlib.Core.Path.{sym, ◌∙◌, ap}
 use Rattle.sheet.specs.Sheet.{schedules}
 use Rattle.sheet.proofs.MeantLaws.{meant_none, meant_some}
 use native.Mathlib.Omega.{arith}
-use borrow.Author.Rules.{rules}
 use Rattle.checker.proofs.schedules_meant.Goals as goal
 
 pub returns-then-z-eq0 : goal.returns-then-z-eq0

@@ -1,7 +1,6 @@
 -- `checker::schedules_number` meets its contract: Numbers 7 to 11: each test decides where those before it are passed, and they give what the later ones ask.
 use mathlib.Core.Path.{sym, ◌∙◌}
 use Rattle.sheet.proofs.VerdictLaws.{here, on, done}
-use borrow.Author.Rules.{rules}
 use Rattle.checker.proofs.schedules_number.Goals as goal
 
 pub circuit_spans-spans-requires : goal.circuit_spans-spans-requires

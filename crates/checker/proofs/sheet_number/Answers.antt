@@ -2,7 +2,6 @@
 use mathlib.Core.Path.{sym, ◌∙◌}
 use native.Mathlib.Omega.{arith}
 use Rattle.sheet.proofs.MeantLaws.{number_none, number_some}
-use borrow.Author.Rules.{rules}
 use Rattle.checker.proofs.sheet_number.Goals as goal
 
 pub returns-then-z-gt0 : goal.returns-then-z-gt0

@@ -1,7 +1,6 @@
 -- `checker::verdict` meets its contract: the outcome of the verdict's number.
 use mathlib.Core.Path.{◌∙◌, ap}
 use Rattle.checker.specs.Answers.{outcome_of}
-use borrow.Author.Rules.{rules}
 use Rattle.checker.proofs.verdict.Goals as goal
 
 pub returns : goal.returns

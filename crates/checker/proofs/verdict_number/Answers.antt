@@ -1,7 +1,6 @@
 -- `checker::verdict_number` meets its contract: no words stand for an idle network, which passes; of others 1 to 11 decide, then 26.
 use mathlib.Core.Path.{sym, ◌∙◌}
 use Rattle.sheet.proofs.CheckLaws.{number_first, number_ranged, number_served, number_unserved, check_none, check_some}
-use borrow.Author.Rules.{rules}
 use Rattle.checker.proofs.verdict_number.Goals as goal
 
 pub returns-then-z-eq0 : goal.returns-then-z-eq0

@@ -1,7 +1,6 @@
 -- `exports::argo_entries` meets its contract: the checker's answer is made of its number, and only where that is 0 a field is asked for.
 use mathlib.Core.Path.{sym, ◌∙◌}
 use Rattle.exports.proofs.PackedLaws.{passes_zero, passes_is, refused_is}
-use borrow.Author.Rules.{rules}
 use Rattle.exports.proofs.argo_entries.Goals as goal
 
 pub entries_field-requires : goal.entries_field-requires

@@ -1,7 +1,6 @@
 -- `exports::argo_hours` meets its contract: the timetable's answer, one field of it.
 use mathlib.Core.Path.{◌∙◌, ap}
 use Rattle.exports.specs.Packed.{packed_hours}
-use borrow.Author.Rules.{rules}
 use Rattle.exports.proofs.argo_hours.Goals as goal
 
 pub returns : goal.returns

@@ -1,7 +1,6 @@
 -- `exports::argo_landed` meets its contract: the session's answer is made of its number and the landing.
 use mathlib.Core.Path.{◌∙◌, ap}
 use Rattle.exports.specs.Packed.{packed_landed}
-use borrow.Author.Rules.{rules}
 use Rattle.exports.proofs.argo_landed.Goals as goal
 
 pub returns : goal.returns

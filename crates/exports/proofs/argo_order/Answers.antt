@@ -1,6 +1,5 @@
 -- `exports::argo_order` meets its contract: the number is that of the session's answer, and the words are those that the session left.
 use Rattle.session.proofs.AnswerLaws.{number_is}
-use borrow.Author.Rules.{rules}
 use Rattle.exports.proofs.argo_order.Goals as goal
 
 pub returns : goal.returns

@@ -1,7 +1,6 @@
 -- `exports::argo_period_number` meets its contract: the session's answer is made of its number and the period number.
 use mathlib.Core.Path.{◌∙◌, ap}
 use Rattle.exports.specs.Packed.{packed_found}
-use borrow.Author.Rules.{rules}
 use Rattle.exports.proofs.argo_period_number.Goals as goal
 
 pub returns : goal.returns

@@ -1,6 +1,5 @@
 -- `exports::argo_start_lists` meets its contract: the number is that of the answer, and the words are those that the batch left.
 use Rattle.session.proofs.AnswerLaws.{number_is}
-use borrow.Author.Rules.{rules}
 use Rattle.exports.proofs.argo_start_lists.Goals as goal
 
 pub returns : goal.returns

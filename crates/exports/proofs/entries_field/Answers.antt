@@ -1,6 +1,5 @@
 -- `exports::entries_field` meets its contract: the entries' place and how many words the checker hands back.
 use Rattle.exports.proofs.PackedLaws.{entries_at, entries_many, entries_other}
-use borrow.Author.Rules.{rules}
 use Rattle.exports.proofs.entries_field.Goals as goal
 
 pub returns-in-0 : goal.returns-in-0

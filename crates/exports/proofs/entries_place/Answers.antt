@@ -3,7 +3,6 @@ use mathlib.Core.Path.{◌∙◌, ap}
 use Prim.Native.Nat.{ℕ, ◌+◌}
 use Rattle.checker.proofs.AnswerLaws.{handed_some}
 use Rattle.exports.proofs.PackedLaws.{place_none, place_some}
-use borrow.Author.Rules.{rules}
 use Rattle.exports.proofs.entries_place.Goals as goal
 
 pub returns-then-sheet-eq0 : goal.returns-then-sheet-eq0

@@ -1,7 +1,6 @@
 -- `exports::packed_hours` meets its contract: the field of the hours, or a number above its 32 bits.
 use mathlib.Core.Path.{sym, ◌∙◌, ap}
 use Rattle.exports.specs.Packed.{packed_hours}
-use borrow.Author.Rules.{rules}
 use Rattle.exports.proofs.packed_hours.Goals as goal
 
 pub returns-in-Until : goal.returns-in-Until

@@ -1,7 +1,6 @@
 -- `exports::packed_landed` meets its contract: the field of a landing, or a number above its 32 bits.
 use mathlib.Core.Path.{sym, ◌∙◌, ap}
 use Rattle.exports.specs.Packed.{packed_landed}
-use borrow.Author.Rules.{rules}
 use Rattle.exports.proofs.packed_landed.Goals as goal
 
 pub returns-in-Word : goal.returns-in-Word

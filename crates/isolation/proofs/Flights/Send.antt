@@ -12,7 +12,7 @@ use Rattle.words.specs.Words.{pick}
 use Rattle.words.proofs.TestLaws.{and_left, and_right, is≤, is=, no≤, yes=, no=}
 use Rattle.words.proofs.WordLaws.{count_of_one}
 use Rattle.packet.specs.Header.{header_word, route_of, routes}
-use Rattle.sheet.specs.Sheet.{circuits, nodes, period}
+use Rattle.sheet.specs.Sheet.{circuits, nodes}
 use Rattle.sheet.specs.Slots.{slot_length, source_of}
 use Rattle.network.specs.View.{Cell, empty, header, payload, View, ports}
 use Rattle.network.specs.Cycle.{gather, Move, rests, opens, sends, sent_cell, slot_now, move_now, head_now, read_now, sent_now, source_wire, is_full, crowds, reopens, strays, faulty}

@@ -16,9 +16,8 @@ use Rattle.sheet.specs.Rules.{verdict}
 use Rattle.network.specs.View.{Order, no_order, pending, View}
 use Rattle.network.specs.Cycle.{next_number, schedule_after, order_after, period_ends, tick, faulty}
 use Rattle.network.specs.Registers.{reg, clock_row, cycle_place, number_place, in_force_place, order_mark_place, order_schedule_place, order_period_place, row_words}
-use Rattle.session.specs.declared.Transfer.{Transfer as Listed}
-use Rattle.session.specs.Calls.{Lent, lend, Call, load, start, start_all, store, order, cycle, ask, as_start, is_load, number, does, after, after_all}
-use Rattle.session.specs.Calls.{started_all, ordered, stored}
+use Rattle.session.specs.Calls.{Lent, Call, load, start, start_all, store, order, cycle, ask, is_load, number, does, after, after_all}
+use Rattle.session.specs.Calls.{ordered, stored}
 use Rattle.session.proofs.NumberLaws.{start_passed}
 use Rattle.session.proofs.RegisterLaws.{started_other, ordered_other, ordered_mark, ordered_schedule, ordered_period}
 use Rattle.isolation.specs.Sessions.{LoadsRefused, Session, after_load, standing, Event, order_done, cycle_done, event_of, events}

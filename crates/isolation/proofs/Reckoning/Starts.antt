@@ -8,9 +8,9 @@ use Rattle.words.specs.Tests.{◌=?◌}
 use Rattle.words.specs.Words.{pick}
 use Rattle.words.proofs.TestLaws.{is=}
 use Rattle.session.specs.declared.Transfer.{Transfer as Listed}
-use Rattle.session.specs.Calls.{transfer_number, started_by, started_next, started_all, carried_out, Lent, lend, as_start}
+use Rattle.session.specs.Calls.{transfer_number, started_by, started_next, started_all, carried_out, lend, as_start}
 use Rattle.session.proofs.SinglesLaws.{next_is}
-use Rattle.isolation.specs.Sessions.{Event, start_of, event_of, events, TellsSingles}
+use Rattle.isolation.specs.Sessions.{Event, start_of, events, TellsSingles}
 use Rattle.isolation.specs.Calendar.{Calendar, calendar_all}
 
 -- what relates each state to itself by no events, and goes back over each start that is carried out by its event, relates a state to the

@@ -3,7 +3,6 @@ use mathlib.Core.Path.{◌∙◌, ap}
 use Rattle.sheet.specs.Sheet.{is_long}
 use Rattle.tables.proofs.PrepareLaws.{own_head, counted}
 use Rattle.machine.proofs.CarryLaws.{heads_ready, links_ready, units_ready, extras_ready, outs_ready, senders_ready, clock_ready, carried_length, is_carried_out, covered_out}
-use borrow.Author.Rules.{rules}
 use Rattle.machine.proofs.carry_out.Goals as goal
 
 pub nodes_of-nodes-requires : goal.nodes_of-nodes-requires

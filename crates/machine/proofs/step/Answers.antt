@@ -1,6 +1,5 @@
 -- `machine::step` meets its contract: a quiet cycle has no fault and moves only the clock; any other is stepped with masks of where something is.
-use Rattle.machine.proofs.QuietStep.{settled, quiet_step}
-use borrow.Author.Rules.{rules}
+use Rattle.machine.proofs.QuietStep.{quiet_step}
 use Rattle.machine.proofs.step.Goals as goal
 
 pub returns-then-is_quiet : goal.returns-then-is_quiet

@@ -1,6 +1,5 @@
 -- `machine::step_live` meets its contract: a fault is found before anything is written, and then words and masks stay; or the stages carry the cycle out.
 use Rattle.tables.proofs.PrepareLaws.{empty, fault_number, no_fault, kept, changed}
-use borrow.Author.Rules.{rules}
 use Rattle.machine.proofs.step_live.Goals as goal
 
 pub prepare-prepared-requires : goal.prepare-prepared-requires

@@ -1,5 +1,4 @@
 -- `probes::probe_accepts` meets its contract: a sheet that is accepted has the verdict 0.
-use borrow.Author.Rules.{rules}
 use Rattle.probes.proofs.probe_accepts.Goals as goal
 
 pub returns-then-accepts : goal.returns-then-accepts

@@ -1,11 +1,7 @@
 -- `probes::probe_cycles` meets its contract: words that 12 to 14 refuse stay; else each turn is the next inner cycle, until one is refused.
-use native.Mathlib.Omega.{arith}
 use Prim.Native.Nat.{◌-◌}
-use mathlib.Core.Path.{sym, ◌∙◌}
 use Rattle.session.specs.Calls.{lend}
-use Rattle.session.proofs.AnswerLaws.{number_is}
-use Rattle.probes.proofs.CyclesLaws.{Running, none_run, run_start, run_done, run_more, run_refused, next_long, next_wide}
-use borrow.Author.Rules.{rules}
+use Rattle.probes.proofs.CyclesLaws.{Running}
 use Rattle.probes.proofs.probe_cycles.Given as goal
 
 abbrev pub invariant-loop-done : goal.invariant-loop-done

@@ -1,8 +1,7 @@
 -- `scan::join_rows` meets its contract: in the loop a place before `k` whose word in the list is 0 is empty.
-use Prim.Native.Nat.{◌-◌}
 use mathlib.Core.Path.{sym, ◌∙◌}
 use native.Mathlib.Omega.{arith}
-use Rattle.scan.proofs.ScanLaws.{Joining, joining_start, joining_more}
+use Rattle.scan.proofs.ScanLaws.{joining_start, joining_more}
 use Rattle.scan.proofs.join_rows.Goals as goal
 
 pub loop-k-init : goal.loop-k-init

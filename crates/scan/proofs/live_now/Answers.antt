@@ -1,16 +1,9 @@
 -- `scan::live_now` meets its contract: a node beside its mask is empty at its five places, and a circuit beside its own has nothing to go.
-use borrow.Author.Rules.{rules}
 use mathlib.Core.Path.{sym, ap, subst}
 use native.Mathlib.Omega.{arith}
 use Rattle.sheet.specs.Sheet.{circuits}
 use Rattle.sheet.specs.Inner.Passed.{Headed}
 use Rattle.scan.proofs.ScanLaws.{covered_here}
-use Rattle.scan.proofs.join_rows.Reads as join-rows-reads
-use Rattle.scan.proofs.nodes_in.Reads as nodes-in-reads
-use Rattle.scan.proofs.sending_in.Reads as sending-in-reads
-use Rattle.network.proofs.sheet_of.Reads as sheet-of-reads
-use Rattle.sheet.proofs.circuits_of.Reads as circuits-of-reads
-use Rattle.sheet.proofs.nodes_of.Reads as nodes-of-reads
 use Rattle.scan.proofs.live_now.Goals as goal
 
 pub nodes_of-nodes-requires : goal.nodes_of-nodes-requires

@@ -1,8 +1,6 @@
 -- `scan::node_in` meets its contract: five words joined by or are 0 where each is.
-use borrow.Author.Rules.{rules}
 use native.Mathlib.Omega.{arith}
 use Rattle.scan.proofs.ScanLaws.{node_none}
-use Rattle.occupancy.proofs.only.Reads as only-reads
 use Rattle.scan.proofs.node_in.Goals as goal
 
 pub returns-then-joined-k-eq0 : goal.returns-then-joined-k-eq0

@@ -1,9 +1,8 @@
 -- `scan::nodes_in` meets its contract: in the loop the nodes before `node` that the mask has not are empty.
-use Prim.Native.Nat.{ℕ, ◌/◌, ◌-◌}
-use mathlib.Core.Path.{◌≡◌, refl}
+use Prim.Native.Nat.{◌/◌}
+use mathlib.Core.Path.{refl}
 use native.Mathlib.Omega.{arith}
-use Rattle.words.specs.Words.{word}
-use Rattle.scan.proofs.ScanLaws.{Gathered, gathered_start, gathered_more, gathered_done}
+use Rattle.scan.proofs.ScanLaws.{gathered_start, gathered_more, gathered_done}
 use Rattle.scan.proofs.nodes_in.Goals as goal
 
 pub loop-node-init : goal.loop-node-init

@@ -1,9 +1,6 @@
 -- `scan::sending_in` meets its contract: in the loop the circuits before `c` that the mask has not have nothing to go.
-use Prim.Native.Nat.{ℕ, ◌-◌}
-use mathlib.Core.Path.{◌≡◌}
 use native.Mathlib.Omega.{arith}
-use Rattle.network.specs.Registers.{reg, to_go_row}
-use Rattle.scan.proofs.ScanLaws.{Gathered, gathered_start, gathered_more, gathered_done}
+use Rattle.scan.proofs.ScanLaws.{gathered_start, gathered_more, gathered_done}
 use Rattle.scan.proofs.sending_in.Goals as goal
 
 pub returns-then-s-lt-MOVING_WORDS : goal.returns-then-s-lt-MOVING_WORDS

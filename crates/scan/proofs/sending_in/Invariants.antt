@@ -1,9 +1,8 @@
 -- `scan::sending_in` meets its contract: in the loop the circuits before `c` that the mask has not have nothing to go.
-use Prim.Native.Nat.{ℕ, ◌-◌}
+use Prim.Native.Nat.{◌-◌}
 use mathlib.Core.Path.{◌≡◌}
-use native.Mathlib.Omega.{arith}
 use Rattle.network.specs.Registers.{reg, to_go_row}
-use Rattle.scan.proofs.ScanLaws.{Gathered, gathered_start, gathered_more, gathered_done}
+use Rattle.scan.proofs.ScanLaws.{Gathered}
 use Rattle.scan.proofs.sending_in.Given as goal
 
 abbrev pub invariant-loop-c : goal.invariant-loop-c

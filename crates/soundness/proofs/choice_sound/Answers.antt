@@ -3,7 +3,6 @@ use Rattle.words.proofs.TestLaws.{or_yes, or_on, no=, yes=}
 use mathlib.Core.Path.{sym, ◌∙◌, ap}
 use Prim.Native.Nat.{ℕ}
 use Rattle.words.specs.Tests.{◌≤?◌}
-use borrow.Author.Rules.{rules}
 use Rattle.soundness.proofs.choice_sound.Goals as goal
 
 pub returns-then-reg-eq0 : goal.returns-then-reg-eq0

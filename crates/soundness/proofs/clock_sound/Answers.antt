@@ -1,7 +1,6 @@
 -- `soundness::clock_sound` meets its contract: the schedule in force exists, and the cycle is compared with its period.
 use Rattle.words.specs.Tests.{◌<?◌}
 use Rattle.soundness.proofs.SoundnessLaws.{clock_outside, clock_rest}
-use borrow.Author.Rules.{rules}
 use Rattle.soundness.proofs.clock_sound.Goals as goal
 
 pub returns-then-schedule-schedules_of : goal.returns-then-schedule-schedules_of

@@ -1,14 +1,11 @@
 -- `soundness::extras_sound` meets its contract: without long links no register is there; in the loop every one before `k` is sound.
 use Prim.Native.Nat.{◌≤◌, ◌*◌, ◌-◌}
 use mathlib.Core.Bool.{true}
-use mathlib.Core.Path.{◌≡◌, sym}
-use native.Mathlib.Omega.{arith}
+use mathlib.Core.Path.{◌≡◌}
 use Rattle.words.specs.Tests.{all}
-use Rattle.words.proofs.AllLaws.{all_none}
 use Rattle.sheet.specs.Sheet.{nodes}
 use Rattle.network.specs.Registers.{sheet_in, row_words}
 use Rattle.soundness.specs.Sound.{extra_sound}
-use Rattle.soundness.proofs.SoundnessLaws.{extras_short, long_is, count_inputs, tested_more, tested_fails, tested_all}
 use Rattle.soundness.proofs.extras_sound.Given as goal
 
 abbrev pub invariant-loop-k : goal.invariant-loop-k

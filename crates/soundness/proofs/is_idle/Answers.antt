@@ -3,7 +3,6 @@ use Rattle.words.proofs.TestLaws.{and_no, and_on, no=, yes=}
 use mathlib.Core.Path.{sym, ◌∙◌, ap}
 use Prim.Native.Nat.{ℕ}
 use Rattle.words.specs.Tests.{◌=?◌}
-use borrow.Author.Rules.{rules}
 use Rattle.soundness.proofs.is_idle.Goals as goal
 
 pub returns-then-reg-ne0 : goal.returns-then-reg-ne0

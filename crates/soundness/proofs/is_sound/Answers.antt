@@ -2,7 +2,6 @@
 use mathlib.Core.Path.{refl, sym, ◌∙◌}
 use Rattle.sheet.proofs.VerdictLaws.{routed}
 use Rattle.soundness.proofs.SoundnessLaws.{long_sheet_is, sound_long, sound_refused, sound_unclocked, sound_unordered, sound_rest}
-use borrow.Author.Rules.{rules}
 use Rattle.soundness.proofs.is_sound.Goals as goal
 
 pub returns-then-get-gt-SHEET_WORDS : goal.returns-then-get-gt-SHEET_WORDS

@@ -2,7 +2,6 @@
 use native.Mathlib.Omega.{arith}
 use Rattle.words.specs.Tests.{◌≤?◌}
 use Rattle.soundness.proofs.SoundnessLaws.{lies_below, lies_rest}
-use borrow.Author.Rules.{rules}
 use Rattle.soundness.proofs.lies_in.Goals as goal
 
 pub returns-then-address-region : goal.returns-then-address-region

@@ -1,7 +1,6 @@
 -- `soundness::node_sound` meets its contract: the receive unit, then the landing's mark.
 use Rattle.words.specs.Tests.{◌≤?◌}
 use Rattle.soundness.proofs.SoundnessLaws.{node_stays, node_rest}
-use borrow.Author.Rules.{rules}
 use Rattle.soundness.proofs.node_sound.Goals as goal
 
 pub returns-then-receive_sound : goal.returns-then-receive_sound

@@ -1,13 +1,7 @@
 -- `soundness::nodes_sound` meets its contract: in the loop every node before `n` is sound.
-use Prim.Native.Nat.{◌≤◌, ◌-◌}
-use mathlib.Core.Bool.{true}
-use mathlib.Core.Path.{◌≡◌, sym}
+use mathlib.Core.Path.{sym}
 use native.Mathlib.Omega.{arith}
-use Rattle.words.specs.Tests.{all}
 use Rattle.words.proofs.AllLaws.{all_none}
-use Rattle.sheet.specs.Sheet.{nodes}
-use Rattle.network.specs.Registers.{sheet_in}
-use Rattle.soundness.specs.Sound.{node_sound}
 use Rattle.soundness.proofs.SoundnessLaws.{count_nodes, tested_more, tested_fails, tested_all}
 use Rattle.soundness.proofs.nodes_sound.Goals as goal
 

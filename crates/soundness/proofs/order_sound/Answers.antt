@@ -1,7 +1,6 @@
 -- `soundness::order_sound` meets its contract: the order's mark, then its schedule.
 use Rattle.words.specs.Tests.{◌<?◌}
 use Rattle.soundness.proofs.SoundnessLaws.{order_high, order_none, order_rest}
-use borrow.Author.Rules.{rules}
 use Rattle.soundness.proofs.order_sound.Goals as goal
 
 pub returns-then-mark-gt1 : goal.returns-then-mark-gt1

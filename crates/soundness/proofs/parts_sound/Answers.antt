@@ -1,7 +1,6 @@
 -- `soundness::parts_sound` meets its contract: the four loops one after the other.
 use mathlib.Core.Path.{sym, ◌∙◌}
 use Rattle.words.proofs.TestLaws.{and_no, and_on}
-use borrow.Author.Rules.{rules}
 use Rattle.soundness.proofs.parts_sound.Goals as goal
 
 pub returns-then-extras_sound : goal.returns-then-extras_sound

@@ -1,7 +1,6 @@
 -- `soundness::receive_sound` meets its contract: the mark is compared with 1 and 0, and an arriving packet's kind decides.
 use native.Mathlib.Omega.{arith}
 use Rattle.soundness.proofs.SoundnessLaws.{receive_high, receive_none, receive_rest}
-use borrow.Author.Rules.{rules}
 use Rattle.soundness.proofs.receive_sound.Goals as goal
 
 pub returns-then-mark-gt1 : goal.returns-then-mark-gt1

@@ -2,7 +2,6 @@
 use mathlib.Core.Path.{sym, ◌∙◌}
 use Rattle.words.specs.Tests.{◌≤?◌}
 use Rattle.words.proofs.TestLaws.{and_no, and_on}
-use borrow.Author.Rules.{rules}
 use Rattle.soundness.proofs.rest_sound.Goals as goal
 
 pub returns-then-lies_in : goal.returns-then-lies_in

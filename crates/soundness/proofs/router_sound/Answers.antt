@@ -5,7 +5,6 @@ use Rattle.words.specs.Tests.{◌≤?◌}
 use Rattle.words.proofs.TestLaws.{and_no, and_on}
 use Rattle.soundness.specs.Sound.{router_sound}
 use Rattle.soundness.proofs.SoundnessLaws.{router_idle}
-use borrow.Author.Rules.{rules}
 use Rattle.soundness.proofs.router_sound.Goals as goal
 
 pub returns-then-is_idle : goal.returns-then-is_idle

@@ -1,13 +1,7 @@
 -- `soundness::routers_sound` meets its contract: in the loop every register before `k` is sound.
-use Prim.Native.Nat.{◌≤◌, ◌*◌, ◌-◌}
-use mathlib.Core.Bool.{true}
-use mathlib.Core.Path.{◌≡◌, sym}
+use mathlib.Core.Path.{sym}
 use native.Mathlib.Omega.{arith}
-use Rattle.words.specs.Tests.{all}
 use Rattle.words.proofs.AllLaws.{all_none}
-use Rattle.sheet.specs.Sheet.{nodes}
-use Rattle.network.specs.Registers.{sheet_in, row_words}
-use Rattle.soundness.specs.Sound.{router_sound}
 use Rattle.soundness.proofs.SoundnessLaws.{count_inputs, tested_more, tested_fails, tested_all}
 use Rattle.soundness.proofs.routers_sound.Goals as goal
 

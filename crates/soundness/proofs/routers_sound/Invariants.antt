@@ -1,14 +1,11 @@
 -- `soundness::routers_sound` meets its contract: in the loop every register before `k` is sound.
 use Prim.Native.Nat.{◌≤◌, ◌*◌, ◌-◌}
 use mathlib.Core.Bool.{true}
-use mathlib.Core.Path.{◌≡◌, sym}
-use native.Mathlib.Omega.{arith}
+use mathlib.Core.Path.{◌≡◌}
 use Rattle.words.specs.Tests.{all}
-use Rattle.words.proofs.AllLaws.{all_none}
 use Rattle.sheet.specs.Sheet.{nodes}
 use Rattle.network.specs.Registers.{sheet_in, row_words}
 use Rattle.soundness.specs.Sound.{router_sound}
-use Rattle.soundness.proofs.SoundnessLaws.{count_inputs, tested_more, tested_fails, tested_all}
 use Rattle.soundness.proofs.routers_sound.Given as goal
 
 abbrev pub invariant-loop-k : goal.invariant-loop-k

@@ -1,6 +1,5 @@
 -- `soundness::transfer_sound` meets its contract: the words to go, the words left, and the rest of the transfer on the state's own sheet.
 use Rattle.soundness.proofs.SoundnessLaws.{transfer_over, transfer_none, transfer_rest}
-use borrow.Author.Rules.{rules}
 use Rattle.soundness.proofs.transfer_sound.Goals as goal
 
 pub returns-then-left-reg : goal.returns-then-left-reg

@@ -1,13 +1,7 @@
 -- `soundness::transfers_sound` meets its contract: in the loop every transfer before `c` is sound.
-use Prim.Native.Nat.{◌≤◌, ◌-◌}
-use mathlib.Core.Bool.{true}
-use mathlib.Core.Path.{◌≡◌, sym}
+use mathlib.Core.Path.{sym}
 use native.Mathlib.Omega.{arith}
-use Rattle.words.specs.Tests.{all}
 use Rattle.words.proofs.AllLaws.{all_none}
-use Rattle.sheet.specs.Sheet.{circuits}
-use Rattle.network.specs.Registers.{sheet_in}
-use Rattle.soundness.specs.Sound.{transfer_sound}
 use Rattle.soundness.proofs.SoundnessLaws.{count_circuits, tested_more, tested_fails, tested_all}
 use Rattle.soundness.proofs.transfers_sound.Goals as goal
 

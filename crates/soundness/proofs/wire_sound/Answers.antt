@@ -1,7 +1,6 @@
 -- `soundness::wire_sound` meets its contract: the mark is compared with 3 and 1, and a header's kind decides.
 use native.Mathlib.Omega.{arith}
 use Rattle.soundness.proofs.SoundnessLaws.{cell_high, cell_other, cell_header}
-use borrow.Author.Rules.{rules}
 use Rattle.soundness.proofs.wire_sound.Goals as goal
 
 pub returns-then-mark-gt3 : goal.returns-then-mark-gt3

@@ -3,7 +3,6 @@ use mathlib.Core.Path.{sym, ◌∙◌}
 use native.Mathlib.Omega.{arith}
 use Rattle.tables.proofs.PrepareLaws.{own_head, node_count, count_is, counted, own_paired, own_sendable, own_ascending, none_to_go, none_lands, faulty_answer, moving, tables}
 use Rattle.tables.proofs.FaultLaws.{fault_crossed, fault_unheld, fault_wires, fault_last}
-use borrow.Author.Rules.{rules}
 use Rattle.tables.proofs.prepare.Goals as goal
 
 pub overflow_mul-nodes : goal.overflow_mul-nodes

@@ -1,7 +1,6 @@
 -- `batch::lists::start_lists` meets its contract: the number decides between the transfers started and nothing.
 use Rattle.session.proofs.WritingLaws.{answer_done, answer_refused}
 use Rattle.batch.proofs.ListsLaws.{lists_passed, lists_kept, lists_written}
-use borrow.Author.Rules.{rules}
 use Rattle.batch.proofs.lists.start_lists.Goals as goal
 
 pub returns-then-number-ne0 : goal.returns-then-number-ne0

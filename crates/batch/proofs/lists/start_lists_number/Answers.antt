@@ -1,6 +1,5 @@
 -- `batch::lists::start_lists_number` meets its contract: a number of the list of transfers comes first, then the test of the lengths.
 use Rattle.batch.proofs.ListsLaws.{lists_early, lists_even, lists_uneven}
-use borrow.Author.Rules.{rules}
 use Rattle.batch.proofs.lists.start_lists_number.Goals as goal
 
 pub returns-then-number-ne0 : goal.returns-then-number-ne0

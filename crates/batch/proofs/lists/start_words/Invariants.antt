@@ -1,11 +1,9 @@
 -- `batch::lists::start_words` meets its contract: after i turns the first i transfers are started, each on the state that those before it
 -- left.
 use Rattle.batch.specs.Lists.{transfer_at, first_of}
-use Rattle.batch.proofs.BatchLaws.{Started, started_long, loop_none, loop_more, loop_done}
-use borrow.Author.Rules.{rules}
+use Rattle.batch.proofs.BatchLaws.{Started}
 use Prim.Native.Nat.{◌-◌, ◌≤◌}
 use lib.ListN.{length}
-use native.Mathlib.Omega.{arith}
 use Rattle.batch.proofs.lists.start_words.Given as goal
 
 abbrev pub invariant-loop-i : goal.invariant-loop-i

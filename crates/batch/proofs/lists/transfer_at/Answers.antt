@@ -1,6 +1,5 @@
 -- `batch::lists::transfer_at` meets its contract: each field is a word of one list, at one place.
 use Rattle.batch.proofs.ListsLaws.{transfer_is}
-use borrow.Author.Rules.{rules}
 use Rattle.batch.proofs.lists.transfer_at.Goals as goal
 
 pub returns : goal.returns

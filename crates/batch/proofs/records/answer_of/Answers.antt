@@ -1,8 +1,6 @@
 -- `batch::records::answer_of` meets its contract: the test decides.
 use mathlib.Core.Path.{refl}
 use Rattle.session.proofs.WritingLaws.{answer_done, answer_refused}
-use Rattle.batch.proofs.records.answer_of.Reads as reads
-use Rattle.batch.proofs.records.answer_of.Lts as lts
 use Rattle.batch.proofs.records.answer_of.Goals as goal
 
 pub returns-then-number-eq0 : goal.returns-then-number-eq0

@@ -1,5 +1,5 @@
 -- `batch::records::start_all` meets its contract: the test leaves the state as it was, a turn adds its transfer, and the loop's end is the list's.
-use Rattle.std.proofs.Common.{◌≡◌, ◌<◌, ℕ, length, List, sym, subst, refl, ◌∙◌, ap, arith}
+use Rattle.std.proofs.Common.{◌≡◌, ◌<◌, ℕ, length, List, sym, subst, ◌∙◌, ap, arith}
 use Rattle.batch.specs.Inner.Counts.{started_of}
 use Rattle.session.proofs.NumberLaws.{list_passed}
 use Rattle.session.specs.Answers.{answer_of}

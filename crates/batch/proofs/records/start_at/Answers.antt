@@ -1,7 +1,6 @@
 -- `batch::records::start_at` meets its contract: the start's number is stored at its place, and the state is the one that it left.
 use mathlib.Core.Path.{ap}
 use lib.ListN.{set}
-use borrow.Author.Rules.{rules}
 use Rattle.batch.proofs.records.start_at.Goals as goal
 
 pub returns : goal.returns

@@ -2,8 +2,6 @@
 use mathlib.Core.Path.{refl}
 use Rattle.words.proofs.TestLaws.{yes=, no=}
 use Rattle.batch.specs.Inner.Counts.{started_of}
-use Rattle.batch.proofs.records.started_of.Reads as reads
-use Rattle.batch.proofs.records.started_of.Lts as lts
 use Rattle.batch.proofs.records.started_of.Goals as goal
 
 pub returns-then-number-eq0 : goal.returns-then-number-eq0

@@ -1,5 +1,5 @@
 -- `session::cycling::cycle` meets its contract: a number of 12 to 14 is the answer, and nothing is written; else the words have passed.
-use Rattle.std.proofs.Common.{◌≡◌, arith, rules}
+use Rattle.std.proofs.Common.{◌≡◌, arith}
 use Rattle.session.proofs.CyclingLaws.{cycle_early}
 use Rattle.session.proofs.WritingLaws.{answer_refused, state_kept, memory_kept}
 use Rattle.session.proofs.cycling.cycle.Goals as goal

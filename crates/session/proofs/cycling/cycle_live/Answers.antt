@@ -1,7 +1,6 @@
 -- `session::cycling::cycle_live` meets its contract: words that passed 12 to 14 are what a cycle in place requires; its number is the fault's.
 use Rattle.session.proofs.CyclingLaws.{passed_ready, cycle_fault_is}
 use Rattle.session.proofs.WritingLaws.{state_either, memory_either}
-use Rattle.std.proofs.Common.{rules}
 use Rattle.session.proofs.cycling.cycle_live.Goals as goal
 
 pub step_live-requires : goal.step_live-requires

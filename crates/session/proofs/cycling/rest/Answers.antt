@@ -1,6 +1,5 @@
 -- `session::cycling::rest` meets its contract: what the machine crosses at once is so many cycles, one after another, and moves no word.
 use Rattle.session.proofs.RestLaws.{passed_settled, rested, rest_covered}
-use Rattle.std.proofs.Common.{rules}
 use Rattle.session.proofs.cycling.rest.Goals as goal
 
 pub rest-requires : goal.rest-requires

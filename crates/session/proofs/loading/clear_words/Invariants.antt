@@ -1,6 +1,6 @@
 -- `session::loading::clear_words` meets its contract: each turn sets one more word to 0, and the others stay.
-use Rattle.std.proofs.Common.{◌-◌, ◌≤◌, length, arith}
-use Rattle.session.proofs.LoadingLaws.{Cleared, clear_start, clear_more, clear_done}
+use Rattle.std.proofs.Common.{◌-◌, ◌≤◌, length}
+use Rattle.session.proofs.LoadingLaws.{Cleared}
 use Rattle.session.proofs.loading.clear_words.Given as goal
 
 abbrev pub invariant-loop-k : goal.invariant-loop-k

@@ -1,6 +1,5 @@
 -- `session::loading::copy_words` meets its contract: each turn copies one more word to its place.
-use Rattle.std.proofs.Common.{◌-◌, length, arith}
-use Rattle.session.proofs.LoadingLaws.{Copied, copy_start, copy_more, copy_done}
+use Rattle.session.proofs.LoadingLaws.{copy_start, copy_more, copy_done}
 use Rattle.session.proofs.loading.copy_words.Goals as goal
 
 pub loop-k-init : goal.loop-k-init

@@ -1,6 +1,6 @@
 -- `session::loading::copy_words` meets its contract: each turn copies one more word to its place.
-use Rattle.std.proofs.Common.{◌-◌, length, arith}
-use Rattle.session.proofs.LoadingLaws.{Copied, copy_start, copy_more, copy_done}
+use Rattle.std.proofs.Common.{◌-◌, length}
+use Rattle.session.proofs.LoadingLaws.{Copied}
 use Rattle.session.proofs.loading.copy_words.Given as goal
 
 abbrev pub invariant-loop-k : goal.invariant-loop-k

@@ -1,5 +1,5 @@
 -- `session::loading::load` meets its contract: what is loaded is what the words stand for.
-use Rattle.std.proofs.Common.{sym, ◌∙◌, rules}
+use Rattle.std.proofs.Common.{sym, ◌∙◌}
 use Rattle.sheet.proofs.MeantLaws.{meant_none, meant_some}
 use Rattle.session.proofs.LoadingLaws.{load_answers, load_leaves}
 use Rattle.session.proofs.loading.load.Goals as goal

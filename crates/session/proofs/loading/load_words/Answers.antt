@@ -1,7 +1,6 @@
 -- `session::loading::load_words` meets its contract: the number decides between the state with the sheet and nothing.
 use Rattle.session.proofs.WritingLaws.{answer_done, answer_refused}
 use Rattle.session.proofs.LoadingLaws.{sheet_fits, words_loaded, words_kept}
-use Rattle.std.proofs.Common.{rules}
 use Rattle.session.proofs.loading.load_words.Goals as goal
 
 pub returns-then-number-ne0 : goal.returns-then-number-ne0

@@ -1,5 +1,5 @@
 -- `session::loading::load_words_number` meets its contract: the sheet's number first, then 12 and 14 by the lengths.
-use Rattle.std.proofs.Common.{sym, arith, rules}
+use Rattle.std.proofs.Common.{sym, arith}
 use Rattle.words.proofs.TestLaws.{yes=, no=, yes≤, no≤}
 use Rattle.sheet.proofs.CheckLaws.{number_first, number_ranged, number_served, number_unserved}
 use Rattle.session.specs.Calls.{load_words_number}

@@ -1,6 +1,5 @@
 -- `session::loading::put_sheet` meets its contract: zeros, the length and the sheet's words are put in turn.
 use Rattle.session.proofs.LoadingLaws.{loaded_is}
-use Rattle.std.proofs.Common.{rules}
 use Rattle.session.proofs.loading.put_sheet.Goals as goal
 
 pub returns : goal.returns

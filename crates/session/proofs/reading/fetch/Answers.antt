@@ -1,5 +1,5 @@
 -- `session::reading::fetch` meets its contract: the answer of its number and the word at the node's address.
-use Rattle.std.proofs.Common.{◌∙◌, ap₂, arith, rules}
+use Rattle.std.proofs.Common.{◌∙◌, ap₂, arith}
 use Rattle.session.specs.Answers.{found_of}
 use Rattle.session.proofs.ReadingLaws.{fetched_is}
 use Rattle.words.proofs.WordLaws.{product_small}

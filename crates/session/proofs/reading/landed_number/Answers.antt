@@ -1,5 +1,5 @@
 -- `session::reading::landed_number` meets its contract: the state's number first, then 15 by the node.
-use Rattle.std.proofs.Common.{sym, ◌∙◌, arith, rules}
+use Rattle.std.proofs.Common.{sym, ◌∙◌, arith}
 use Rattle.words.proofs.TestLaws.{yes<, no<}
 use Rattle.session.specs.Calls.{landed_number}
 use Rattle.words.proofs.NumberLaws.{then_first, then_next, unless_no, unless_yes}

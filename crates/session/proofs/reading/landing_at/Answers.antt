@@ -1,5 +1,5 @@
 -- `session::reading::landing_at` meets its contract: the mark decides whether the other three registers count.
-use Rattle.std.proofs.Common.{sym, ◌∙◌, rules}
+use Rattle.std.proofs.Common.{sym, ◌∙◌}
 use Rattle.session.specs.Calls.{last_landing}
 use Rattle.session.proofs.ReadingLaws.{landing_nothing, landing_word_is}
 use Rattle.session.proofs.reading.landing_at.Goals as goal

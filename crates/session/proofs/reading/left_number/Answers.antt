@@ -1,5 +1,5 @@
 -- `session::reading::left_number` meets its contract: the state's number first, then 15 by the circuit.
-use Rattle.std.proofs.Common.{sym, ap, ◌∙◌, arith, rules}
+use Rattle.std.proofs.Common.{sym, ap, ◌∙◌, arith}
 use Rattle.words.proofs.TestLaws.{yes<, no<}
 use Rattle.sheet.specs.Sheet.{circuits}
 use Rattle.session.specs.Calls.{left_number}

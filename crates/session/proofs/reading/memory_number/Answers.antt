@@ -1,5 +1,5 @@
 -- `session::reading::memory_number` meets its contract: the state's number first, then 14 by the memory's length.
-use Rattle.std.proofs.Common.{sym, ◌∙◌, arith, rules}
+use Rattle.std.proofs.Common.{sym, ◌∙◌, arith}
 use Rattle.words.proofs.TestLaws.{yes=, no=}
 use Rattle.session.specs.Calls.{memory_number}
 use Rattle.words.proofs.NumberLaws.{then_first, then_next, unless_no, unless_yes}

@@ -1,5 +1,5 @@
 -- `session::reading::period_number` meets its contract: the answer of the state's number and the clock's register.
-use Rattle.std.proofs.Common.{◌≡◌, ◌∙◌, ap₂, rules}
+use Rattle.std.proofs.Common.{◌≡◌, ◌∙◌, ap₂}
 use Rattle.session.specs.Calls.{period_number_in}
 use Rattle.session.specs.Answers.{found_of}
 use Rattle.session.proofs.reading.period_number.Goals as goal

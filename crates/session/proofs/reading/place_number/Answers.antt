@@ -1,5 +1,5 @@
 -- `session::reading::place_number` meets its contract: the memory's number first, then 15 by the node and by the address.
-use Rattle.std.proofs.Common.{sym, ◌∙◌, arith, rules}
+use Rattle.std.proofs.Common.{sym, ◌∙◌, arith}
 use Rattle.words.proofs.TestLaws.{and_no, and_no_right, and_both, yes<, no<}
 use Rattle.session.specs.Calls.{place_number}
 use Rattle.words.proofs.NumberLaws.{then_first, then_next, unless_no, unless_yes}

@@ -1,5 +1,5 @@
 -- `session::reading::room_of` meets its contract: the memory words that the state's sheet gives a node.
-use Rattle.std.proofs.Common.{ap, ◌∙◌, rules}
+use Rattle.std.proofs.Common.{ap, ◌∙◌}
 use Rattle.sheet.specs.Sheet.{memory_words}
 use Rattle.session.proofs.reading.room_of.Goals as goal
 

@@ -1,5 +1,5 @@
 -- `session::reading::state_number` meets its contract: 12 by the length, then 13 by the test of soundness.
-use Rattle.std.proofs.Common.{sym, ◌∙◌, arith, rules}
+use Rattle.std.proofs.Common.{sym, ◌∙◌, arith}
 use Rattle.words.proofs.TestLaws.{yes≤, no≤}
 use Rattle.session.specs.Calls.{state_number}
 use Rattle.words.proofs.NumberLaws.{zero_unless, then_first, then_next, unless_no, unless_yes}

@@ -1,6 +1,5 @@
 -- `session::reading::what_landed` meets its contract: the number first, then the node's landing.
 use Rattle.session.proofs.ReadingLaws.{landed_refused, landed_value}
-use Rattle.std.proofs.Common.{rules}
 use Rattle.session.proofs.reading.what_landed.Goals as goal
 
 pub returns-then-number-ne0 : goal.returns-then-number-ne0

@@ -1,5 +1,5 @@
 -- `session::reading::words_left` meets its contract: the answer of its number and the circuit's register.
-use Rattle.std.proofs.Common.{◌∙◌, ap₂, rules}
+use Rattle.std.proofs.Common.{◌∙◌, ap₂}
 use Rattle.session.specs.Calls.{words_left}
 use Rattle.session.specs.Answers.{found_of}
 use Rattle.session.proofs.reading.words_left.Goals as goal

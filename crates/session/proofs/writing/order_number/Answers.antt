@@ -1,5 +1,5 @@
 -- `session::writing::order_number` meets its contract: the state's number first, then 15, 18 and 19 one by one.
-use Rattle.std.proofs.Common.{sym, ap, ◌∙◌, arith, rules}
+use Rattle.std.proofs.Common.{sym, ap, ◌∙◌, arith}
 use Rattle.words.proofs.TestLaws.{yes<, no<}
 use Rattle.sheet.specs.Sheet.{schedules}
 use Rattle.session.specs.Calls.{order_number, is_pending}

@@ -1,6 +1,5 @@
 -- `session::writing::put_order` meets its contract: the order's three registers are set in turn.
 use Rattle.session.proofs.WritingLaws.{ordered_is}
-use Rattle.std.proofs.Common.{rules}
 use Rattle.session.proofs.writing.put_order.Goals as goal
 
 pub returns : goal.returns

@@ -1,6 +1,5 @@
 -- `session::writing::put_start` meets its contract: the transfer's four registers are set in turn.
 use Rattle.session.proofs.WritingLaws.{started_is}
-use Rattle.std.proofs.Common.{rules}
 use Rattle.session.proofs.writing.put_start.Goals as goal
 
 pub returns : goal.returns

@@ -1,6 +1,5 @@
 -- `session::writing::start` meets its contract: a number of 12 and 13 is the answer, and nothing is written; else the state has passed.
 use Rattle.session.proofs.WritingLaws.{start_early, answer_refused, state_kept}
-use Rattle.std.proofs.Common.{rules}
 use Rattle.session.proofs.writing.start.Goals as goal
 
 pub returns-then-number-ne0 : goal.returns-then-number-ne0

@@ -1,5 +1,5 @@
 -- `session::writing::start_fits` meets its contract: the count, its kind and the two regions are tested one by one.
-use Rattle.std.proofs.Common.{sym, ◌∙◌, arith, rules}
+use Rattle.std.proofs.Common.{sym, ◌∙◌, arith}
 use Rattle.words.specs.Tests.{◌=?◌}
 use Rattle.words.proofs.TestLaws.{and_no, and_on, yes≤, no≤}
 use Rattle.session.specs.Calls.{start_fits}

@@ -1,5 +1,5 @@
 -- `session::writing::start_named` meets its contract: the circuit, the addresses and the kind are tested one by one.
-use Rattle.std.proofs.Common.{ap, ◌∙◌, arith, rules}
+use Rattle.std.proofs.Common.{ap, ◌∙◌, arith}
 use Rattle.words.proofs.TestLaws.{and_no, and_on, yes<, no<}
 use Rattle.sheet.specs.Sheet.{circuits}
 use Rattle.session.specs.Calls.{start_named}

@@ -1,5 +1,5 @@
 -- `session::writing::start_number` meets its contract: the state has passed 12 and 13, and 15, 16 and 17 are tested one by one.
-use Rattle.std.proofs.Common.{not, sym, ap, ◌∙◌, arith, rules}
+use Rattle.std.proofs.Common.{not, sym, ap, ◌∙◌, arith}
 use Rattle.session.specs.Calls.{start_number}
 use Rattle.words.proofs.NumberLaws.{then_next, unless_no, unless_yes, then_stop, then_on}
 use Rattle.session.proofs.writing.start_number.Goals as goal

@@ -1,6 +1,5 @@
 -- `session::writing::start_sound` meets its contract: the number decides between the transfer's registers set and nothing.
 use Rattle.session.proofs.WritingLaws.{answer_done, answer_refused, state_kept, state_written}
-use Rattle.std.proofs.Common.{rules}
 use Rattle.session.proofs.writing.start_sound.Goals as goal
 
 pub returns-then-number-ne0 : goal.returns-then-number-ne0

@@ -1,5 +1,5 @@
 -- `session::writing::store` meets its contract: the number decides between the word set at the node's address and nothing.
-use Rattle.std.proofs.Common.{arith, rules}
+use Rattle.std.proofs.Common.{arith}
 use Rattle.session.proofs.WritingLaws.{answer_done, answer_refused, memory_kept, memory_written, stored_is}
 use Rattle.words.proofs.WordLaws.{product_small}
 use Rattle.session.proofs.writing.store.Goals as goal
