@@ -107,15 +107,14 @@ fn gives(book: &[File], number: u32) -> usize {
 fn main() -> ExitCode {
     let mut definitions = Vec::new();
     let mut sources = Vec::new();
+    let mut proofs = Vec::new();
     let mut crates: Vec<PathBuf> = fs::read_dir("crates").into_iter().flatten().flatten().map(|entry| entry.path()).collect();
     crates.sort();
     for folder in crates {
         read(&folder.join("specs"), "antt", &mut definitions);
         read(&folder.join("src"), "rt", &mut sources);
+        read(&folder.join("proofs"), "antt", &mut proofs);
     }
-    let mut proofs = Vec::new();
-    read(Path::new("crates"), "antt", &mut proofs);
-    proofs.retain(|file| file.path.contains("/proofs/"));
     let (inner, book): (Vec<File>, Vec<File>) =
         definitions.into_iter().partition(|file| file.path.contains("/specs/Inner"));
     let mut passed = 0;
