@@ -1,7 +1,7 @@
 //! The key's example through the exported calls: sheet A is loaded, node 0 holds 11, 22 and 33, a transfer of these three words is
 //! started, and what lands in twenty cycles is listed.
 //!
-//! rt staticlib exports
+//! tools/build exports
 //! rustc --edition 2021 -O examples/landed.rs -L target/staticlib -l static=exports -o target/examples/landed
 
 use std::fmt;

@@ -117,40 +117,38 @@ need() {
     command -v "$1" >/dev/null || stop "$1 is not in PATH: $2"
 }
 
-# Builds target/PRODUCT by rt and further arguments where it is missing or older than a file of the crates.
+# Builds the crate NAME as target/PRODUCT by tools/build where it is missing or older than a file of the crates.
 build() {
-    local product=$1 newer began log=$root/target/examples/build.log
-    shift
+    local name=$1 product=$2 newer began log=$root/target/examples/build.log
     if [ -e "$root/target/$product" ]; then
-        newer=$(find "$root/crates" "$root/crates.txt" -name must-fail -prune -o -newer "$root/target/$product" -print -quit)
+        # rt writes into a crate's folder out, which no build reads.
+        newer=$(find "$root/crates.txt" -newer "$root/target/$product" -print &&
+            find "$root/crates" -mindepth 2 \( -name must-fail -o -name out \) -prune -o -newer "$root/target/$product" -print -quit)
+        newer=${newer%%$'\n'*}
         [ -n "$newer" ] || return 0
         need rt "target/$product is older than ${newer#"$root"/} and has to be built anew by the Rattle kit."
         say "target/$product is older than ${newer#"$root"/}: proving and building what has changed, seconds to minutes"
     else
         need rt "target/$product has to be built by the Rattle kit (README.md)."
-        say "target/$product is not built yet: proving and building it, some 3 to 10 minutes the first time"
+        say "target/$product is not built yet: proving and building it with all that it stands on, which takes minutes to an hour the first time"
     fi
     mkdir -p -- "${log%/*}" || stop "target/ cannot be written to."
     printf -v began '%(%s)T' -1
-    (cd -- "$root" && exec rt "$@") 2>&1 | while IFS= read -r line; do
+    "$root/tools/build" "$name" 2>&1 | while IFS= read -r line; do
         printf '%s\n' "$line"
-        [[ $line != 'rt: '*' s)' ]] || say "$line"
+        [[ $line != 'rt: chose --jobs '*' for '* ]] || say "proving ${line##* }"
     done >"$log"
     if [ "${PIPESTATUS[0]}" -ne 0 ] || [ ! -e "$root/target/$product" ]; then
-        grep -v ' proved (\|^library ' "$log" | tail -n 40 >&2
-        stop "target/$product could not be built by 'rt $*': see above, or the whole of target/examples/build.log."
+        grep -v '^rt: chose --jobs' "$log" >&2
+        stop "target/$product could not be built by 'tools/build $name': see above, or the whole of target/build.log."
     fi
-    # As old as the build's beginning: rt leaves a program as it is where nothing that it depends on has changed.
+    # As old as the build's beginning: what changed meanwhile is newer.
     touch -c -d "@$began" -- "$root/target/$product"
 }
 
-build_program() {
-    # rt does not look whether a program that it has proved is still there.
-    [ -e "$root/target/bin/$1" ] || rm -f -- "$root/target/stamp/$1"
-    build "bin/$1" check "$1"
-}
+build_program() { build "$1" "bin/$1"; }
 
-build_exports() { build staticlib/libexports.a staticlib exports; }
+build_exports() { build exports staticlib/libexports.a; }
 
 # run_c NAME: builds examples/NAME.c with the exported calls, hands it the words that were read, prints its answer and exits with its status.
 run_c() {

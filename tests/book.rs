@@ -24,7 +24,7 @@ const STATEMENTS: [&str; 11] = [
 
 /// What the book may name of the inner definitions: the cycle in words, of which OneMachine says that it is the article's; and a node of
 /// a grid, of which DistanceFormula speaks.
-const INNER_NAMES: [&str; 5] = ["faultyIn", "nextState", "nextMemory", "cycleFault", "InGrid"];
+const INNER_NAMES: [&str; 5] = ["faulty_in", "next_state", "next_memory", "cycle_fault", "InGrid"];
 
 struct File {
     path: String,
@@ -47,6 +47,24 @@ fn read(folder: &Path, ending: &str, files: &mut Vec<File>) {
 
 fn is_comment(line: &str) -> bool {
     line.trim_start().starts_with("--") || line.trim_start().starts_with("//")
+}
+
+/// How tightly an operator binds is no use of it.
+fn is_fixity(line: &str) -> bool {
+    ["infix ", "infixl ", "infixr "].iter().any(|word| line.starts_with(word))
+}
+
+/// The lines of a source's clauses: from a line that begins with `requires` or `ensures` to the one where its braces are closed again.
+fn clauses(text: &str) -> impl Iterator<Item = &str> {
+    let mut open = 0;
+    text.lines().filter(move |line| {
+        let begins = ["requires", "ensures"].iter().any(|word| line.trim_start().starts_with(word));
+        if is_comment(line) || open == 0 && !begins {
+            return false;
+        }
+        open += line.matches('{').count() as i32 - line.matches('}').count() as i32;
+        true
+    })
 }
 
 fn is_use(line: &str) -> bool {
@@ -72,7 +90,7 @@ fn declared(line: &str) -> Option<&str> {
 
 /// An operator's name without its places, as it stands in a text.
 fn bare(name: &str) -> &str {
-    name.trim_matches('_')
+    name.trim_matches('◌')
 }
 
 /// Lines of a file that count: neither blank nor a comment nor an import.
@@ -89,15 +107,14 @@ fn gives(book: &[File], number: u32) -> usize {
 fn main() -> ExitCode {
     let mut definitions = Vec::new();
     let mut sources = Vec::new();
+    let mut proofs = Vec::new();
     let mut crates: Vec<PathBuf> = fs::read_dir("crates").into_iter().flatten().flatten().map(|entry| entry.path()).collect();
     crates.sort();
     for folder in crates {
         read(&folder.join("specs"), "antt", &mut definitions);
         read(&folder.join("src"), "rt", &mut sources);
+        read(&folder.join("proofs"), "antt", &mut proofs);
     }
-    let mut proofs = Vec::new();
-    read(Path::new("crates"), "antt", &mut proofs);
-    proofs.retain(|file| file.path.contains("/proofs/"));
     let (inner, book): (Vec<File>, Vec<File>) =
         definitions.into_iter().partition(|file| file.path.contains("/specs/Inner"));
     let mut passed = 0;
@@ -115,15 +132,12 @@ fn main() -> ExitCode {
         let found = proofs.iter().flat_map(|file| file.text.lines()).filter(|line| is_law(line)).count();
         judge(found == 1, format!("{statement} is filled by {found} laws"));
     }
-    // where a name stands: in the book, and in the contracts of the sources
-    let uses: Vec<Vec<BTreeSet<&str>>> = book
-        .iter()
-        .chain(&sources)
-        .map(|file| file.text.lines().filter(|line| !is_comment(line) && !is_use(line)).map(|line| names(line).collect()).collect())
-        .collect();
+    // where a name stands: in the book, and in the contracts of the sources; functions of the sources may have the names of definitions
+    let in_book = book.iter().flat_map(|file| file.text.lines().filter(|line| !is_comment(line) && !is_use(line) && !is_fixity(line)));
+    let uses: Vec<BTreeSet<&str>> = in_book.chain(sources.iter().flat_map(|file| clauses(&file.text))).map(|line| names(line).collect()).collect();
     for file in &book {
         for name in file.text.lines().filter_map(declared) {
-            let found: usize = uses.iter().flatten().filter(|line| line.contains(bare(name)) || line.contains(name)).count();
+            let found: usize = uses.iter().filter(|line| line.contains(bare(name)) || line.contains(name)).count();
             // its signature and the lines at the margin that begin with it are its own definition
             let own = file
                 .text

@@ -9,7 +9,7 @@ mod contracts {
 use contracts::rules::{judge, File};
 use std::process::ExitCode;
 
-const SAYS: &str = "ensures { λ r. ⌜ r ≡ f x ⌝ }";
+const SAYS: &str = "ensures { result ≡ f x }";
 const ROW: &str = "| `a::f(u32) -> u32` | twice the word | `f` |\n";
 
 /// What the report has to contain; nothing where the text is right.
@@ -39,7 +39,7 @@ fn contract_cases() -> Vec<Case> {
     let bare = format!("{head} {{ x }}\n");
     let f = format!("{head}\n    {SAYS}\n{{\n    x\n}}\n");
     let lines = "pub\nfn f(\n    x: u32,\n)\n-> u32\n";
-    let named = "ghost { ℕ } ensures answer { λ α r. ⌜ r ≡ x ⌝ }";
+    let named = "ghost { ℕ } ensures answer { result ≡ x }";
     let strings = |text: &str| format!("const S: &[u8] = br\"\\\"; {text} const T: &[u8] = b\"\\\"\";");
     vec![
         one("as formatted", f.clone(), None),
@@ -56,7 +56,7 @@ fn contract_cases() -> Vec<Case> {
         one("clause in the body", format!("{head} {{\n    {SAYS}\n    x\n}}"), no_ensures),
         one("clause of the next function", format!("{bare}fn g(x: u32) -> u32 {SAYS} {{ x }}"), no_ensures),
         one("comment behind the clause", format!("{head} {SAYS} // {{\n{{ x }}"), None),
-        one("brace in a bracket", format!("{head} ensures {{ λ r. ⌜ r ≡ g {{A = ℕ}} x }} ⌝ }} {{ x }}"), None),
+        one("braces in the clause", format!("{head} ensures {{ result ≡ g {{A = ℕ}} (codes \"}}\") x }} {{ x }}"), None),
         one("named clauses", format!("{head} {named} {{ x }}"), None),
         one("ghost alone", format!("{head} ghost {{ ℕ }} {{ x }}"), no_ensures),
         one("function in a comment", format!("// pub fn h() {{}}\n/* pub fn i() {{}} */\n{f}/// pub fn j() {{}}"), None),
@@ -76,11 +76,19 @@ fn contract_cases() -> Vec<Case> {
         one("method, without", format!("{f}impl T {{ pub(crate) fn g(self) -> u32 {{ 1 }} }}"), no_ensures),
         one("in a module of the file", format!("{f}mod m {{ pub fn g(x: u32) -> u32 {{ x }} }}"), no_ensures),
         of_files("in a folder", &[("lib.rt", &f), ("x/y.rt", "pub fn g() {}")], ROW, no_ensures),
-        one("requires", format!("{head} requires {{ ⌜ x < 4 ⌝ }} {SAYS} {{ x }}"), has_requires),
-        one("requires last", format!("{head} {SAYS}\n    requires few {{ ⌜ x < 4 ⌝ }}\n{{ x }}"), has_requires),
+        one("requires", format!("{head} requires {{ x < 4 }} {SAYS} {{ x }}"), has_requires),
+        one("requires last", format!("{head} {SAYS}\n    requires few {{ x < 4 }}\n{{ x }}"), has_requires),
         one("requires in a comment", format!("{head} // requires {{ }}\n{SAYS} {{ x }}"), None),
-        one("answer not named", format!("{head} ensures {{ λ r. ⌜ x ≡ x ⌝ }} {{ x }}"), no_answer),
-        one("answer passed over", format!("{head} ensures {{ λ _. ⌜ x ≡ x ⌝ }} {{ x }}"), no_answer),
+        one("answer not named", format!("{head} ensures {{ x ≡ x }} {{ x }}"), no_answer),
+        one("answer passed over", format!("{head} ensures {{ (λ result. x) x ≡ x }} {{ x }}"), no_answer),
+        one("answer named anew", format!("{head} ensures {{ (λ y result. result) x x ≡ x }} {{ x }}"), no_answer),
+        one("answer as a variable", format!("{head} ensures {{ (result : ℕ) → result ≡ result }} {{ x }}"), no_answer),
+        one("answer as another's field", format!("{head} ensures {{ (g x).result ≡ x }} {{ x }}"), no_answer),
+        one("answer as a longer name", format!("{head} ensures {{ result_of x ≡ x }} {{ x }}"), no_answer),
+        one("answer behind a λ", format!("{head} ensures {{ all (λ k. k) result }} {{ x }}"), None),
+        one("starred clause", format!("{head} ensures* kept {{ sem x }} {SAYS} {{ x }}"), None),
+        one("starred clause alone", format!("{head} ensures* {{ sem x }} {{ x }}"), no_answer),
+        one("starred requires", format!("{head} requires* {{ sem x }} {SAYS} {{ x }}"), has_requires),
     ]
 }
 
@@ -92,9 +100,9 @@ fn listing_cases() -> Vec<Case> {
     let own = format!("{ROW}- `a::g(u32) -> u32` for our own crates.\n");
     let method = |more: &str| format!("impl T {{ pub fn f(self, x: u32) -> u32 {more} {SAYS} {{ x }} }}");
     let method_row = "| `a::T::f(self, u32) -> u32` | it | `f` |\n";
-    let exported = f.replace("pub fn f", "#[no_mangle] // for C\npub extern \"C\" fn g");
+    let exported = f.replace("pub fn f", "#[unsafe(no_mangle)] // for C\npub extern \"C\" fn g");
     let f_exported = format!("{f}{exported}");
-    let writes = |says: &str| format!("pub fn w(s: &mut [u32], x: u32) ensures {{ λ _. ⌜ {says} ⌝ }} {{}}\n");
+    let writes = |says: &str| format!("pub fn w(s: &mut [u32], x: u32) ensures {{ {says} }} {{}}\n");
     let writes_row = "| `a::w(&mut [u32], u32)` | writes | `w` |\n";
     let case = |name, text: &str, document: &str, wanted| of_files(name, &[("lib.rt", text)], document, wanted);
     vec![
@@ -111,12 +119,15 @@ fn listing_cases() -> Vec<Case> {
         case("another answer", &f.replace("-> u32", "-> &[u32]"), ROW, Some("is (u32)->&[u32]")),
         case("method", &method(""), method_row, None),
         case("method, row deleted", &format!("{f}{}", method("")), ROW, Some("T::f can be reached")),
-        case("method with requires", &method("requires { ⌜ x < 4 ⌝ }"), method_row, Some("has a requires")),
+        case("method with requires", &method("requires { x < 4 }"), method_row, Some("has a requires")),
         case("exported", &exported, &g_row, None),
         case("exported, not listed", &f_exported, ROW, Some("no table lists it")),
         case("exported, for our own crates", &f_exported, &own, Some("no table lists it")),
-        case("slice written", &writes("now (s .exit) ≡ w x"), writes_row, None),
-        case("slice not stated", &writes("now (s .entry) ≡ w x"), writes_row, Some("what s holds afterwards")),
+        case("slice written", &writes("s.new ≡ w x"), writes_row, None),
+        case("slice not stated", &writes("s.old ≡ w x"), writes_row, Some("what s holds afterwards")),
+        case("slice of another value", &writes("x.s.new ≡ w x"), writes_row, Some("what s holds afterwards")),
+        case("slice of a longer name", &writes("ss.new ≡ w x"), writes_row, Some("what s holds afterwards")),
+        case("field of a longer name", &writes("s.newer ≡ w x"), writes_row, Some("what s holds afterwards")),
     ]
 }
 
@@ -126,7 +137,7 @@ fn module_cases() -> Vec<Case> {
     let f = format!("pub fn f(x: u32) -> u32 {SAYS} {{ x }}\n");
     let g = f.replace("fn f", "fn g");
     let bare = "pub fn f(x: u32) -> u32 { x }";
-    let needy = f.replace("ensures", "requires { ⌜ x < 4 ⌝ } ensures");
+    let needy = f.replace("ensures", "requires { x < 4 } ensures");
     let own = format!("{ROW}- `a::g(u32) -> u32` for our own crates.\n");
     let with = |head: &str| format!("{head}\n{f}");
     let handed = with("mod x;\npub use x::g;");

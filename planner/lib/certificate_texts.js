@@ -2,10 +2,10 @@
 
 // Each statement, the file that has it, and what it says.
 export const STATEMENTS = [
-  ['sheetRules', 'crates/sheet/specs/Rules.antt', 'the rules 1 to 11, in checking order'],
+  ['sheet_rules', 'crates/sheet/specs/Rules.antt', 'the rules 1 to 11, in checking order'],
   ['rule26', 'crates/sheet/specs/Rules.antt', 'number 26, tested directly after them: each circuit has an entry in some schedule'],
   [
-    'checkNumber',
+    'check_number',
     'crates/sheet/specs/Rules.antt',
     "the first of 1 to 11 and 26 that the sheet does not keep, 0 where it keeps them all; the sheet is what a file's words stand for: " +
       'themselves, and no words for an idle network',
@@ -14,14 +14,14 @@ export const STATEMENTS = [
   ['demand3', 'crates/isolation/proofs/DemandProved.antt', 'the theorem, proved: demand 3 holds'],
   ['Demand3', 'crates/isolation/specs/Demand.antt', 'what it states, one claim about lists of calls on a sheet that passes; of its parts:'],
   ['undisturbed', 'crates/isolation/specs/Demand.antt', 'two runs that are alike for a circuit are the same in all that it delivers'],
-  ['as-reckoned', 'crates/isolation/specs/Demand.antt', 'what the calls answer for a circuit is reckoned from the sheet and its own calls'],
+  ['as_reckoned', 'crates/isolation/specs/Demand.antt', 'what the calls answer for a circuit is reckoned from the sheet and its own calls'],
   [
     'lands',
     'crates/isolation/specs/Demand.antt',
     'a word that leaves in cycle t has landed after cycle t + 3 × (hops + 1), and a cycle more for each vertical hop where vertical links ' +
       'are long',
   ],
-  ['cycles-carried-out', 'crates/isolation/specs/Demand.antt', 'no cycle is refused: words never meet on a wire'],
+  ['cycles_carried_out', 'crates/isolation/specs/Demand.antt', 'no cycle is refused: words never meet on a wire'],
 ];
 
 export const LONG_LINKS_NOTE =

@@ -9,10 +9,32 @@ pub enum Reach {
     Callers,
 }
 
-/// A clause `ensures`: the name that it gives the answer, and the text of its brackets.
+/// A clause `ensures`: the tokens between its braces.
 pub struct Promise {
-    pub answer: String,
-    pub text: String,
+    pub tokens: Vec<String>,
+}
+
+impl Promise {
+    /// It speaks of what the function hands back, by the word `result`. A field of another value may have that name too; where the clause
+    /// binds the word anew, nothing is known.
+    pub fn names_answer(&self) -> bool {
+        let before = |at: usize| at.checked_sub(1).map_or("", |at| self.tokens[at].as_str());
+        let places: Vec<usize> = (0..self.tokens.len()).filter(|at| self.tokens[*at] == "result" && before(*at) != ".").collect();
+        !places.is_empty() && !places.iter().any(|at| self.binds(*at))
+    }
+
+    /// The name at this place is bound there: behind `let`, before a colon, or between a λ and its dot.
+    fn binds(&self, at: usize) -> bool {
+        let head = self.tokens[..at].iter().rev().find(|token| matches!(token.as_str(), "λ" | "." | "(" | ")"));
+        let follows = |word: &str| at > 0 && self.tokens[at - 1] == word;
+        follows("let") || head.is_some_and(|head| head == "λ") || self.tokens.get(at + 1).is_some_and(|next| next == ":")
+    }
+
+    /// It speaks of what a `&mut` parameter points to when the function returns, by `name.new`.
+    pub fn names_new(&self, name: &str) -> bool {
+        let is_field = |at: usize| at > 0 && self.tokens[at - 1] == ".";
+        self.tokens.windows(3).enumerate().any(|(at, three)| three == [name, ".", "new"] && !is_field(at))
+    }
 }
 
 pub struct Function {
@@ -21,7 +43,7 @@ pub struct Function {
     pub is_method: bool,
     pub line: usize,
     pub reach: Reach,
-    /// It bears `#[no_mangle]`.
+    /// It bears `#[unsafe(no_mangle)]`.
     pub exported: bool,
     /// Names and types; `self` has the type `self`.
     pub parameters: Vec<(String, String)>,
@@ -205,15 +227,13 @@ impl Walk {
         self.source.functions.push(function);
     }
 
-    /// The braces of a clause, behind its name if it has one.
+    /// The braces of a clause, behind a star and its name if it has them.
     fn clause(&mut self) -> Promise {
-        if self.peek() != "{" {
+        while self.at < self.tokens.len() && self.peek() != "{" {
             self.at += 1;
         }
-        let text = self.bracketed("{", "}");
-        let before = text.split(['.', '⌜']).next().unwrap_or("");
-        let answer = before.split_whitespace().last().unwrap_or("").to_string();
-        Promise { answer, text }
+        let tokens = self.bracketed("{", "}").split(' ').map(str::to_string).collect();
+        Promise { tokens }
     }
 }
 

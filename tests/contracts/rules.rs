@@ -90,20 +90,13 @@ fn judge_row(row: &Listed, listed: &[Listed], found: &[Found], report: &mut Repo
             continue;
         }
         report.hold(!function.requires, format!("{place}: {path} is open to callers and has a requires"));
-        let names_answer = function.ensures.iter().any(|promise| has_word(&promise.text, &promise.answer));
+        let names_answer = function.ensures.iter().any(|promise| promise.names_answer());
         report.hold(function.answer.is_empty() || names_answer, format!("{place}: no ensures of {path} names its answer"));
         for (name, _) in function.parameters.iter().filter(|(_, kind)| kind.starts_with("&mut")) {
-            let exit = format!("({name} .exit)");
-            let stated = function.ensures.iter().any(|promise| promise.text.contains(&exit));
+            let stated = function.ensures.iter().any(|promise| promise.names_new(name));
             report.hold(stated, format!("{place}: no ensures of {path} says what {name} holds afterwards"));
         }
     }
-}
-
-/// The word stands in the brackets of a promise.
-fn has_word(text: &str, word: &str) -> bool {
-    let brackets = text.split('⌜').skip(1).filter_map(|part| part.split('⌝').next());
-    brackets.flat_map(|bracket| bracket.split([' ', '(', ')', '\n', '\t'])).any(|other| other == word)
 }
 
 fn functions_of(files: &[File], open_crates: &[&str], report: &mut Report) -> Vec<Found> {

@@ -1,4 +1,4 @@
-//! A source text as tokens. Comments are left out, a string is the token `""`, and a contract's bracket is one token, ⌜ to ⌝.
+//! A source text as tokens. Comments are left out, and a string is the token `""`.
 
 pub struct Token {
     pub text: String,
@@ -89,10 +89,6 @@ impl Reader {
             '\'' => {
                 self.skip_quote();
                 return None;
-            }
-            '⌜' => {
-                self.skip_while(|reader| !reader.sees("⌝"));
-                self.at += 1;
             }
             'r' if self.sees("r\"") => return self.raw_string(2),
             'b' if self.sees("br\"") => return self.raw_string(3),

@@ -79,7 +79,7 @@ test('no words are certified as the idle network that they stand for', () => {
   for (const part of ['The sheet passes', 'no words, which stand for an idle network', 'The sheet has no circuits', '2 2 1 0 1\n9 0']) {
     assert.ok(text.includes(part), part);
   }
-  assert.ok(text.includes(hashed('', 'hex')) && text.includes('<code>checkNumber</code>'));
+  assert.ok(text.includes(hashed('', 'hex')) && text.includes('<code>check_number</code>'));
 });
 
 test('an exam says so, and how to check it again', () => {
@@ -133,9 +133,9 @@ test('every statement is in the file that is named, and the tests are there', ()
   const named = STATEMENTS.map(([name, file]) => `${name} ${file}`);
   assert.ok(named.includes('demand3 crates/isolation/proofs/DemandProved.antt') && named.includes('argo_verdict crates/exports/src/lib.rt'));
   // What judged the sheet is the number that the contract of the call cites, and number 26 is a rule of its own.
-  for (const name of ['checkNumber', 'rule26']) assert.ok(named.includes(`${name} crates/sheet/specs/Rules.antt`), name);
+  for (const name of ['check_number', 'rule26']) assert.ok(named.includes(`${name} crates/sheet/specs/Rules.antt`), name);
   const contract = /fn argo_verdict\b[^{]*\{([^}]*)\}/.exec(readFileSync(new URL('crates/exports/src/lib.rt', root), 'utf8'))[1];
-  assert.match(contract, /\bcheckNumber\b/);
+  assert.match(contract, /\bcheck_number\b/);
   const files = NOT_PROVED.flatMap((text) => text.match(/tests\/planner\/[\w.]+\.js/g) ?? []);
   assert.ok(files.length > 0);
   for (const file of files) assert.ok(existsSync(new URL(file, root)), file);
