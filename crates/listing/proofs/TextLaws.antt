@@ -1,21 +1,17 @@
--- Texts put into a buffer one behind the other, how long a field is, and its digits from those that `io` counts.
+-- Texts put into a buffer one behind the other, how long a field is, and its bytes from its digits.
 -- Assumes nothing.
 use Prim.Native.Nat.{ℕ, zero, suc, ◌+◌, ◌-◌, ◌^◌, ◌≤◌, ◌<◌}
 use mathlib.Core.List.{List, [], ◌∷◌, ◌++◌}
 use mathlib.Core.Path.{◌≡◌, refl, sym, ◌∙◌, ap}
 use native.Mathlib.Omega.{arith}
-use native.Mathlib.Nat.{pow-le-pow_right}
 use native.Mathlib.Numerals.{add-one}
-use native.Mathlib.Decide.{dec_le}
 use lib.ListN.{length, take, set, length-append, length-set}
 use lib.Seq.{take-suc, length-take-le}
-use Rattle.io.specs.Digits.{last_digits, IsDigitCount}
 use Rattle.words.specs.Tests.{◌<?◌}
 use Rattle.words.specs.Words.{word}
 use Rattle.words.specs.Inner.Puts.{put_all}
-use Rattle.words.proofs.TestLaws.{yes<, no<}
-use Rattle.words.proofs.WordLaws.{least_from_most, put_all_one, put_all_behind, least_from_is}
-use Rattle.listing.specs.Text.{digit_count, field, landing_line, space, line_end}
+use Rattle.words.proofs.WordLaws.{least_from_most, put_all_one, put_all_behind}
+use Rattle.listing.specs.Text.{digit_count, last_digits, field, landing_line, space, line_end}
 
 -- the loop that copies a text
 pub record Copying (text : List ℕ) (count : ℕ) (start buffer : List ℕ) (at k : ℕ) : Type 0 where
@@ -54,33 +50,9 @@ copying_done text count start buffer at k c l =
     let e : k ≡ count = omega (arith, c.within) in
     c.bytes ∙ ap (λ j. put_all start at (take j text)) e
 
--- a power of ten with a larger exponent is no less
-tens : (i j : ℕ) → i ≤ j → 10 ^ i ≤ 10 ^ j
-tens i j l = pow-le-pow_right {n = 10} (omega arith) {i = i} {j = j} l
-
--- a word takes at most ten digits
-pub fewest_few : (n r : ℕ) → n < 4294967296 → IsDigitCount 10 1 n r → r ≤ 10
-fewest_few n r l f = go (dec_le r 10)
-  where
-    go : Dec (r ≤ 10) → r ≤ 10
-    go (yes p) = p
-    go (no p) =
-        let more : 10 ^ 10 ≤ 10 ^ (r - 1) = tens 10 (r - 1) (omega arith) in
-        let least : 10 ^ (r - 1) ≤ n = f.2 (omega arith) in
-        absurd (omega arith)
-
--- the digits that `io` counts are the fewest
-pub digit_count_is : (n r : ℕ) → n < 4294967296 → IsDigitCount 10 1 n r → r ≡ digit_count n
-unfolding digit_count
-digit_count_is n r l f =
-    sym (least_from_is (λ k. n <? 10 ^ k) 10 1 r f.0 (omega (arith, fewest_few n r l f)) (yes< f.1)
-    (λ j a b.
-    let step : 10 ^ j ≤ 10 ^ (r - 1) = tens j (r - 1) (omega arith) in
-    let least : 10 ^ (r - 1) ≤ n = f.2 (omega arith) in
-    no< (omega arith)))
-
 -- a field takes at most twelve bytes
-length_digits : (k n : ℕ) → length (last_digits 10 k n) ≡ k
+length_digits : (k n : ℕ) → length (last_digits k n) ≡ k
+unfolding last_digits
 length_digits zero n = refl
 length_digits (suc k) n = simp (length-append, length_digits k) (omega arith)
 
@@ -92,14 +64,14 @@ pub field_short : (n end : ℕ) → length (field n end) ≤ 12
 unfolding digit_count
 field_short n end = omega (arith, field_length n end, least_from_most (λ k. n <? 10 ^ k) 10 1)
 
--- a field, from the digits that `io` made of the word
-module _ (n end r : ℕ) (text : List ℕ) (l : n < 4294967296) (few : IsDigitCount 10 1 n r) (e : take r text ≡ last_digits 10 r n) where
+-- a field, from the digits of the word
+module _ (n end r : ℕ) (text : List ℕ) (fewest : r ≡ digit_count n) (e : take r text ≡ last_digits r n) where
   pub field_is : take r text ++ (end ∷ []) ≡ field n end
   unfolding field
-  field_is = ap (λ (x : List ℕ). x ++ (end ∷ [])) (e ∙ ap (λ k. last_digits 10 k n) (digit_count_is n r l few))
+  field_is = ap (λ (x : List ℕ). x ++ (end ∷ [])) (e ∙ ap (λ k. last_digits k n) fewest)
 
   pub field_place : (at : ℕ) → at + r + 1 ≡ at + length (field n end)
-  field_place at = omega (arith, field_length n end, digit_count_is n r l few)
+  field_place at = omega (arith, field_length n end, fewest)
 
   pub field_bytes : (start copied : List ℕ) (at : ℕ)
       → copied ≡ put_all start at (take r text)

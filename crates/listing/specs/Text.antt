@@ -1,7 +1,6 @@
 -- The texts that the programs print, as bytes in ASCII (document 01, "The key's examples"): a word in decimal, a landing's line, and the
 -- messages.
-use Rattle.std.specs.Prelude.{ℕ, ◌^◌, List, [], ◌∷◌, ◌++◌}
-use Rattle.io.specs.Digits.{last_digits}
+use Rattle.std.specs.Prelude.{ℕ, zero, suc, ◌+◌, ◌/◌, ◌%◌, ◌^◌, List, [], ◌∷◌, ◌++◌}
 use Rattle.words.specs.Tests.{◌<?◌}
 use Rattle.words.specs.Words.{least_from}
 
@@ -15,9 +14,14 @@ line_end = 10
 unfoldable pub digit_count : ℕ → ℕ
 digit_count n = least_from 10 1 (λ k. n <? 10 ^ k)
 
+-- the last so many digits of a word in decimal, the most significant first
+unfoldable pub last_digits : ℕ → ℕ → List ℕ
+last_digits zero n = []
+last_digits (suc k) n = last_digits k (n / 10) ++ ((48 + n % 10) ∷ [])
+
 -- a word in decimal, with what ends it
 unfoldable pub field : ℕ → ℕ → List ℕ
-field n end = last_digits 10 (digit_count n) n ++ (end ∷ [])
+field n end = last_digits (digit_count n) n ++ (end ∷ [])
 
 -- a landing's line
 unfoldable pub landing_line : ℕ → ℕ → ℕ → ℕ → ℕ → List ℕ

@@ -1,6 +1,8 @@
 // The text of a listing of landings, put into a buffer of bytes from a place on.
 #![tactic(auto)]
 
+mod digits;
+
 ghost use Rattle.std.specs.Prelude.{◌≡◌, ◌+◌, ◌≤◌, length, take};
 ghost use Rattle.words.specs.Inner.Puts.{put_all};
 ghost use Rattle.listing.specs.Text.{field, landing_line};
@@ -28,7 +30,7 @@ pub fn put_field(buffer: &mut [u8], at: usize, n: u32, end: u8) -> usize
     ensures bytes { buffer.new ≡ put_all buffer.old at (field n end) }
 {
     let mut digits = [0u8; 20];
-    let count = io::decimal(n as u64, &mut digits);
+    let count = digits::decimal(n, &mut digits);
     copy(&digits, count, buffer, at);
     buffer[at + count] = end;
     at + count + 1
