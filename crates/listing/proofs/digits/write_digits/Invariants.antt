@@ -1,5 +1,5 @@
 -- The digits still to write, and then those written, are the digits of the word.
-use Rattle.std.proofs.Common.{◌≡◌, ◌++◌, ◌≤◌, length}
+use Rattle.std.proofs.Common.{◌≡◌, ◌++◌, ◌≤◌}
 use lib.Seq.{slice}
 use Rattle.listing.specs.Text.{last_digits}
 use Rattle.listing.proofs.digits.write_digits.Given as goal
