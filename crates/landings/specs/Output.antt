@@ -1,12 +1,14 @@
 -- All that `landings` prints, as a function of its input: one of three messages, or a heading and every line of the listing
 -- (document 01, "The key's examples"). Texts are bytes in ASCII.
-use Rattle.std.specs.Prelude.{ℕ, ◌+◌, ◌≤◌, List, [], ◌∷◌, ◌++◌, ◌≡◌, length, take, drop}
-use Rattle.sheet.specs.Sheet.{meant, nodes}
+use Rattle.std.specs.Prelude.{ℕ, ◌+◌, ◌*◌, ◌<◌, ◌≤◌, List, [], ◌∷◌, ◌++◌, ◌≡◌, length, take, drop}
+use Rattle.std.specs.declared.option.Option.{Option}
+use Rattle.std.specs.Io.KnownBytes.{Consumes, IsAtEnd, Appends}
+use Rattle.sheet.specs.Sheet.{meant, nodes, sheet_words}
 use Rattle.session.specs.Calls.{Lent, lend}
 use Rattle.listing.specs.Text.{too_large, input_ends}
 use Rattle.landings.specs.declared.input.Message.{Message}
 use Rattle.landings.specs.declared.input.Message.TheVariants.{TooLarge, InputEnds, Refused, Runs}
-use Rattle.landings.specs.Input.{sheet_of, memory_of, cycles_asked}
+use Rattle.landings.specs.Input.{most_memory, most_transfers, sheet_of, memory_of, cycles_asked}
 use Rattle.landings.specs.Messages.{calls, message}
 use Rattle.landings.specs.Lines.{cycles_lines, carried_out, refused_line, last_line}
 
@@ -40,3 +42,11 @@ printout bytes = printed (message bytes) (all_lines bytes)
 -- a text has a part at a place
 abbrev pub HasAt : List ℕ → ℕ → List ℕ → Type 0
 HasAt text place part = (place + length part ≤ length text) × (take (length part) (drop place text) ≡ part)
+
+-- so many bytes were read, and all that there are where they are fewer than a longest input has; their output was written
+abbrev pub Answered : Option (List ℕ) → Option (List ℕ) → Option (List ℕ) → Option (List ℕ) → Type 0
+Answered input rest output after =
+    (bytes : List ℕ)
+    × Consumes input rest bytes
+    × (length bytes < 4 * (3 + (sheet_words + most_memory + 5 * most_transfers)) → IsAtEnd rest)
+    × Appends output after (printout bytes)

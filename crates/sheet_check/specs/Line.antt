@@ -1,6 +1,8 @@
 -- The line that sheet_check prints for its input (document 01, "The key's examples", gives the messages): a word with the sheet's
 -- length, then the sheet; what follows is ignored.
-use Rattle.std.specs.Prelude.{ℕ, zero, suc, ◌+◌, ◌*◌, List, [], ◌∷◌, ◌++◌, length}
+use Rattle.std.specs.Prelude.{ℕ, zero, suc, ◌+◌, ◌*◌, ◌<◌, List, [], ◌∷◌, ◌++◌, length}
+use Rattle.std.specs.declared.option.Option.{Option}
+use Rattle.std.specs.Io.KnownBytes.{Consumes, IsAtEnd, Appends}
 use Rattle.words.specs.Tests.{◌<?◌}
 use Rattle.words.specs.Words.{pick, tab}
 use Rattle.sheet.specs.Sheet.{sheet_words}
@@ -34,3 +36,11 @@ text_of Passes = passes
 text_of (Refused n) = refused ++ field n line_end
 text_of TooLarge = too_large
 text_of InputEnds = input_ends
+
+-- so many bytes were read, and all that there are where they are fewer than a longest sheet needs; the text of their line was written
+abbrev pub Answered : Option (List ℕ) → Option (List ℕ) → Option (List ℕ) → Option (List ℕ) → Type 0
+Answered input rest output after =
+    (bytes : List ℕ)
+    × Consumes input rest bytes
+    × (length bytes < 4 * (1 + sheet_words) → IsAtEnd rest)
+    × Appends output after (text_of (line_of bytes))

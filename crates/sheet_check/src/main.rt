@@ -1,13 +1,14 @@
 // Judges the sheet on standard input: a word with its length, then its words, all little-endian. Prints one line.
 #![tactic(auto)]
 
-ghost use Rattle.std.specs.Prelude.{◌≡◌, ◌+◌, ◌*◌, ◌<◌, ◌≤◌, length, take};
+ghost use Rattle.std.specs.Prelude.{◌≡◌, ◌+◌, ◌*◌, ◌<◌, ◌≤◌, length, take, OnOk};
 ghost use Rattle.octets.specs.Octets.{word_in};
-ghost use Rattle.sheet_check.specs.Line.{line_of, sheet_of, verdict_line, text_of};
+ghost use Rattle.sheet_check.specs.Line.{line_of, sheet_of, verdict_line, text_of, Answered};
 ghost use Rattle.sheet.specs.Rules.{check_number};
 
 use checker::Outcome;
-use libc::{STDIN_FILENO, STDOUT_FILENO};
+use std::io;
+use std::io::{Read, Write};
 
 const LINE_END: u8 = 10;
 
@@ -96,12 +97,19 @@ fn answer(bytes: &[u8]) -> Text
     text_of(line_for(bytes))
 }
 
-// Reads, and hands the bytes of the answer to the write call.
-fn main() {
-    let mut bytes = [0u8; 4 * (1 + sheet::SHEET_WORDS as usize)];
-    let n = io::read_full(STDIN_FILENO, &mut bytes);
+// The bytes of the longest input of which all is needed: a word with the sheet's length, and the longest sheet.
+const MOST_BYTES: usize = 4 * (1 + sheet::SHEET_WORDS as usize);
+
+// Reads the input, and hands the bytes of the answer to the writer.
+fn respond<R: Read, W: Write>(reader: &mut R, writer: &mut W) -> io::Result<()>
+    ensures { OnOk result (Answered (R.remaining reader.old) (R.remaining reader.new) (W.contents writer.old) (W.contents writer.new)) }
+{
+    let mut bytes = [0u8; MOST_BYTES];
+    let n = reading::read_full(reader, &mut bytes)?;
     let text = answer(&bytes[..n]);
-    let line = text.bytes;
-    let count = text.count;
-    io::write_all(STDOUT_FILENO, &line[..count]);
+    writer.write_all(&text.bytes[..text.count])
+}
+
+fn main(rt: HostRuntime) -> io::Result<()> {
+    respond(&mut rt.stdin(), &mut rt.stdout())
 }
