@@ -2,6 +2,7 @@ pub mod MessageLaws
 pub mod PageLaws
 pub mod CarriedLaws
 pub mod CallLaws
+pub mod WriteLaws
 pub mod OutputLaws
 pub mod RestLaws
 pub mod PagingLaws

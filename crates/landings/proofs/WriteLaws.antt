@@ -1,0 +1,66 @@
+-- What was written: a stretch of the output, part behind part.
+use Rattle.std.proofs.Common.{◌≡◌, ℕ, ◌+◌, ◌-◌, ◌≤◌, List, [], ◌++◌, None, Some, length, take, drop, refl, sym, ap, subst, ◌∙◌, append_assoc, append-nil, arith, length-take-le, length-drop}
+use Rattle.std.proofs.Math.Seq.{take-append-add}
+use Rattle.std.proofs.lemmas.List.{take_all, drop-drop, take-append-drop}
+use Rattle.std.specs.declared.option.Option.{Option}
+use Rattle.std.specs.Io.KnownBytes.{Appends}
+use Rattle.landings.specs.Output.{HasAt}
+
+-- two writes, one behind the other
+pub both_written : (a b c : Option (List ℕ)) (xs ys zs : List ℕ) → Appends a b xs → Appends b c ys → zs ≡ xs ++ ys → Appends a c zs
+both_written None b c xs ys zs p q e = tt
+both_written (Some x) None c xs ys zs p q e = absurd p
+both_written (Some x) (Some y) None xs ys zs p q e = absurd q
+both_written (Some x) (Some y) (Some z) xs ys zs p q e =
+    q ∙ ap (λ (l : List ℕ). l ++ ys) p ∙ append_assoc x xs ys ∙ ap (λ (l : List ℕ). x ++ l) (sym e)
+
+none_written : (a : Option (List ℕ)) (xs : List ℕ) → xs ≡ [] → Appends a a xs
+none_written None xs e = tt
+none_written (Some x) xs e = sym (append-nil x) ∙ ap (λ (l : List ℕ). x ++ l) (sym e)
+
+-- the text from one place to another was written
+pub record Written (before after : Option (List ℕ)) (text : List ℕ) (from to : ℕ) : Type 0 where
+  pub ahead : from ≤ to
+  pub bytes : Appends before after (take (to - from) (drop from text))
+
+pub written_none : (a : Option (List ℕ)) (text : List ℕ) (from : ℕ) → Written a a text from from
+written_none a text from = record {
+  ahead = omega arith;
+  bytes = none_written a _ (ap (λ n. take n (drop from text)) (let z : from - from ≡ 0 = omega arith in z));
+}
+
+-- the next part was written
+pub written_more : (a b c : Option (List ℕ)) {text part : List ℕ} {from to next : ℕ}
+    → Written a b text from to
+    → HasAt text to part
+    → Appends b c part
+    → next ≡ to + length part
+    → Written a c text from next
+written_more a b c {text} {part} {from} {to} {next} w h p e =
+    let long : length (take (to - from) (drop from text)) ≡ to - from = length-take-le (to - from) (drop from text) (omega (arith, w.ahead, h.0, length-drop from text)) in
+    let behind : drop (to - from) (drop from text) ≡ drop to text = drop-drop (to - from) from text ∙ ap (λ n. drop n text) (let z : from + (to - from) ≡ to = omega (arith, w.ahead) in z) in
+    record {
+      ahead = omega (arith, w.ahead, e);
+      bytes = both_written a b c _ _ _ w.bytes p
+          (ap (λ n. take n (drop from text)) (let z : next - from ≡ to - from + length part = omega (arith, w.ahead, e) in z)
+          ∙ ap (λ (l : List ℕ). take (to - from + length part) l) (sym (take-append-drop (to - from) (drop from text)))
+          ∙ ap (λ n. take (n + length part) (take (to - from) (drop from text) ++ drop (to - from) (drop from text))) (sym long)
+          ∙ take-append-add (take (to - from) (drop from text)) (drop (to - from) (drop from text)) (length part)
+          ∙ ap (λ (l : List ℕ). take (to - from) (drop from text) ++ take (length part) l) behind
+          ∙ ap (λ (l : List ℕ). take (to - from) (drop from text) ++ l) h.1);
+    }
+
+-- all behind a place was written
+pub written_rest : (a b : Option (List ℕ)) {text : List ℕ} {from to : ℕ}
+    → Written a b text from to
+    → to ≡ length text
+    → Appends a b (drop from text)
+written_rest a b {text} {from} {to} w e =
+    subst (Appends a b) (take_all (to - from) (drop from text) (omega (arith, e, w.ahead, length-drop from text))) w.bytes
+
+-- a text has a part at its start, and the rest behind it
+pub front_and_rest : (text part : List ℕ) {place from : ℕ} → HasAt text place part → place ≡ 0 → from ≡ length part → text ≡ part ++ drop from text
+front_and_rest text part {place} {from} h z e =
+    sym (take-append-drop (length part) text)
+    ∙ ap (λ (l : List ℕ). l ++ drop (length part) text) (ap (λ n. take (length part) (drop n text)) (sym z) ∙ h.1)
+    ∙ ap (λ n. part ++ drop n text) (sym e)
