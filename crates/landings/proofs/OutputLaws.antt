@@ -20,7 +20,7 @@ use Rattle.landings.specs.declared.input.Message.{Message}
 use Rattle.landings.specs.declared.input.Message.TheVariants.{TooLarge, InputEnds, Refused, Runs}
 use Rattle.landings.specs.Input.{sheet_of, memory_of, cycles_asked}
 use Rattle.landings.specs.Messages.{input_message, calls, refusal_of, message, behind}
-use Rattle.landings.specs.Inner.Ended.{calls_message, cycles_listed, cycles_run, at_end}
+use Rattle.landings.specs.Inner.Ended.{calls_message, cycles_listed, cycles_run, at_end, Halted}
 use Rattle.landings.specs.Lines.{cycle_lines, cycles_lines, cycles_on, carried_out, refused_line, last_line}
 use Rattle.listing.specs.Text.{too_large, input_ends, refused}
 use Rattle.landings.specs.Output.{heading, before_cycles, all_lines, printed, printout, HasAt}
@@ -249,3 +249,13 @@ pub line_done : (bytes : List ℕ) {v : Message} {place next : ℕ}
     → next ≡ place + length (printed v (all_lines bytes))
     → next ≡ length (printout bytes)
 line_done bytes e p q = omega (arith, p, q, ap length (output_is bytes e))
+
+-- writing fails before the first cycle
+pub none_listed : (bytes : List ℕ) {place : ℕ} {w : Lent} → place ≤ length (printout bytes) → w ≡ before_cycles bytes → Halted bytes place w
+unfolding cycles_on
+none_listed bytes l e = record {
+  within = l;
+  cycles = 0;
+  few = omega arith;
+  words = e;
+}

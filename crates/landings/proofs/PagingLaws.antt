@@ -13,7 +13,7 @@ use Rattle.session.specs.Calls.{memory_number, Lent, lend, cycle, number}
 use Rattle.landings.specs.Lines.{cycles_lines, cycles_on, carried_out, refused_line, last_line}
 use Rattle.landings.specs.Inner.Pages.{ReadyToList, Paged}
 use Rattle.landings.specs.Output.{heading, before_cycles, printout, HasAt}
-use Rattle.landings.specs.Inner.Ended.{cycles_listed}
+use Rattle.landings.specs.Inner.Ended.{cycles_listed, Halted}
 use Rattle.landings.proofs.CarriedLaws.{carried_past, carried_stop, carried_all, last_none, last_refused}
 use Rattle.landings.proofs.OutputLaws.{has_between, has_back, cycles_behind, lines_behind, before_ready, before_sheet, lines_are}
 use Rattle.landings.proofs.RestLaws.{cycles_sheet}
@@ -123,6 +123,19 @@ module _ (bytes : List ℕ) (n last : ℕ) (s₀ m₀ buffer₀ s m buffer : Lis
           memory_long = b ∙ i.memory_long;
           long = e ∙ i.long;
         }
+
+    -- writing fails behind it
+    pub page_halted : ReadyToList bytes s₀ m₀ n last
+        → {s' m' : List ℕ} {reached : ℕ}
+        → lend s' m' ≡ cycles_on count (lend s m)
+        → reached ≤ length (printout bytes)
+        → Halted bytes reached (lend s' m')
+    page_halted g f w = record {
+      within = w;
+      cycles = time + count;
+      few = omega (arith, carried_past last words₀ (time + count) still_carried d.in_time, ap (λ k. carried_out k words₀) g.all_cycles);
+      words = f ∙ ap (cycles_on count) i.words ∙ sym (cycles_behind time count words₀);
+    }
 
     -- it ends in a refusal: then so does the output
     module _ (g : ReadyToList bytes s₀ m₀ n last) (ne : refusal ≡ 0 → ⊥) {next : ℕ} (p : next ≡ place + length part) where

@@ -1,5 +1,5 @@
 -- What was written: a stretch of the output, part behind part.
-use Rattle.std.proofs.Common.{◌≡◌, ℕ, ◌+◌, ◌-◌, ◌≤◌, List, [], ◌++◌, None, Some, length, take, drop, refl, sym, ap, subst, ◌∙◌, append_assoc, append-nil, arith, length-take-le, length-drop}
+use Rattle.std.proofs.Common.{◌≡◌, Result, Ok, Err, OnOk, OnErr, ℕ, ◌+◌, ◌-◌, ◌≤◌, List, [], ◌++◌, None, Some, length, take, drop, refl, sym, ap, subst, ◌∙◌, append_assoc, append-nil, arith, length-take-le, length-drop}
 use Rattle.std.proofs.Math.Seq.{take-append-add}
 use Rattle.std.proofs.lemmas.List.{take_all, drop-drop, take-append-drop}
 use Rattle.std.specs.declared.option.Option.{Option}
@@ -64,3 +64,12 @@ front_and_rest text part {place} {from} h z e =
     sym (take-append-drop (length part) text)
     ∙ ap (λ (l : List ℕ). l ++ drop (length part) text) (ap (λ n. take (length part) (drop n text)) (sym z) ∙ h.1)
     ∙ ap (λ n. part ++ drop n text) (sym e)
+
+-- what holds anyhow holds for an answer
+pub on_ok : {T E P : Type 0} (r : Result T E) → P → OnOk r P
+on_ok (Ok x) p = p
+on_ok (Err e) p = tt
+
+pub on_err : {T E P : Type 0} (r : Result T E) → P → OnErr r P
+on_err (Ok x) p = tt
+on_err (Err e) p = p
