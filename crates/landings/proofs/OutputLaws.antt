@@ -177,7 +177,7 @@ module _ (bytes : List ℕ) (n place : ℕ) (h : HasAt (printout bytes) place (r
     pub number_fits : end ≤ length line
     number_fits = omega (arith, f, l, field_short n line_end, ap length g, length_put_all start (field n line_end) 0)
 
-    number_is : take end line ≡ field n line_end
+    pub number_is : take end line ≡ field n line_end
     number_is =
         ap (λ (x : List ℕ). take end x) g
         ∙ ap (λ k. take k (put_all start 0 (field n line_end))) (f ∙ zero-add (length (field n line_end)))

@@ -75,6 +75,19 @@ module _ (bytes : List ℕ) (n last : ℕ) (s₀ m₀ buffer₀ s m buffer : Lis
           ∙ ap (λ (w : Lent). number cycle (cycles_on (j - time) w)) (sym i.words)
           ∙ d.is_carried_out (j - time) (omega (arith, p, h))
 
+  -- writing fails behind it
+  pub page_halted : ReadyToList bytes s₀ m₀ n last
+      → {s' m' : List ℕ} {reached : ℕ}
+      → lend s' m' ≡ cycles_on count (lend s m)
+      → reached ≤ length (printout bytes)
+      → Halted bytes reached (lend s' m')
+  page_halted g f w = record {
+    within = w;
+    cycles = time + count;
+    few = omega (arith, carried_past last words₀ (time + count) still_carried d.in_time, ap (λ k. carried_out k words₀) g.all_cycles);
+    words = f ∙ ap (cycles_on count) i.words ∙ sym (cycles_behind time count words₀);
+  }
+
   module _ {part : List ℕ} (t : part ≡ cycles_lines n time count (lend s m)) where
     page_is : part ≡ cycles_lines n (0 + time) count (cycles_on time words₀)
     page_is =
@@ -123,19 +136,6 @@ module _ (bytes : List ℕ) (n last : ℕ) (s₀ m₀ buffer₀ s m buffer : Lis
           memory_long = b ∙ i.memory_long;
           long = e ∙ i.long;
         }
-
-    -- writing fails behind it
-    pub page_halted : ReadyToList bytes s₀ m₀ n last
-        → {s' m' : List ℕ} {reached : ℕ}
-        → lend s' m' ≡ cycles_on count (lend s m)
-        → reached ≤ length (printout bytes)
-        → Halted bytes reached (lend s' m')
-    page_halted g f w = record {
-      within = w;
-      cycles = time + count;
-      few = omega (arith, carried_past last words₀ (time + count) still_carried d.in_time, ap (λ k. carried_out k words₀) g.all_cycles);
-      words = f ∙ ap (cycles_on count) i.words ∙ sym (cycles_behind time count words₀);
-    }
 
     -- it ends in a refusal: then so does the output
     module _ (g : ReadyToList bytes s₀ m₀ n last) (ne : refusal ≡ 0 → ⊥) {next : ℕ} (p : next ≡ place + length part) where

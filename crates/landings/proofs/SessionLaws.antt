@@ -12,7 +12,7 @@ use Rattle.words.specs.Words.{pick}
 use Rattle.words.proofs.TestLaws.{yes=, is=}
 use Rattle.network.specs.Registers.{state_words}
 use Rattle.sheet.specs.Sheet.{meant}
-use Rattle.session.specs.Calls.{loaded, Lent, lend, lend_state, Call, load, cycle, is_load, number, after, after_all}
+use Rattle.session.specs.Calls.{loaded, Lent, lend, lend_state, Call, cycle, is_load, number, after, after_all}
 use Rattle.session.proofs.AloneLaws.{after_alone}
 use Rattle.isolation.specs.Sessions.{LoadsRefused, Session, standing}
 use Rattle.isolation.proofs.DemandProved.{demand3}

@@ -1,5 +1,5 @@
 -- What was written: a stretch of the output, part behind part.
-use Rattle.std.proofs.Common.{◌≡◌, Result, Ok, Err, OnOk, OnErr, ℕ, ◌+◌, ◌-◌, ◌≤◌, List, [], ◌++◌, None, Some, length, take, drop, refl, sym, ap, subst, ◌∙◌, append_assoc, append-nil, arith, length-take-le, length-drop}
+use Rattle.std.proofs.Common.{◌≡◌, Result, Ok, Err, OnOk, OnErr, ℕ, ◌+◌, ◌-◌, ◌≤◌, List, [], ◌++◌, None, Some, length, take, drop, sym, ap, subst, ◌∙◌, append_assoc, append-nil, arith, length-take-le, length-drop}
 use Rattle.std.proofs.Math.Seq.{take-append-add}
 use Rattle.std.proofs.lemmas.List.{take_all, drop-drop, take-append-drop}
 use Rattle.std.specs.declared.option.Option.{Option}
@@ -51,12 +51,19 @@ written_more a b c {text} {part} {from} {to} {next} w h p e =
     }
 
 -- all behind a place was written
-pub written_rest : (a b : Option (List ℕ)) {text : List ℕ} {from to : ℕ}
+pub written_rest : (a b : Option (List ℕ)) {text : List ℕ} {from to start : ℕ}
     → Written a b text from to
     → to ≡ length text
-    → Appends a b (drop from text)
-written_rest a b {text} {from} {to} w e =
-    subst (Appends a b) (take_all (to - from) (drop from text) (omega (arith, e, w.ahead, length-drop from text))) w.bytes
+    → from ≡ start
+    → Appends a b (drop start text)
+written_rest a b {text} {from} {to} w e f =
+    subst (Appends a b)
+    (take_all (to - from) (drop from text) (omega (arith, e, w.ahead, length-drop from text)) ∙ ap (λ n. drop n text) f)
+    w.bytes
+
+-- what was written, by another name
+pub written_as : (a b : Option (List ℕ)) (xs ys : List ℕ) → xs ≡ ys → Appends a b xs → Appends a b ys
+written_as a b xs ys e p = subst (Appends a b) e p
 
 -- a text has a part at its start, and the rest behind it
 pub front_and_rest : (text part : List ℕ) {place from : ℕ} → HasAt text place part → place ≡ 0 → from ≡ length part → text ≡ part ++ drop from text
@@ -73,3 +80,7 @@ on_ok (Err e) p = tt
 pub on_err : {T E P : Type 0} (r : Result T E) → P → OnErr r P
 on_err (Ok x) p = tt
 on_err (Err e) p = p
+
+pub on_ok_both : {T E P Q R : Type 0} (r : Result T E) → (P → Q → R) → OnOk r P → OnOk r Q → OnOk r R
+on_ok_both (Ok x) f p q = f p q
+on_ok_both (Err e) f p q = tt
