@@ -29,6 +29,8 @@ BY_HAND = {
     "last-delay": "last_delay_at",
     "to-go": "to_go_at",
     "source-word": "source_word_is",
+    "same-lengths": "same_lengths",
+    "in-force": "in_force",
 }
 
 # Names that port.py had turned already and that fall together with one turned here, each in its file.
@@ -47,7 +49,7 @@ FIELD = re.compile(r"^\s+(?:pub |private |unfoldable |abbrev |opaque )*([A-Za-z]
 
 
 def snake(name):
-    out = re.sub(r"(?<=[a-z0-9])([A-Z])", lambda m: "_" + m.group(1).lower(), name.replace("-", "_"))
+    out = re.sub(r"(?<=[a-z0-9])([A-Z])|(?<=[A-Z])([A-Z])(?=[a-z])", lambda m: "_" + m.group(0).lower(), name.replace("-", "_"))
     return out
 
 

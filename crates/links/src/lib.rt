@@ -134,7 +134,7 @@ fn push_sources(s: &mut [u32], nodes: u32, sources: u64, marks: &[u32], cells: &
 // The link registers of all inputs: what comes out of the links of the nodes that have something there, and what is on the source wires
 // of those that have, a mark and a word a node. They are emptied first, since few words are under way in most cycles. The answer is the
 // mask of the nodes whose link registers may hold something now.
-pub fn step_links(s: &mut [u32], ends: u64, sources: u64, marks: &[u32], cells: &[u32]) -> u64
+pub fn step_links_among(s: &mut [u32], ends: u64, sources: u64, marks: &[u32], cells: &[u32]) -> u64
     requires { (Headed (sheet_in s.old)) × (moving_words ≤ length s.old) × ((node : _) → node < nodeCount (sheet_in s.old) → bit_at ends node ≡ 0 → SidesEmpty s.old node (pick (is_long (sheet_in s.old)) extra_mark out_mark)) × ((node : _) → node < nodeCount (sheet_in s.old) → bit_at sources node ≡ 0 → (word_at marks.now node ≡ 0) × (word_at cells.now node ≡ 0)) }
     ensures state { s.new ≡ stage link_mark link_word (nodeCount (sheet_in s.old) * 5) (link_from marks.now cells.now s.old) s.old }
     ensures live { EmptyBeside s.new result link_mark × EmptyBeside s.new result link_word }
@@ -159,6 +159,15 @@ pub fn step_links(s: &mut [u32], ends: u64, sources: u64, marks: &[u32], cells: 
     }
     push_sources(s, nodes, sources, marks, cells);
     live | sources
+}
+
+// The link registers of all inputs, whatever there is at the nodes: what comes out of the neighbours' links, and what is on the source wires, a
+// mark and a word a node.
+pub fn step_links(s: &mut [u32], marks: &[u32], cells: &[u32])
+    requires { (Headed (sheet_in s.old)) × (moving_words ≤ length s.old) }
+    ensures { s.new ≡ stage link_mark link_word (nodeCount (sheet_in s.old) * 5) (link_from marks.now cells.now s.old) s.old }
+{
+    step_links_among(s, network::ALL_NODES, network::ALL_NODES, marks, cells);
 }
 
 // The extra register of output k takes what is on the output.

@@ -55,12 +55,12 @@ fn carry_out(
     let nodes = sheet::nodes_of(z);
     let room = sheet::memory_of(z);
     let long = sheet::is_long(z);
-    routers::step_heads(s, nodes, live.links | live.heads);
-    let links = links::step_links(s, live.outs | live.extras, wires, marks, cells);
-    receivers::step_receivers(s, m, nodes, room, live.outs);
+    routers::step_heads_among(s, nodes, live.links | live.heads);
+    let links = links::step_links_among(s, live.outs | live.extras, wires, marks, cells);
+    receivers::step_receivers_among(s, m, nodes, room, live.outs);
     links::step_extras(s, nodes, long);
     outputs::step_outs(s, nodes, live.outs | live.heads, outs, values);
-    let sending = sources::step_senders(s, slots, acting);
+    let sending = sources::step_senders_among(s, slots, acting);
     receivers::step_clock(s);
     let extras = extras_after(long, live.outs);
     Live {

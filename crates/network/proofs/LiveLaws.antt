@@ -7,8 +7,10 @@ use mathlib.Core.Path.{◌≡◌, refl, sym, ◌∙◌, ap, subst}
 use native.Mathlib.Omega.{arith}
 use lib.ListN.{length}
 use lib.Bits.{bit_or}
+use lib.Dec.{T, eqb, eqb→eq}
 use Rattle.words.specs.Tests.{◌=?◌, ◌≤?◌}
 use Rattle.words.specs.Words.{pick}
+use Rattle.words.proofs.Below.{every, every_at}
 use Rattle.words.proofs.TestLaws.{and_left}
 use Rattle.sheet.specs.Sheet.{circuits, nodes, is_long}
 use Rattle.occupancy.specs.Inner.Occupancy.{bit_at}
@@ -185,3 +187,16 @@ module _ (s : List ℕ) (long : moving_words ≤ length s) (few : nodes (sheet_i
         let inside : c < circuits (sheet_in s) = subst (λ (z : List ℕ). c < circuits z) (after_sheet s long n) l in
         after_kept s long n to_go_row c (omega arith) (omega arith) (omega arith) (λ x y. omega arith) ∙ C.to_go_at c inside none;
   }
+
+-- a mask of sixteen ones has every node, and one of sixty-four ones has every circuit
+pub all_nodes : (node : ℕ) → node < 16 → bit_at 65535 node ≡ 0 → ⊥
+unfolding bit_at
+all_nodes node l e =
+    let one = eqb→eq _ _ (every_at 16 (λ k. eqb (bit_at 65535 k) 1) tt node l) in
+    omega (arith, one, e)
+
+pub all_circuits : (c : ℕ) → c < 64 → bit_at 18446744073709551615 c ≡ 0 → ⊥
+unfolding bit_at
+all_circuits c l e =
+    let one = eqb→eq _ _ (every_at 64 (λ k. eqb (bit_at 18446744073709551615 k) 1) tt c l) in
+    omega (arith, one, e)

@@ -89,6 +89,11 @@ pub const SOURCE_INPUT: u32 = 4;
 
 pub const MEMORY_OUTPUT: u32 = torus::MEMORY_OUTPUT;
 
+// All nodes, and all circuits, as masks.
+pub const ALL_NODES: u64 = 65535;
+
+pub const ALL_CIRCUITS: u64 = 18446744073709551615;
+
 // Where something may be: the nodes whose link registers, header stages, outputs and extra registers may hold a word or a mark, those at
 // which a word may have landed in the last cycle, and the circuits that may be amid a packet, each as a mask. At all others nothing is. A
 // loop over cycles hands this on from cycle to cycle, so that a cycle costs what moves.

@@ -5,4 +5,6 @@ mod clock;
 mod receiving;
 
 pub use clock::{period_now, step_clock};
-pub use receiving::{clear_landings, has_stray, step_receivers};
+pub use receiving::{
+    clear_landings, has_stray, has_stray_among, step_receivers, step_receivers_among,
+};

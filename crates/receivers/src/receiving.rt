@@ -45,7 +45,7 @@ fn memory_word(s: &[u32], node: u32) -> u32
     reg(s, OUT_WORD, node * OUTPUTS + MEMORY_OUTPUT)
 }
 
-// A payload word strays: no packet is arriving, or its address lies past the node's memory. has_stray hands on the sheet's room.
+// A payload word strays: no packet is arriving, or its address lies past the node's memory. has_stray_among hands on the sheet's room.
 fn does_stray(s: &[u32], node: u32, room: u32) -> bool
     requires { (node < 16) × (room ≡ roomOf s.now) }
     ensures { result ≡ strays_in s.now node }
@@ -61,7 +61,7 @@ fn does_stray(s: &[u32], node: u32, room: u32) -> bool
 
 // A word strays at some node, of which those beside the mask have nothing on their memory output. The cycle calls it on a sound state, whose
 // sheet passes, with the sheet's numbers.
-pub fn has_stray(s: &[u32], nodes: u32, room: u32, outs: u64) -> bool
+pub fn has_stray_among(s: &[u32], nodes: u32, room: u32, outs: u64) -> bool
     requires { (Counted s.now nodes room) × ((node : _) → node < nodes → bit_at outs node ≡ 0 → memory_mark s.now node ≡ 0) }
     ensures { result ≡ any (nodesOf (sheet_in s.now)) (strays_in s.now) }
 {
@@ -73,6 +73,14 @@ pub fn has_stray(s: &[u32], nodes: u32, room: u32, outs: u64) -> bool
         node = occupancy::next_taken(outs, node + 1);
     }
     false
+}
+
+// A word strays at some node. The cycle calls it on a sound state, whose sheet passes, with the sheet's numbers.
+pub fn has_stray(s: &[u32], nodes: u32, room: u32) -> bool
+    requires { Counted s.now nodes room }
+    ensures { result ≡ any (nodesOf (sheet_in s.now)) (strays_in s.now) }
+{
+    has_stray_among(s, nodes, room, network::ALL_NODES)
 }
 
 // The receive unit's mark after a cycle: a header sets it, a packet's last word drops it.
@@ -208,7 +216,7 @@ pub fn clear_landings(s: &mut [u32], nodes: u32)
 // The nodes' rows and the memories after a cycle, in place. The cycle calls it once number 20 is excluded. At first nothing landed anywhere;
 // then the nodes that may have something on their memory output are stepped. The test of the length is never met: it lets a compiler leave
 // out one at each access.
-pub fn step_receivers(s: &mut [u32], m: &mut [u32], nodes: u32, room: u32, outs: u64)
+pub fn step_receivers_among(s: &mut [u32], m: &mut [u32], nodes: u32, room: u32, outs: u64)
     requires { (Receivable s.old m.old nodes room) × ((node : _) → node < nodes → bit_at outs node ≡ 0 → (memory_mark s.old node ≡ 0) × (memory_word s.old node ≡ 0)) }
     ensures state { s.new ≡ stage receive_mark landing_word (nodesOf (sheet_in s.old)) (next_in_row s.old []) s.old }
     ensures memory { m.new ≡ next_memory s.old m.old }
@@ -222,4 +230,13 @@ pub fn step_receivers(s: &mut [u32], m: &mut [u32], nodes: u32, room: u32, outs:
         step_receiver(s, m, node, room);
         node = occupancy::next_taken(outs, node + 1);
     }
+}
+
+// The nodes' rows and the memories after a cycle, in place, whatever there is at the nodes. The cycle calls it once number 20 is excluded.
+pub fn step_receivers(s: &mut [u32], m: &mut [u32], nodes: u32, room: u32)
+    requires { Receivable s.old m.old nodes room }
+    ensures state { s.new ≡ stage receive_mark landing_word (nodesOf (sheet_in s.old)) (next_in_row s.old []) s.old }
+    ensures memory { m.new ≡ next_memory s.old m.old }
+{
+    step_receivers_among(s, m, nodes, room, network::ALL_NODES);
 }

@@ -4,3 +4,4 @@ pub mod InputLaws
 pub mod OrderLaws
 pub mod CrossLaws
 pub mod HeadLaws
+pub mod OutLaws

@@ -7,9 +7,9 @@ ghost use Rattle.words.specs.Tests.{any, ◌and◌, ◌or◌, ◌≤?◌, ◌<?�
 ghost use Rattle.words.specs.Words.{pick, tab};
 ghost use Rattle.sheet.specs.Sheet.{nodes as nodeCount};
 ghost use Rattle.occupancy.specs.Inner.Occupancy.{bit_at};
-ghost use Rattle.network.specs.Registers.{reg as reg_of, sheet_in, moving_words, link_mark, link_word, latch_row, row_words, head_mark};
+ghost use Rattle.network.specs.Registers.{reg as reg_of, sheet_in, moving_words, link_mark, link_word, latch_row, row_words, head_mark, out_mark, out_word};
 ghost use Rattle.network.specs.Inner.Machine.{next_choice, next_out_mark, next_out_word, collides_in, unheld_in, unchosen_in, next_in_row};
-ghost use Rattle.network.specs.Inner.Stages.{stage};
+ghost use Rattle.network.specs.Inner.Stages.{stage, out_from};
 ghost use Rattle.network.specs.Inner.Live.{EmptyBeside, Stays};
 ghost use Rattle.routers.specs.Inner.Crossing.{Crossed, HeadsEmpty, CrossedNode};
 ghost use Rattle.routers.specs.Inner.Stepping.{head_stepped};
@@ -117,7 +117,7 @@ fn cross_node(s: &[u32], k: u32, marks: &mut [u32], cells: &mut [u32]) -> u32
 
 // The crossbar of all nodes that may have a word in their header stages: what goes on each output, into two lent tables of zeros. Number 20:
 // two words want one output, of which the first stays, or a payload word left the header stage with no choice.
-pub fn cross(s: &[u32], nodes: u32, heads: u64, marks: &mut [u32], cells: &mut [u32]) -> bool
+pub fn cross_among(s: &[u32], nodes: u32, heads: u64, marks: &mut [u32], cells: &mut [u32]) -> bool
     requires { (nodes ≡ nodeCount (sheet_in s.now)) × (nodes ≤ 16) × (marks.old ≡ tab row_words (λ k. 0)) × (cells.old ≡ tab row_words (λ k. 0)) × (EmptyBeside s.now heads head_mark) }
     ensures fault { result ≡ (any (nodeCount (sheet_in s.now)) (λ node. any 5 (collides_in s.now node)) or any (nodeCount (sheet_in s.now)) (λ node. any 5 (unchosen_in s.now node))) }
     ensures marks { marks.new ≡ tab row_words (λ k. pick (k <? nodeCount (sheet_in s.now) * 5) (next_out_mark s.now (k / 5) (k % 5)) 0) }
@@ -136,6 +136,17 @@ pub fn cross(s: &[u32], nodes: u32, heads: u64, marks: &mut [u32], cells: &mut [
         node = occupancy::next_taken(heads, node + 1);
     }
     1 <= faults
+}
+
+// The crossbar of all nodes: what goes on each output, into two lent tables of zeros. Number 20: two words want one output, of which the
+// first stays, or a payload word left the header stage with no choice.
+pub fn cross(s: &[u32], nodes: u32, marks: &mut [u32], cells: &mut [u32]) -> bool
+    requires { (nodes ≡ nodeCount (sheet_in s.now)) × (nodes ≤ 16) × (marks.old ≡ tab row_words (λ k. 0)) × (cells.old ≡ tab row_words (λ k. 0)) }
+    ensures fault { result ≡ (any (nodeCount (sheet_in s.now)) (λ node. any 5 (collides_in s.now node)) or any (nodeCount (sheet_in s.now)) (λ node. any 5 (unchosen_in s.now node))) }
+    ensures marks { marks.new ≡ tab row_words (λ k. pick (k <? nodeCount (sheet_in s.now) * 5) (next_out_mark s.now (k / 5) (k % 5)) 0) }
+    ensures cells { cells.new ≡ tab row_words (λ k. pick (k <? nodeCount (sheet_in s.now) * 5) (next_out_word s.now (k / 5) (k % 5)) 0) }
+{
+    cross_among(s, nodes, network::ALL_NODES, marks, cells)
 }
 
 // The output chosen for the word in link register k: a header's own, a payload word's by the latch; one more than it, 0 for none.
@@ -195,7 +206,7 @@ fn step_node_heads(s: &mut [u32], k: u32)
 }
 
 // The header stages of all nodes, of which those beside the mask have what they should have already.
-pub fn step_heads(s: &mut [u32], nodes: u32, live: u64)
+pub fn step_heads_among(s: &mut [u32], nodes: u32, live: u64)
     requires { (moving_words ≤ length s.old) × (nodes ≤ 16) × ((k : _) → k < nodes * 5 → bit_at live (k / 5) ≡ 0 → Stays head_mark latch_row (next_in_row s.old []) s.old k) }
     ensures { s.new ≡ stage head_mark latch_row (nodes * 5) (next_in_row s.old []) s.old }
 {
@@ -209,5 +220,48 @@ pub fn step_heads(s: &mut [u32], nodes: u32, live: u64)
     while node < nodes {
         step_node_heads(s, node * 5);
         node = occupancy::next_taken(live, node + 1);
+    }
+}
+
+// The header stages of so many inputs. The test of each turn is never met either; with it the compiler lays the cycle out better
+// (docs/DECISIONS.md, 37).
+pub fn step_heads(s: &mut [u32], count: u32)
+    requires { (moving_words ≤ length s.old) × (count ≤ row_words) }
+    ensures { s.new ≡ stage head_mark latch_row count (next_in_row s.old []) s.old }
+{
+    if s.len() < network::MOVING_WORDS {
+        return;
+    }
+    if ROW_WORDS < count as usize {
+        return;
+    }
+    let mut k: u32 = 0;
+    while k < count {
+        if ROW_WORDS <= k as usize {
+            return;
+        }
+        step_head(s, k);
+        k += 1;
+    }
+}
+
+// The out registers of so many outputs, from the crossbar's tables.
+pub fn step_outs(s: &mut [u32], count: u32, marks: &[u32], cells: &[u32])
+    requires { (moving_words ≤ length s.old) × (count ≤ row_words) }
+    ensures { s.new ≡ stage out_mark out_word count (out_from marks.now cells.now) s.old }
+{
+    if s.len() < network::MOVING_WORDS {
+        return;
+    }
+    if ROW_WORDS < count as usize {
+        return;
+    }
+    let mut k: u32 = 0;
+    while k < count {
+        let mark = words::get(marks, k as usize);
+        let word = words::get(cells, k as usize);
+        put_reg(s, network::OUT_MARK, k, mark);
+        put_reg(s, network::OUT_WORD, k, word);
+        k += 1;
     }
 }

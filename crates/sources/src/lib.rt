@@ -54,7 +54,7 @@ pub fn entries_passed(z: &[u32], j: u32, entries: &[u32], cycle: u32) -> u32
 
 // The slots that begin in this cycle, by circuit: one more than the entry's number, 0 where none begins; and whether one begins at all. By
 // rule 8 no entry behind a later one begins. The call that found the state sound lends its sheet, here and below, and 64 zeros.
-fn slots_now(s: &[u32], z: &[u32], slots: &mut [u32]) -> bool
+pub fn slots_now(s: &[u32], z: &[u32], slots: &mut [u32]) -> bool
     requires { (Paired s.now z.now) × (rule8 z.now ≡ true) × (slots.old ≡ tab 64 (λ (c : ℕ). 0)) }
     ensures table { slots.new ≡ slot_table s.now }
     ensures none { result ≡ false → slots.new ≡ tab 64 (λ (c : ℕ). 0) }
@@ -282,7 +282,7 @@ fn source_of(z: &[u32], c: u32) -> u32
     read.node
 }
 
-// What source_wires answers: whether a source is at fault, and the mask of the nodes on whose wires something may be.
+// What source_wires_among answers: whether a source is at fault, and the mask of the nodes on whose wires something may be.
 #[derive(Clone, Copy)]
 pub struct Wired {
     pub fault: bool,
@@ -292,7 +292,7 @@ pub struct Wired {
 // The marks and the words on the source wires, each of the first circuit that wants the wire, and whether a source is at fault: two
 // circuits want one wire, or one opens a packet within a packet. A circuit beside the mask of those that act rests. The call that found
 // the state sound gives the requires: it lends the sheet and the slots, and 16 zeros twice.
-pub fn source_wires(
+pub fn source_wires_among(
     s: &[u32],
     z: &[u32],
     m: &[u32],
@@ -326,6 +326,26 @@ pub fn source_wires(
         fault: fault,
         nodes: wires,
     }
+}
+
+// The marks and the words on the source wires, each of the first circuit that wants the wire, and whether a source is at fault: two
+// circuits want one wire, or one opens a packet within a packet. A circuit that has no words left has none to go, and rests. The
+// call that found the state sound gives the requires: it lends the sheet and the slots, and 16 zeros twice.
+pub fn source_wires(
+    s: &[u32],
+    z: &[u32],
+    m: &[u32],
+    slots: &[u32],
+    marks: &mut [u32],
+    cells: &mut [u32],
+) -> bool
+    requires { (Sendable s.now z.now) × (Steppable s.now) × (slots.now ≡ slot_table s.now) × (marks.old ≡ tab 16 (λ (n : ℕ). 0)) × (cells.old ≡ tab 16 (λ (n : ℕ). 0)) }
+    ensures fault { result ≡ (any (nodes (sheet_in s.now)) (crowds_in s.now) or any (circuits (sheet_in s.now)) (reopens_in s.now)) }
+    ensures marks { marks.new ≡ tab 16 (source_mark s.now) }
+    ensures cells { cells.new ≡ tab 16 (source_word s.now m.now) }
+{
+    let wired = source_wires_among(s, z, m, slots, network::ALL_CIRCUITS, marks, cells);
+    wired.fault
 }
 
 // The lesser of two numbers.
@@ -382,7 +402,7 @@ fn step_sender(s: &mut [u32], slots: &[u32], c: u32) -> u64
 
 // Steps the senders of the circuits that act, in place; the others rest. The answer is the mask of those that go on sending. The call that
 // found the state sound gives the requires.
-pub fn step_senders(s: &mut [u32], slots: &[u32], acting: u64) -> u64
+pub fn step_senders_among(s: &mut [u32], slots: &[u32], acting: u64) -> u64
     requires { (Steppable s.old) × (slots.now ≡ slot_table s.old) × (Acting s.old acting) }
     ensures state { s.new ≡ stage left_row to_go_row (circuits (sheet_in s.old)) (next_in_row s.old []) s.old }
     ensures sending { (c : ℕ) → c < circuits (sheet_in s.old) → bit_at result c ≡ 0 → reg_of s.new to_go_row c ≡ 0 }
@@ -398,4 +418,12 @@ pub fn step_senders(s: &mut [u32], slots: &[u32], acting: u64) -> u64
         c = occupancy::next_taken(acting, c + 1);
     }
     sending
+}
+
+// Steps the senders of all circuits, in place. The call that found the state sound gives the requires.
+pub fn step_senders(s: &mut [u32], slots: &[u32])
+    requires { (Steppable s.old) × (slots.now ≡ slot_table s.old) }
+    ensures { s.new ≡ stage left_row to_go_row (circuits (sheet_in s.old)) (next_in_row s.old []) s.old }
+{
+    step_senders_among(s, slots, network::ALL_CIRCUITS);
 }

@@ -39,18 +39,18 @@ pub fn prepare(
     let z = network::sheet_of(s);
     let nodes = sheet::columns_of(z) * sheet::rows_of(z);
     let heads = live.heads;
-    if routers::cross(s, nodes, heads, outs, values) {
+    if routers::cross_among(s, nodes, heads, outs, values) {
         return faulty();
     }
     if routers::has_unheld(s, nodes * 5) {
         return faulty();
     }
     let acting = sources::acting_now(s, z, live.sending, slots);
-    let wired = sources::source_wires(s, z, m, slots, acting, marks, cells);
+    let wired = sources::source_wires_among(s, z, m, slots, acting, marks, cells);
     if wired.fault {
         return faulty();
     }
-    let stray = receivers::has_stray(s, nodes, sheet::memory_of(z), live.outs);
+    let stray = receivers::has_stray_among(s, nodes, sheet::memory_of(z), live.outs);
     Prepared {
         fault: stray,
         acting: acting,

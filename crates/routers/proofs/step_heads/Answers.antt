@@ -1,30 +1,35 @@
--- `routers::step_heads` meets its contract: each turn writes the five places of one node, from registers that are not written yet, and passes the
--- nodes up to the next of the mask, which have what they should have already.
+-- `routers::step_heads` meets its contract: each turn writes one place of the four rows, from registers that are not written yet.
 use native.Mathlib.Omega.{arith}
-use Rattle.links.proofs.WalkLaws.{walk_start, walk_done}
-use Rattle.routers.proofs.HeadLaws.{heads_turn}
+use Prim.Native.Nat.{◌≤◌, ◌-◌}
+use mathlib.Core.List.{[]}
+use Rattle.network.specs.Registers.{head_mark, latch_row}
+use Rattle.network.specs.Inner.Machine.{next_in_row}
+use Rattle.network.proofs.FillLaws.{Staged, stage_start}
+use Rattle.routers.proofs.HeadLaws.{heads_more}
+use Rattle.links.proofs.PairLaws.{filled}
 use Rattle.routers.proofs.step_heads.Goals as goal
 
 pub returns-then-s-lt-MOVING_WORDS : goal.returns-then-s-lt-MOVING_WORDS
 returns-then-s-lt-MOVING_WORDS c = absurd (omega arith)
 
-pub returns-then-nodes-gt-MOST_NODES : goal.returns-then-nodes-gt-MOST_NODES
-returns-then-nodes-gt-MOST_NODES c = absurd (omega arith)
+pub returns-then-count-gt-ROW_WORDS : goal.returns-then-count-gt-ROW_WORDS
+returns-then-count-gt-ROW_WORDS c = absurd (omega arith)
 
-pub loop-node-init : goal.loop-node-init
-loop-node-init c =
-    walk_start _ _ _ _ _ _ (omega arith) c.requires.1 c.requires.2 _ c.next_taken-node.ensures
+pub loop-k-init : goal.loop-k-init
+loop-k-init c = (omega arith, stage_start _ _ _ _)
 
-pub loop-node-smaller : goal.loop-node-smaller
-loop-node-smaller c = omega (arith, c.next_taken-node-in-loop-node.ensures.onward)
+pub shape_of-s-then-k-ge-ROW_WORDS : goal.shape_of-s-then-k-ge-ROW_WORDS
+shape_of-s-then-k-ge-ROW_WORDS c = c.loop-k.invariant.1.same_length
 
-pub loop-node-preserved : goal.loop-node-preserved
-loop-node-preserved c =
-    heads_turn _ _ _ _ _ _ _ c.requires.0 c.requires.1 c.requires.2 c.loop-node.invariant (omega arith) c.step_node_heads.ensures
-    c.next_taken-node-in-loop-node.ensures
+pub returns-then-k-ge-ROW_WORDS : goal.returns-then-k-ge-ROW_WORDS
+returns-then-k-ge-ROW_WORDS c = absurd (omega arith)
+
+pub loop-k-preserved : goal.loop-k-preserved
+loop-k-preserved c =
+    (omega arith, heads_more _ _ _ (omega arith) c.requires.0 c.loop-k.invariant.1 _ c.step_head.ensures)
 
 pub shape_of-s : goal.shape_of-s
-shape_of-s c = c.loop-node.invariant.same_length
+shape_of-s c = c.loop-k.invariant.1.same_length
 
 pub returns : goal.returns
-returns c = walk_done _ _ _ _ _ _ _ c.loop-node.invariant c.requires.0 (omega arith)
+returns c = filled _ _ _ _ _ _ _ c.requires.0 c.loop-k.invariant.1 (omega arith) (omega arith)

@@ -1,15 +1,16 @@
--- `routers::step_heads` meets its contract: each turn writes the five places of one node, from registers that are not written yet, and passes the
--- nodes up to the next of the mask, which have what they should have already.
-use Prim.Native.Nat.{◌-◌}
+-- `routers::step_heads` meets its contract: each turn writes one place of the four rows, from registers that are not written yet.
+use native.Mathlib.Omega.{arith}
+use Prim.Native.Nat.{◌≤◌, ◌-◌}
 use mathlib.Core.List.{[]}
 use Rattle.network.specs.Registers.{head_mark, latch_row}
 use Rattle.network.specs.Inner.Machine.{next_in_row}
-use Rattle.network.proofs.FillLaws.{Staged}
-use Rattle.links.proofs.WalkLaws.{reached}
+use Rattle.network.proofs.FillLaws.{Staged, stage_start}
+use Rattle.routers.proofs.HeadLaws.{heads_more}
+use Rattle.links.proofs.PairLaws.{filled}
 use Rattle.routers.proofs.step_heads.Given as goal
 
-abbrev pub invariant-loop-node : goal.invariant-loop-node
-invariant-loop-node l = Staged head_mark latch_row (reached l.node l.nodes) (next_in_row l.initial.s []) l.initial.s l.s
+abbrev pub invariant-loop-k : goal.invariant-loop-k
+invariant-loop-k l = (l.k ≤ l.count) × Staged head_mark latch_row l.k (next_in_row l.initial.s []) l.initial.s l.s
 
-abbrev pub decreases-loop-node : goal.decreases-loop-node
-decreases-loop-node l = l.nodes - l.node
+abbrev pub decreases-loop-k : goal.decreases-loop-k
+decreases-loop-k l = l.count - l.k

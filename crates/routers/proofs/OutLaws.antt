@@ -1,0 +1,33 @@
+-- The out registers, place by place.
+-- Assumes nothing.
+use Prim.Native.Nat.{ℕ, ◌+◌, ◌<◌, ◌≤◌}
+use mathlib.Core.List.{List}
+use mathlib.Core.Path.{◌≡◌, refl, sym, ◌∙◌, ap}
+use native.Mathlib.Omega.{arith}
+use lib.ListN.{length}
+use Rattle.words.specs.Words.{word, pick}
+use Rattle.words.proofs.TestLaws.{yes=, no=}
+use Rattle.network.specs.Registers.{put, row_words, moving_words, out_mark, out_word}
+use Rattle.network.specs.Inner.Stages.{out_from}
+use Rattle.network.proofs.FillLaws.{Staged, stage_more}
+use Rattle.links.proofs.PairLaws.{pair_wrote}
+
+pub out_mark_is : (marks cells : List ℕ) (k : ℕ) → word marks k ≡ out_from marks cells out_mark k
+unfolding out_from
+out_mark_is marks cells k = sym (ap (λ t. pick t (word marks k) (word cells k)) (yes= refl))
+
+pub out_word_is : (marks cells : List ℕ) (k : ℕ) → word cells k ≡ out_from marks cells out_word k
+unfolding out_from
+out_word_is marks cells k =
+    let other : out_word ≡ out_mark → ⊥ = λ e. (let z : ⊥ = omega (arith, e) in z) in
+    sym (ap (λ t. pick t (word marks k) (word cells k)) (no= other))
+
+-- one output more
+pub outs_more : (marks cells s now : List ℕ) (k : ℕ) → k < row_words → moving_words ≤ length s → Staged out_mark out_word k (out_from marks cells) s now
+    → (mark w : ℕ) → mark ≡ word marks k → w ≡ word cells k
+    → (s₁ s₂ : List ℕ) → s₁ ≡ put now out_mark k mark → s₂ ≡ put s₁ out_word k w → Staged out_mark out_word (k + 1) (out_from marks cells) s s₂
+outs_more marks cells s now k kl long g mark w a b s₁ s₂ p q =
+    let long₀ : moving_words ≤ length now = omega (arith, g.same_length) in
+    stage_more out_mark out_word k (out_from marks cells) s now s₂ (omega arith) kl g
+    (pair_wrote out_mark k mark w (λ row. out_from marks cells row k) now s₁ s₂ (omega arith) kl long₀ (a ∙ out_mark_is marks cells k)
+    (b ∙ out_word_is marks cells k) p q)
