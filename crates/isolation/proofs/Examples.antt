@@ -4,6 +4,7 @@ pub mod Landings
 pub mod UntilLanded
 pub mod LongLinks
 pub mod NoCircuits
+pub mod PairAlike
 pub mod Pair
 pub mod Swapped
 pub mod Unserved

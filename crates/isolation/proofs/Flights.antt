@@ -3,6 +3,7 @@ pub mod Flight
 pub mod Step
 pub mod Run
 pub mod Faults
+pub mod Slotted
 pub mod Period
 pub mod Trajectory
 pub mod Send

@@ -165,6 +165,7 @@ pub fn next_head_word(mark: u32, w: u32) -> u32
 }
 
 // The latch after a cycle: a header sets it, a packet's last word drops it.
+#[tactic(auto, using(crate::proofs::StageLaws::latch_set, crate::proofs::StageLaws::latch_dropped, crate::proofs::StageLaws::latch_held))]
 pub fn next_latch(s: &[u32], k: u32) -> u32
     ensures { result ≡ next_latch (k % 5) (reg_of s.now latch_row k) (reg_of s.now link_mark k) (reg_of s.now link_word k) }
 {

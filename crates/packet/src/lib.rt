@@ -39,6 +39,7 @@ impl Header {
     pub const ROUTES: u32 = 1 << Header::ROUTE_BITS;
 
     // The header of the three parts; 15 where one is too wide for its field.
+    #[tactic(auto, using(crate::proofs::HeaderLaws::kind_wide, crate::proofs::HeaderLaws::address_wide, crate::proofs::HeaderLaws::route_wide, crate::proofs::HeaderLaws::all_fit))]
     pub fn new(kind: u32, address: u32, route: u32) -> Built
         ensures { result ≡ built_of (header_number kind address route) (header_word kind address route) }
     {

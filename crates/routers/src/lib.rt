@@ -22,6 +22,9 @@ use network::{ROW_WORDS, put_reg, reg};
 const MOST_NODES: u32 = 16;
 
 // Where the row begins that is read by proved indices.
+// Marks from this one on are those of payload words.
+const PAYLOAD_MARK: u32 = 2;
+
 const HEAD_MARKS: usize = network::HEAD_MARK as usize * ROW_WORDS;
 
 // 1 for the mark of a payload word and a latch that holds no choice, else 0. Both are read before they are tested, so that the loop over
@@ -72,7 +75,7 @@ fn cross_input(s: &[u32], k: u32, marks: &mut [u32], cells: &mut [u32]) -> u32
     }
     let choice = reg(s, network::CHOICE_ROW, k);
     if choice == 0 {
-        if mark < 2 {
+        if mark < PAYLOAD_MARK {
             return 0;
         }
         return 1;

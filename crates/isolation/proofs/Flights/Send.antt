@@ -21,7 +21,8 @@ use Rattle.isolation.proofs.Flights.CellLaws.{not_full, pick_passes, pick_full, 
 use Rattle.isolation.proofs.Flights.Flight.{Flights, word_at, Paths, Holds, Leaves, Emits, NoClash}
 use Rattle.isolation.proofs.Flights.Run.{Runs, run_holds}
 use Rattle.isolation.proofs.Flights.Faults.{none_collides, none_headless}
-use Rattle.isolation.proofs.Flights.Period.{Slotted, begins_later, delay_later, flights_apart}
+use Rattle.isolation.proofs.Flights.Slotted.{Slotted}
+use Rattle.isolation.proofs.Flights.Period.{begins_later, delay_later, flights_apart}
 use Rattle.isolation.proofs.Routes.Way.{header_after, header_first, header_next}
 use Rattle.isolation.proofs.Routes.Ways.{Slot, Course, Leads, Ways}
 use Rattle.isolation.proofs.Flights.Trajectory.{Trajectory, opens_both, move_opens, move_sends, move_rests, begins, long, begins_next, long_is, Date, date, to_go_next}

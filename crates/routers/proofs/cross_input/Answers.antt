@@ -10,8 +10,8 @@ returns-then-mark-eq0 c =
     crossed_none _ _ _ _ c.requires.1 c.requires.2 (no_payload _ _ _ c.reg-mark.ensures (omega arith))
     (asks_empty _ _ _ c.reg-mark.ensures (omega arith))
 
-pub returns-then-mark-lt2 : goal.returns-then-mark-lt2
-returns-then-mark-lt2 c =
+pub returns-then-mark-lt-PAYLOAD_MARK : goal.returns-then-mark-lt-PAYLOAD_MARK
+returns-then-mark-lt-PAYLOAD_MARK c =
     crossed_none _ _ _ _ c.requires.1 c.requires.2 (no_payload _ _ _ c.reg-mark.ensures (omega arith))
     (asks_none _ _ _ c.reg-choice.ensures (omega arith))
 
