@@ -7,10 +7,10 @@ use mathlib.Core.Path.{◌≡◌, refl, sym, ◌∙◌, ap, subst}
 use native.Mathlib.Omega.{arith}
 use lib.ListN.{length}
 use lib.Bits.{bit_or}
-use lib.Dec.{T, eqb, eqb→eq}
+use lib.Dec.{eqb, eqb→eq}
 use Rattle.words.specs.Tests.{◌=?◌, ◌≤?◌}
 use Rattle.words.specs.Words.{pick}
-use Rattle.words.proofs.Below.{every, every_at}
+use Rattle.words.proofs.Below.{every_at}
 use Rattle.words.proofs.TestLaws.{and_left}
 use Rattle.sheet.specs.Sheet.{circuits, nodes, is_long}
 use Rattle.occupancy.specs.Inner.Occupancy.{bit_at}

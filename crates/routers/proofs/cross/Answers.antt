@@ -1,5 +1,5 @@
 -- `routers::cross` meets its contract: the mask has every node, so that nothing is asked beside it.
-use Rattle.std.proofs.Common.{◌<◌, ◌/◌, arith}
+use Rattle.std.proofs.Common.{◌/◌, arith}
 use Rattle.network.proofs.LiveLaws.{all_nodes}
 use Rattle.routers.proofs.cross.Goals as goal
 

@@ -1,12 +1,9 @@
 -- `routers::step_heads` meets its contract: each turn writes one place of the four rows, from registers that are not written yet.
-use native.Mathlib.Omega.{arith}
 use Prim.Native.Nat.{◌≤◌, ◌-◌}
 use mathlib.Core.List.{[]}
 use Rattle.network.specs.Registers.{head_mark, latch_row}
 use Rattle.network.specs.Inner.Machine.{next_in_row}
-use Rattle.network.proofs.FillLaws.{Staged, stage_start}
-use Rattle.routers.proofs.HeadLaws.{heads_more}
-use Rattle.links.proofs.PairLaws.{filled}
+use Rattle.network.proofs.FillLaws.{Staged}
 use Rattle.routers.proofs.step_heads.Given as goal
 
 abbrev pub invariant-loop-k : goal.invariant-loop-k

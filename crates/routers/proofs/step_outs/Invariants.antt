@@ -1,11 +1,8 @@
 -- `routers::step_outs` meets its contract: each turn writes one place of the two rows, from the tables.
-use native.Mathlib.Omega.{arith}
 use Prim.Native.Nat.{◌≤◌, ◌-◌}
 use Rattle.network.specs.Registers.{out_mark, out_word}
 use Rattle.network.specs.Inner.Stages.{out_from}
-use Rattle.network.proofs.FillLaws.{Staged, stage_start}
-use Rattle.routers.proofs.OutLaws.{outs_more}
-use Rattle.links.proofs.PairLaws.{filled}
+use Rattle.network.proofs.FillLaws.{Staged}
 use Rattle.routers.proofs.step_outs.Given as goal
 
 abbrev pub invariant-loop-k : goal.invariant-loop-k
