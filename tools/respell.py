@@ -31,13 +31,17 @@ BY_HAND = {
     "source-word": "source_word_is",
     "same-lengths": "same_lengths",
     "in-force": "in_force",
+    "source-wire": "source_wire",
+    "cycle-now": "cycle_now",
+    "write-at": "write_at",
+    "mark-at": "mark_at",
 }
 
 # Names that port.py had turned already and that fall together with one turned here, each in its file.
 IN_FILE = {
     "crates/network/proofs/QuietLaws.antt": {"empty-at": "empty_place"},
-    "crates/sheet/proofs/ServedLaws.antt": {"mark_at": "mark_within"},
-    "crates/isolation/proofs/Reckoning/SenderFollowed.antt": {"opened_now": "opened_now_is"},
+    "crates/sheet/proofs/ServedLaws.antt": {"mark-at": "mark_within", "mark_at": "mark_within"},
+    "crates/isolation/proofs/Reckoning/SenderFollowed.antt": {"opened-now": "opened_now_is", "opened_now": "opened_now_is"},
     "crates/timetable/proofs/TimetableLaws.antt": {"in_order": "in_order_when"},
     "crates/machine/proofs/JoinLaws.antt": {"memory_word": "memory_word_is"},
     "crates/machine/proofs/CarryLaws.antt": {"memory_word": "memory_word_is"},

@@ -104,7 +104,8 @@ pub fn fill(
             continue;
         }
         let stepped = session::cycle_live(s, m, live);
-        if stepped.number != 0 {
+        let refused = stepped.number != 0;
+        if refused {
             return Page {
                 place: at,
                 cycles: time - first,

@@ -48,20 +48,20 @@ loop-time-preserved-then-crossed-ne0 c = (fill_rest _ _ _ _ _ _ _ _ _ _ c.loop-t
 pub cycle_live-stepped-requires : goal.cycle_live-stepped-requires
 cycle_live-stepped-requires c = ((fill_same _ _ _ _ _ _ _ _ _ _ c.loop-time.invariant.0 c.requires.4 c.cross-crossed.ensures.rested (omega (arith, c.if-crossed-ne0.false))).ready, c.cross-crossed.ensures.covered _ c.loop-time.invariant.1)
 
-pub overflow_sub-result-then-stepped-ne0 : goal.overflow_sub-result-then-stepped-ne0
-overflow_sub-result-then-stepped-ne0 c = omega (arith, c.loop-time.invariant.0.begun)
+pub overflow_sub-result-then-refused : goal.overflow_sub-result-then-refused
+overflow_sub-result-then-refused c = omega (arith, c.loop-time.invariant.0.begun)
 
-pub shape_of-s-then-stepped-ne0 : goal.shape_of-s-then-stepped-ne0
-shape_of-s-then-stepped-ne0 c = still_long _ _ _ _ _ _ _ _ _ _ (fill_same _ _ _ _ _ _ _ _ _ _ c.loop-time.invariant.0 c.requires.4 c.cross-crossed.ensures.rested (omega (arith, c.if-crossed-ne0.false))) (cycle_after _ _ c.cycle_live-stepped.ensures.state c.cycle_live-stepped.ensures.memory)
+pub shape_of-s-then-refused : goal.shape_of-s-then-refused
+shape_of-s-then-refused c = still_long _ _ _ _ _ _ _ _ _ _ (fill_same _ _ _ _ _ _ _ _ _ _ c.loop-time.invariant.0 c.requires.4 c.cross-crossed.ensures.rested (omega (arith, c.if-crossed-ne0.false))) (cycle_after _ _ c.cycle_live-stepped.ensures.state c.cycle_live-stepped.ensures.memory)
 
-pub shape_of-m-then-stepped-ne0 : goal.shape_of-m-then-stepped-ne0
-shape_of-m-then-stepped-ne0 c = still_wide _ _ _ _ _ _ _ _ _ _ (fill_same _ _ _ _ _ _ _ _ _ _ c.loop-time.invariant.0 c.requires.4 c.cross-crossed.ensures.rested (omega (arith, c.if-crossed-ne0.false))) (cycle_after _ _ c.cycle_live-stepped.ensures.state c.cycle_live-stepped.ensures.memory)
+pub shape_of-m-then-refused : goal.shape_of-m-then-refused
+shape_of-m-then-refused c = still_wide _ _ _ _ _ _ _ _ _ _ (fill_same _ _ _ _ _ _ _ _ _ _ c.loop-time.invariant.0 c.requires.4 c.cross-crossed.ensures.rested (omega (arith, c.if-crossed-ne0.false))) (cycle_after _ _ c.cycle_live-stepped.ensures.state c.cycle_live-stepped.ensures.memory)
 
-pub shape_of-buffer-then-stepped-ne0 : goal.shape_of-buffer-then-stepped-ne0
-shape_of-buffer-then-stepped-ne0 c = c.loop-time.invariant.0.long
+pub shape_of-buffer-then-refused : goal.shape_of-buffer-then-refused
+shape_of-buffer-then-refused c = c.loop-time.invariant.0.long
 
-pub returns-then-stepped-ne0 : goal.returns-then-stepped-ne0
-returns-then-stepped-ne0 c = let each = fill_refused _ _ _ _ _ _ _ _ _ _ (fill_same _ _ _ _ _ _ _ _ _ _ c.loop-time.invariant.0 c.requires.4 c.cross-crossed.ensures.rested (omega (arith, c.if-crossed-ne0.false))) (cycle_after _ _ c.cycle_live-stepped.ensures.state c.cycle_live-stepped.ensures.memory) c.cycle_live-stepped.ensures.number (λ e. omega (arith, e, c.if-stepped-ne0.true)) c.loop-time-test.true in record { cycles = each.0; words = each.1.0; lines = each.1.1.0; buffer = each.1.1.1.0; fits = each.1.1.1.1.0; ready = each.1.1.1.1.1 }
+pub returns-then-refused : goal.returns-then-refused
+returns-then-refused c = let each = fill_refused _ _ _ _ _ _ _ _ _ _ (fill_same _ _ _ _ _ _ _ _ _ _ c.loop-time.invariant.0 c.requires.4 c.cross-crossed.ensures.rested (omega (arith, c.if-crossed-ne0.false))) (cycle_after _ _ c.cycle_live-stepped.ensures.state c.cycle_live-stepped.ensures.memory) c.cycle_live-stepped.ensures.number (λ e. omega (arith, e, c.if-refused.true)) c.loop-time-test.true in record { cycles = each.0; words = each.1.0; lines = each.1.1.0; buffer = each.1.1.1.0; fits = each.1.1.1.1.0; ready = each.1.1.1.1.1 }
 
 pub put_cycle-at-requires : goal.put_cycle-at-requires
 put_cycle-at-requires c = (c.requires.1, omega (arith, c.requires.1), landed_beside _ _ _ _ _ _ _ _ _ _ (fill_same _ _ _ _ _ _ _ _ _ _ c.loop-time.invariant.0 c.requires.4 c.cross-crossed.ensures.rested (omega (arith, c.if-crossed-ne0.false))) c.requires.4 (cycle_after _ _ c.cycle_live-stepped.ensures.state c.cycle_live-stepped.ensures.memory) c.cycle_live-stepped.ensures.covered)
@@ -73,7 +73,7 @@ pub loop-time-smaller : goal.loop-time-smaller
 loop-time-smaller c = omega (arith, c.loop-time.invariant.0.in_time)
 
 pub loop-time-preserved : goal.loop-time-preserved
-loop-time-preserved c = (fill_more _ _ _ _ _ _ _ _ _ _ (fill_same _ _ _ _ _ _ _ _ _ _ c.loop-time.invariant.0 c.requires.4 c.cross-crossed.ensures.rested (omega (arith, c.if-crossed-ne0.false))) (cycle_after _ _ c.cycle_live-stepped.ensures.state c.cycle_live-stepped.ensures.memory) c.loop-time-test.true c.requires.1 (omega arith) (sym c.cycle_live-stepped.ensures.number ∙ omega (arith, c.if-stepped-ne0.false)) c.put_cycle-at.ensures.place c.put_cycle-at.ensures.bytes, c.cycle_live-stepped.ensures.covered)
+loop-time-preserved c = (fill_more _ _ _ _ _ _ _ _ _ _ (fill_same _ _ _ _ _ _ _ _ _ _ c.loop-time.invariant.0 c.requires.4 c.cross-crossed.ensures.rested (omega (arith, c.if-crossed-ne0.false))) (cycle_after _ _ c.cycle_live-stepped.ensures.state c.cycle_live-stepped.ensures.memory) c.loop-time-test.true c.requires.1 (omega arith) (sym c.cycle_live-stepped.ensures.number ∙ omega (arith, c.if-refused.false)) c.put_cycle-at.ensures.place c.put_cycle-at.ensures.bytes, c.cycle_live-stepped.ensures.covered)
 
 pub overflow_sub-result-2 : goal.overflow_sub-result-2
 overflow_sub-result-2 c = omega (arith, c.loop-time.invariant.0.begun)
