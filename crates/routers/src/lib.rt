@@ -21,10 +21,10 @@ use network::{ROW_WORDS, put_reg, reg};
 // every row in the state, and leave out the test at each access.
 const MOST_NODES: u32 = 16;
 
-// Where the row begins that is read by proved indices.
 // Marks from this one on are those of payload words.
 const PAYLOAD_MARK: u32 = 2;
 
+// Where the row begins that is read by proved indices.
 const HEAD_MARKS: usize = network::HEAD_MARK as usize * ROW_WORDS;
 
 // 1 for the mark of a payload word and a latch that holds no choice, else 0. Both are read before they are tested, so that the loop over
