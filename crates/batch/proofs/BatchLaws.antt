@@ -115,27 +115,27 @@ module _ (at : ℕ → Transfer) (s₀ answers₀ : List ℕ) where
       )
 
 -- the number of a list of so many transfers: a number of 12 and 13, 21 for either length, or none
-module _ (s : List ℕ) (transfers answerWords : ℕ) {n : ℕ} (e : n ≡ state_number s) where
-  pub list_early : (n ≡ 0 → ⊥) → n ≡ start_all_number s transfers answerWords
+module _ (s : List ℕ) (transfers answer_words : ℕ) {n : ℕ} (e : n ≡ state_number s) where
+  pub list_early : (n ≡ 0 → ⊥) → n ≡ start_all_number s transfers answer_words
   unfolding start_all_number
   list_early ne = then_first _ e ne
 
-  pub list_many : n ≡ 0 → 64 < transfers → 21 ≡ start_all_number s transfers answerWords
+  pub list_many : n ≡ 0 → 64 < transfers → 21 ≡ start_all_number s transfers answer_words
   unfolding start_all_number
   list_many z l = then_next (sym e ∙ z) (unless_no 21 (sym (and_no _ (no≤ l))))
 
-  pub list_unanswered : n ≡ 0 → answerWords < transfers → 21 ≡ start_all_number s transfers answerWords
+  pub list_unanswered : n ≡ 0 → answer_words < transfers → 21 ≡ start_all_number s transfers answer_words
   unfolding start_all_number
   list_unanswered z l = then_next (sym e ∙ z) (unless_no 21 (and_no_right _ _ (no≤ l)))
 
-  pub list_taken : n ≡ 0 → transfers ≤ 64 → transfers ≤ answerWords → 0 ≡ start_all_number s transfers answerWords
+  pub list_taken : n ≡ 0 → transfers ≤ 64 → transfers ≤ answer_words → 0 ≡ start_all_number s transfers answer_words
   unfolding start_all_number
   list_taken z l m = then_next (sym e ∙ z) (unless_yes 21 (and_both (yes≤ l) (yes≤ m)))
 
 -- a list that is taken passes 12 and 13
-pub all_passes : (s : List ℕ) (transfers answerWords : ℕ) → start_all_number s transfers answerWords ≡ 0 → state_number s ≡ 0
+pub all_passes : (s : List ℕ) (transfers answer_words : ℕ) → start_all_number s transfers answer_words ≡ 0 → state_number s ≡ 0
 unfolding start_all_number
-all_passes s transfers answerWords e = (then_zero _ _ e).0
+all_passes s transfers answer_words e = (then_zero _ _ e).0
 
 -- what a list leaves, from its number
 module _ (ts : List Transfer) (s answers : List ℕ) {n : ℕ} (e : n ≡ start_all_number s (length ts) (length answers)) where

@@ -30,38 +30,38 @@ module _ (circuits reads writes counts kinds : List ℕ) where
   abbrev made : List Transfer
   made = transfers_of circuits reads writes counts kinds
 
-  as_long : (s : List ℕ) (answerWords : ℕ) → start_all_number s (length circuits) answerWords ≡ start_all_number s (length made) answerWords
-  as_long s answerWords = ap (λ k. start_all_number s k answerWords) (sym (first_length _ (length circuits)))
+  as_long : (s : List ℕ) (answer_words : ℕ) → start_all_number s (length circuits) answer_words ≡ start_all_number s (length made) answer_words
+  as_long s answer_words = ap (λ k. start_all_number s k answer_words) (sym (first_length _ (length circuits)))
 
   -- the lists' number, from that of a list of transfers and from the test of their lengths
-  pub lists_early : (s : List ℕ) (answerWords : ℕ) {n : ℕ} → n ≡ start_all_number s (length circuits) answerWords → (n ≡ 0 → ⊥)
-      → n ≡ start_lists_number circuits reads writes counts kinds s answerWords
+  pub lists_early : (s : List ℕ) (answer_words : ℕ) {n : ℕ} → n ≡ start_all_number s (length circuits) answer_words → (n ≡ 0 → ⊥)
+      → n ≡ start_lists_number circuits reads writes counts kinds s answer_words
   unfolding start_lists_number
-  lists_early s answerWords e ne = then_first _ (e ∙ as_long s answerWords) ne
+  lists_early s answer_words e ne = then_first _ (e ∙ as_long s answer_words) ne
 
-  pub lists_even : (s : List ℕ) (answerWords : ℕ) {n : ℕ} {b : Bool} → n ≡ start_all_number s (length circuits) answerWords → n ≡ 0
-      → b ≡ same_lengths circuits reads writes counts kinds → b ≡ true → 0 ≡ start_lists_number circuits reads writes counts kinds s answerWords
+  pub lists_even : (s : List ℕ) (answer_words : ℕ) {n : ℕ} {b : Bool} → n ≡ start_all_number s (length circuits) answer_words → n ≡ 0
+      → b ≡ same_lengths circuits reads writes counts kinds → b ≡ true → 0 ≡ start_lists_number circuits reads writes counts kinds s answer_words
   unfolding start_lists_number
-  lists_even s answerWords e z f t = then_next (sym (e ∙ as_long s answerWords) ∙ z) (unless_yes 21 (sym f ∙ t))
+  lists_even s answer_words e z f t = then_next (sym (e ∙ as_long s answer_words) ∙ z) (unless_yes 21 (sym f ∙ t))
 
-  pub lists_uneven : (s : List ℕ) (answerWords : ℕ) {n : ℕ} {b : Bool} → n ≡ start_all_number s (length circuits) answerWords → n ≡ 0
-      → b ≡ same_lengths circuits reads writes counts kinds → b ≡ false → 21 ≡ start_lists_number circuits reads writes counts kinds s answerWords
+  pub lists_uneven : (s : List ℕ) (answer_words : ℕ) {n : ℕ} {b : Bool} → n ≡ start_all_number s (length circuits) answer_words → n ≡ 0
+      → b ≡ same_lengths circuits reads writes counts kinds → b ≡ false → 21 ≡ start_lists_number circuits reads writes counts kinds s answer_words
   unfolding start_lists_number
-  lists_uneven s answerWords e z f t = then_next (sym (e ∙ as_long s answerWords) ∙ z) (unless_no 21 (sym f ∙ t))
+  lists_uneven s answer_words e z f t = then_next (sym (e ∙ as_long s answer_words) ∙ z) (unless_no 21 (sym f ∙ t))
 
   -- lists that are taken: of one length, and their transfers are taken
-  taken_both : (s : List ℕ) (answerWords : ℕ) {n : ℕ} → n ≡ start_lists_number circuits reads writes counts kinds s answerWords → n ≡ 0
-      → (start_all_number s (length made) answerWords ≡ 0) × (same_lengths circuits reads writes counts kinds ≡ true)
+  taken_both : (s : List ℕ) (answer_words : ℕ) {n : ℕ} → n ≡ start_lists_number circuits reads writes counts kinds s answer_words → n ≡ 0
+      → (start_all_number s (length made) answer_words ≡ 0) × (same_lengths circuits reads writes counts kinds ≡ true)
   unfolding start_lists_number
-  taken_both s answerWords e z =
+  taken_both s answer_words e z =
       let parts = then_zero _ _ (sym e ∙ z) in
       (parts.0, unless_zero 21 _ (omega arith) parts.1)
 
-  pub lists_passed : (s : List ℕ) (answerWords : ℕ) {n : ℕ} → n ≡ start_lists_number circuits reads writes counts kinds s answerWords → n ≡ 0
-      → (state_number s ≡ 0) × (length circuits ≤ answerWords)
-  lists_passed s answerWords e z =
-      let taken = as_long s answerWords ∙ (taken_both s answerWords e z).0 in
-      (all_passes s (length circuits) answerWords taken, (list_passed s (length circuits) answerWords taken).answered)
+  pub lists_passed : (s : List ℕ) (answer_words : ℕ) {n : ℕ} → n ≡ start_lists_number circuits reads writes counts kinds s answer_words → n ≡ 0
+      → (state_number s ≡ 0) × (length circuits ≤ answer_words)
+  lists_passed s answer_words e z =
+      let taken = as_long s answer_words ∙ (taken_both s answer_words e z).0 in
+      (all_passes s (length circuits) answer_words taken, (list_passed s (length circuits) answer_words taken).answered)
 
   -- what they leave
   pub lists_kept : (s answers : List ℕ) {n : ℕ} → n ≡ start_lists_number circuits reads writes counts kinds s (length answers) → (n ≡ 0 → ⊥)

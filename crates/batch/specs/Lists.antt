@@ -31,11 +31,11 @@ module _ (circuits reads writes counts kinds : List ℕ) where
 
   -- 12, 13 and 21 as that list of transfers answers them, then lists of different lengths (21)
   unfoldable pub start_lists_number : List ℕ → ℕ → ℕ
-  start_lists_number s answerWords = number (start_all transfers_of answerWords) (lend_state s) then unless 21 same_lengths
+  start_lists_number s answer_words = number (start_all transfers_of answer_words) (lend_state s) then unless 21 same_lengths
 
   -- the state afterwards, and the answer words: as that list leaves them, and as they were where the lengths differ
   unfoldable pub lists_state : List ℕ → ℕ → List ℕ
-  lists_state s answerWords = pick same_lengths (after (start_all transfers_of answerWords) (lend_state s)).state s
+  lists_state s answer_words = pick same_lengths (after (start_all transfers_of answer_words) (lend_state s)).state s
 
   unfoldable pub lists_answers : List ℕ → List ℕ → List ℕ
   lists_answers s answers = pick same_lengths (answers_after s transfers_of answers) answers

@@ -3,7 +3,7 @@
 
 ghost use Rattle.std.specs.Prelude.{◌≡◌, true, ◌<◌};
 ghost use Rattle.sheet.specs.Sheet.{blank_sheet, meant, schedules};
-ghost use Rattle.sheet.specs.Rules.{frame_rules, circuit_rules, entry_rules, first_broken, rule4, sheet_number, check_number, verdict as sheetVerdict};
+ghost use Rattle.sheet.specs.Rules.{frame_rules, circuit_rules, entry_rules, first_broken, rule4, sheet_number, check_number, verdict as sheet_verdict};
 ghost use Rattle.sheet.specs.Inner.Passed.{Framed};
 ghost use Rattle.checker.specs.Answers.{outcome_of, entries_number, entries_part};
 
@@ -74,7 +74,7 @@ fn schedules_number(z: &[u32]) -> u32
 // The first of the numbers 1 to 11 that applies to a sheet's words as they stand, which is how a state holds them, or 0. A sheet that the quick
 // pass accepts keeps them all; any other is judged rule by rule.
 pub fn rules_number(z: &[u32]) -> u32
-    ensures { result ≡ sheetVerdict z.now }
+    ensures { result ≡ sheet_verdict z.now }
 {
     if accept::accepts(z) {
         return 0;

@@ -2,7 +2,7 @@
 #![tactic(auto)]
 
 ghost use Rattle.std.specs.Prelude.{◌≡◌, ◌*◌, ◌<◌};
-ghost use Rattle.sheet.specs.Sheet.{nodes as nodesOf};
+ghost use Rattle.sheet.specs.Sheet.{nodes as nodes_of};
 ghost use Rattle.sheet.specs.Inner.Passed.{Headed};
 ghost use Rattle.network.specs.View.{ports};
 ghost use Rattle.network.specs.Registers.{sheet_in};
@@ -25,7 +25,7 @@ fn in_region(region: Region, address: u32) -> bool
 // Where a header on an output of a node goes: one more than the node to whose memory it comes, 0 where it comes to none. is_inbound names
 // nodes and outputs of a sheet that passes, which meets the requires, here and below.
 fn bound_for(z: &[u32], node: u32, output: u32, word: u32) -> u32
-    requires { (Headed z.now) × (node < nodesOf z.now) × (output < ports) }
+    requires { (Headed z.now) × (node < nodes_of z.now) × (output < ports) }
     ensures { result ≡ bound_for furthest z.now node output word }
 {
     let cols = sheet::columns_of(z);
@@ -49,7 +49,7 @@ fn bound_for(z: &[u32], node: u32, output: u32, word: u32) -> u32
 
 // A header on an output of a node comes into a region; its address is tested first, since most headers are of other regions.
 fn comes_into(z: &[u32], region: Region, node: u32, output: u32, word: u32) -> bool
-    requires { (Headed z.now) × (node < nodesOf z.now) × (output < ports) }
+    requires { (Headed z.now) × (node < nodes_of z.now) × (output < ports) }
     ensures { result ≡ comes_into z.now region node output word }
 {
     if in_region(region, Header(word).address()) {
@@ -61,7 +61,7 @@ fn comes_into(z: &[u32], region: Region, node: u32, output: u32, word: u32) -> b
 
 // The link register at place k holds a header that comes into the region; is_inbound lends the state's own sheet, here and below.
 fn link_inbound(s: &[u32], z: &[u32], region: Region, k: u32) -> bool
-    requires { (z.now ≡ sheet_in s.now) × (Headed z.now) × (k < nodesOf z.now * ports) }
+    requires { (z.now ≡ sheet_in s.now) × (Headed z.now) × (k < nodes_of z.now * ports) }
     ensures { result ≡ link_inbound s.now region k }
 {
     if reg(s, network::LINK_MARK, k) != 1 {
@@ -75,7 +75,7 @@ fn link_inbound(s: &[u32], z: &[u32], region: Region, k: u32) -> bool
 
 // The head register does, where an output is chosen for its header.
 fn head_inbound(s: &[u32], z: &[u32], region: Region, k: u32) -> bool
-    requires { (z.now ≡ sheet_in s.now) × (Headed z.now) × (k < nodesOf z.now * ports) }
+    requires { (z.now ≡ sheet_in s.now) × (Headed z.now) × (k < nodes_of z.now * ports) }
     ensures { result ≡ head_inbound s.now region k }
 {
     if reg(s, network::HEAD_MARK, k) != 1 {
@@ -93,7 +93,7 @@ fn head_inbound(s: &[u32], z: &[u32], region: Region, k: u32) -> bool
 
 // The out register does.
 fn out_inbound(s: &[u32], z: &[u32], region: Region, k: u32) -> bool
-    requires { (z.now ≡ sheet_in s.now) × (Headed z.now) × (k < nodesOf z.now * ports) }
+    requires { (z.now ≡ sheet_in s.now) × (Headed z.now) × (k < nodes_of z.now * ports) }
     ensures { result ≡ out_inbound s.now region k }
 {
     if reg(s, network::OUT_MARK, k) != 1 {
@@ -104,7 +104,7 @@ fn out_inbound(s: &[u32], z: &[u32], region: Region, k: u32) -> bool
 
 // The extra register does, where the output's link has one.
 fn extra_inbound(s: &[u32], z: &[u32], region: Region, k: u32) -> bool
-    requires { (z.now ≡ sheet_in s.now) × (Headed z.now) × (k < nodesOf z.now * ports) }
+    requires { (z.now ≡ sheet_in s.now) × (Headed z.now) × (k < nodes_of z.now * ports) }
     ensures { result ≡ extra_inbound s.now region k }
 {
     if reg(s, network::EXTRA_MARK, k) != 1 {
@@ -118,7 +118,7 @@ fn extra_inbound(s: &[u32], z: &[u32], region: Region, k: u32) -> bool
 
 // A header at place k comes into the region. A place without headers costs the four reads of its marks.
 fn header_inbound(s: &[u32], z: &[u32], region: Region, k: u32) -> bool
-    requires { (z.now ≡ sheet_in s.now) × (Headed z.now) × (k < nodesOf z.now * ports) }
+    requires { (z.now ≡ sheet_in s.now) × (Headed z.now) × (k < nodes_of z.now * ports) }
     ensures { result ≡ header_inbound s.now region k }
 {
     if link_inbound(s, z, region, k) {

@@ -7,7 +7,7 @@ use Rattle.session.specs.Calls.{loaded, order_number}
 
 -- a sheet of a 2 by 2 grid with 8 words of memory a node and one schedule of period 9: its circuits, and its entries
 abbrev pub sheet_on : ℕ → List ℕ → ℕ → List ℕ → List ℕ
-sheet_on circuits circuitWords entries entryWords = (2 ∷ 2 ∷ 8 ∷ circuits ∷ 1 ∷ []) ++ circuitWords ++ (9 ∷ entries ∷ []) ++ entryWords
+sheet_on circuits circuit_words entries entry_words = (2 ∷ 2 ∷ 8 ∷ circuits ∷ 1 ∷ []) ++ circuit_words ++ (9 ∷ entries ∷ []) ++ entry_words
 
 -- sheet A with another offset, route and rest
 abbrev pub sheet_a : ℕ → ℕ → List ℕ → List ℕ

@@ -52,7 +52,7 @@ abbrev pub event_of : Call → Lent → List Event
 event_of (load z) w = []
 event_of (start circuit read_address write_address count kind) w =
     start_done circuit (record { read_address = read_address; write_address = write_address; count = count; kind = kind }) ∷ []
-event_of (start_all ts answerWords) w =
+event_of (start_all ts answer_words) w =
     map start_of (carried_out w.state ts)
 event_of (store node address new) w = store_done node address new ∷ []
 event_of (order schedule period) w = order_done schedule period ∷ []
@@ -66,7 +66,7 @@ events (x ∷ calls) w = pick (number x w =? 0) (event_of x w) [] ++ events call
 
 -- document 02, L1: a list tells what its single starts tell, one after another
 abbrev pub TellsSingles : Type 0
-TellsSingles = (ts : List Listed) (answerWords : ℕ) (w : Lent) → event_of (start_all ts answerWords) w ≡ events (map as_start ts) w
+TellsSingles = (ts : List Listed) (answer_words : ℕ) (w : Lent) → event_of (start_all ts answer_words) w ≡ events (map as_start ts) w
 
 -- the events of a session's first k calls
 abbrev pub events_before : Session → ℕ → List Event

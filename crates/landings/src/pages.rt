@@ -1,7 +1,7 @@
 // The listing, page by page: cycles are run, and their lines put into a buffer, until it could overflow.
 ghost use Rattle.std.specs.Prelude.{◌≡◌, ◌+◌, ◌*◌, ◌<◌, ◌≤◌, length, take};
 ghost use Rattle.words.specs.Inner.Puts.{put_all};
-ghost use Rattle.sheet.specs.Sheet.{nodes as nodeCount};
+ghost use Rattle.sheet.specs.Sheet.{nodes as node_count};
 ghost use Rattle.occupancy.specs.Inner.Occupancy.{bit_at};
 ghost use Rattle.network.specs.declared.Live.{Live as LiveOf};
 ghost use Rattle.network.specs.Registers.{reg as reg_of, sheet_in, landing_mark};
@@ -79,7 +79,7 @@ pub fn fill(
     last: u32,
     buffer: &mut [u8],
 ) -> Page
-    requires { (memory_number s.old m.old ≡ 0) × (nodes ≤ 16) × (first ≤ last) × (length buffer.old ≡ 65536) × (nodes ≡ nodeCount (sheet_in s.old)) }
+    requires { (memory_number s.old m.old ≡ 0) × (nodes ≤ 16) × (first ≤ last) × (length buffer.old ≡ 65536) × (nodes ≡ node_count (sheet_in s.old)) }
     ensures cycles { Paged first last (lend s.old m.old) result.cycles result.refusal }
     ensures words { lend s.new m.new ≡ cycles_on result.cycles (lend s.old m.old) }
     ensures lines { take result.place buffer.new ≡ cycles_lines nodes first result.cycles (lend s.old m.old) }

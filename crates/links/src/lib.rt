@@ -5,7 +5,7 @@ ghost use Rattle.std.specs.Prelude.{◌≡◌, [], ◌+◌, ◌*◌, ◌<◌, �
 ghost use Rattle.words.specs.Words.{pick, word as word_at};
 ghost use Rattle.occupancy.specs.Inner.Occupancy.{bit_at};
 ghost use Rattle.torus.specs.Inner.Grid.{InGrid};
-ghost use Rattle.sheet.specs.Sheet.{is_long, nodes as nodeCount};
+ghost use Rattle.sheet.specs.Sheet.{is_long, nodes as node_count};
 ghost use Rattle.sheet.specs.Inner.Passed.{Headed};
 ghost use Rattle.network.specs.Registers.{sheet_in, moving_words, row_words, link_mark, link_word, out_mark, extra_mark, extra_word};
 ghost use Rattle.network.specs.Inner.Machine.{next_in_row};
@@ -135,8 +135,8 @@ fn push_sources(s: &mut [u32], nodes: u32, sources: u64, marks: &[u32], cells: &
 // of those that have, a mark and a word a node. They are emptied first, since few words are under way in most cycles. The answer is the
 // mask of the nodes whose link registers may hold something now.
 pub fn step_links_among(s: &mut [u32], ends: u64, sources: u64, marks: &[u32], cells: &[u32]) -> u64
-    requires { (Headed (sheet_in s.old)) × (moving_words ≤ length s.old) × ((node : _) → node < nodeCount (sheet_in s.old) → bit_at ends node ≡ 0 → SidesEmpty s.old node (pick (is_long (sheet_in s.old)) extra_mark out_mark)) × ((node : _) → node < nodeCount (sheet_in s.old) → bit_at sources node ≡ 0 → (word_at marks.now node ≡ 0) × (word_at cells.now node ≡ 0)) }
-    ensures state { s.new ≡ stage link_mark link_word (nodeCount (sheet_in s.old) * 5) (link_from marks.now cells.now s.old) s.old }
+    requires { (Headed (sheet_in s.old)) × (moving_words ≤ length s.old) × ((node : _) → node < node_count (sheet_in s.old) → bit_at ends node ≡ 0 → SidesEmpty s.old node (pick (is_long (sheet_in s.old)) extra_mark out_mark)) × ((node : _) → node < node_count (sheet_in s.old) → bit_at sources node ≡ 0 → (word_at marks.now node ≡ 0) × (word_at cells.now node ≡ 0)) }
+    ensures state { s.new ≡ stage link_mark link_word (node_count (sheet_in s.old) * 5) (link_from marks.now cells.now s.old) s.old }
     ensures live { EmptyBeside s.new result link_mark × EmptyBeside s.new result link_word }
 {
     if s.len() < network::MOVING_WORDS {
@@ -165,7 +165,7 @@ pub fn step_links_among(s: &mut [u32], ends: u64, sources: u64, marks: &[u32], c
 // mark and a word a node.
 pub fn step_links(s: &mut [u32], marks: &[u32], cells: &[u32])
     requires { (Headed (sheet_in s.old)) × (moving_words ≤ length s.old) }
-    ensures { s.new ≡ stage link_mark link_word (nodeCount (sheet_in s.old) * 5) (link_from marks.now cells.now s.old) s.old }
+    ensures { s.new ≡ stage link_mark link_word (node_count (sheet_in s.old) * 5) (link_from marks.now cells.now s.old) s.old }
 {
     step_links_among(s, network::ALL_NODES, network::ALL_NODES, marks, cells);
 }
@@ -183,7 +183,7 @@ fn step_extra(s: &mut [u32], k: u32)
 // The extra registers of long vertical links, after the links have taken what was in them and before the outputs change; a grid without
 // such links has none.
 pub fn step_extras(s: &mut [u32], nodes: u32, long: bool)
-    requires { (moving_words ≤ length s.old) × (nodes ≡ nodeCount (sheet_in s.old)) × (nodes ≤ 16) × (long ≡ is_long (sheet_in s.old)) }
+    requires { (moving_words ≤ length s.old) × (nodes ≡ node_count (sheet_in s.old)) × (nodes ≤ 16) × (long ≡ is_long (sheet_in s.old)) }
     ensures { s.new ≡ stage extra_mark extra_word (nodes * 5) (next_in_row s.old []) s.old }
 {
     if s.len() < network::MOVING_WORDS {

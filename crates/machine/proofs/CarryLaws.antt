@@ -36,7 +36,7 @@ use Rattle.tables.specs.Inner.Moving.{Moving}
 use Rattle.machine.proofs.JoinLaws.{few_circuits, headed_ready, headed_off, headed_sheet, linked_ready, linked_sheet, memory_mark_is, memory_word_is, memory_is, received_ready}
 use Rattle.machine.proofs.JoinLaws.{extended_long, extended_off, out_mark_is, out_word_is, crossed_ready, crossed_sheet, crossed_sender, slot_is, sent_ready, received_same, clocked_same, state_is}
 
-module _ {s m slots marks cells out-marks out-words : List ℕ} (T : Tables s m slots marks cells out-marks out-words) (R : Ready s m)
+module _ {s m slots marks cells out_marks out_words : List ℕ} (T : Tables s m slots marks cells out_marks out_words) (R : Ready s m)
     {live : Live} (C : Covered s live) {acting wires : ℕ} (M : Moving s m acting wires) {count size : ℕ} (e : count ≡ nodes (sheet_in s)) (few : count ≤ 16)
     (f : size ≡ room s) {kind : Bool} (k : kind ≡ is_long (sheet_in s)) where
   own_few : nodes (sheet_in s) ≤ 16
@@ -51,7 +51,7 @@ module _ {s m slots marks cells out-marks out-words : List ℕ} (T : Tables s m 
     by_heads = heads ∙ ap (λ (n : ℕ). stage head_mark latch_row (n * 5) (next_in_row s []) s) e
 
     same_sheet : sheet_in headed ≡ sheet_in s
-    same_sheet = headed_sheet s m slots marks cells out-marks out-words T R headed by_heads
+    same_sheet = headed_sheet s m slots marks cells out_marks out_words T R headed by_heads
 
     -- what comes out of the links of a node beside the mask: nothing
     module _ (node : ℕ) (nl : node < nodes (sheet_in s)) (none : bit_at (bit_or live.outs live.extras) node ≡ 0) where
@@ -63,7 +63,7 @@ module _ {s m slots marks cells out-marks out-words : List ℕ} (T : Tables s m 
 
       from_headed : (row i : ℕ) → out_mark ≤ row → row ≤ extra_word → i < 5 → reg headed row (at node i) ≡ reg s row (at node i)
       from_headed row i a b l =
-          headed_off s m slots marks cells out-marks out-words T R headed by_heads row (at node i) (omega arith) (omega (arith, own_few)) (λ x y z. omega arith)
+          headed_off s m slots marks cells out_marks out_words T R headed by_heads row (at node i) (omega arith) (omega (arith, own_few)) (λ x y z. omega arith)
 
       out_none : (i : ℕ) → i < 5 → NoneAt headed out_mark (at node i)
       out_none i l =
@@ -104,7 +104,7 @@ module _ {s m slots marks cells out-marks out-words : List ℕ} (T : Tables s m 
         → SidesEmpty headed node (pick (is_long (sheet_in headed)) extra_mark out_mark))
         × ((node : ℕ) → node < nodes (sheet_in headed) → bit_at wires node ≡ 0 → (word marks node ≡ 0) × (word cells node ≡ 0))
     links_ready =
-        let ready = headed_ready s m slots marks cells out-marks out-words T R headed by_heads in (
+        let ready = headed_ready s m slots marks cells out_marks out_words T R headed by_heads in (
           ready.0,
           ready.1,
           λ node l none. sides_empty node (omega (arith, ap nodes same_sheet)) none,
@@ -120,17 +120,17 @@ module _ {s m slots marks cells out-marks out-words : List ℕ} (T : Tables s m 
       pub units_ready : (Receivable linked m count size)
           × ((node : ℕ) → node < count → bit_at live.outs node ≡ 0 → (memory_mark linked node ≡ 0) × (memory_word linked node ≡ 0))
       units_ready = (
-        linked_ready s m slots marks cells out-marks out-words T R headed by_heads linked links M.calm count size e f,
+        linked_ready s m slots marks cells out_marks out_words T R headed by_heads linked links M.calm count size e f,
         λ node l none.
             let here : node < nodes (sheet_in s) = omega (arith, e, l) in (
-              memory_mark_is s m slots marks cells out-marks out-words T R headed by_heads linked links node here ∙ memory_mark_none s own_few live C node here none,
-              memory_word_is s m slots marks cells out-marks out-words T R headed by_heads linked links node here ∙ memory_word_none s own_few live C node here none,
+              memory_mark_is s m slots marks cells out_marks out_words T R headed by_heads linked links node here ∙ memory_mark_none s own_few live C node here none,
+              memory_word_is s m slots marks cells out_marks out_words T R headed by_heads linked links node here ∙ memory_word_none s own_few live C node here none,
             ),
       )
 
       module _ {received : List ℕ} (units : received ≡ stage receive_mark landing_word (nodes (sheet_in linked)) (next_in_row linked []) linked) where
         pub extras_ready : (moving_words ≤ length received) × (count ≡ nodes (sheet_in received)) × (count ≤ 16) × (kind ≡ is_long (sheet_in received))
-        extras_ready = received_ready s m slots marks cells out-marks out-words T R headed by_heads linked links received units count kind e few k
+        extras_ready = received_ready s m slots marks cells out_marks out_words T R headed by_heads linked links received units count kind e few k
 
         module _ {extended : List ℕ} (extending : extended ≡ stage extra_mark extra_word (count * 5) (next_in_row received []) received) where
           by_extras : extended ≡ stage extra_mark extra_word (nodes (sheet_in s) * 5) (next_in_row received []) received
@@ -138,50 +138,50 @@ module _ {s m slots marks cells out-marks out-words : List ℕ} (T : Tables s m 
 
           -- the outputs of a node without a word on them or in its header stages
           outs_stay : (k : ℕ) → k < nodes (sheet_in s) * 5 → bit_at (bit_or live.outs live.heads) (k / 5) ≡ 0
-              → Stays out_mark out_word (out_from out-marks out-words) extended k
+              → Stays out_mark out_word (out_from out_marks out_words) extended k
           outs_stay k l none =
               let both = union_free live.outs live.heads (k / 5) none in
               let node : k / 5 < nodes (sheet_in s) = omega arith in
               let before : (row : ℕ) → out_mark ≤ row → row ≤ out_word → reg extended row k ≡ reg s row k =
               λ row a b.
-              extended_off s m slots marks cells out-marks out-words T R headed by_heads linked links received units extended by_extras
-              (stage out_mark out_word (nodes (sheet_in s) * 5) (out_from out-marks out-words) extended) refl row k (omega arith) (omega (arith, own_few))
+              extended_off s m slots marks cells out_marks out_words T R headed by_heads linked links received units extended by_extras
+              (stage out_mark out_word (nodes (sheet_in s) * 5) (out_from out_marks out_words) extended) refl row k (omega arith) (omega (arith, own_few))
               (λ x y z. omega arith) (λ x y z. omega arith) (λ x y z. omega arith) in
-              in_rows (λ row. out_from out-marks out-words row k ≡ reg extended row k) out_mark out_word
-              ((out_mark_is s m slots marks cells out-marks out-words T R headed by_heads k l ∙ out_mark_none s own_few live C (k / 5) node both.1 (k % 5)
+              in_rows (λ row. out_from out_marks out_words row k ≡ reg extended row k) out_mark out_word
+              ((out_mark_is s m slots marks cells out_marks out_words T R headed by_heads k l ∙ out_mark_none s own_few live C (k / 5) node both.1 (k % 5)
               ∙ sym (before out_mark (omega arith) (omega arith) ∙ C.out_mark_is k l both.0))
               besides
-              (out_word_is s m slots marks cells out-marks out-words T R headed by_heads k l ∙ out_word_none s own_few live C (k / 5) node both.1 (k % 5)
+              (out_word_is s m slots marks cells out_marks out_words T R headed by_heads k l ∙ out_word_none s own_few live C (k / 5) node both.1 (k % 5)
               ∙ sym (before out_word (omega arith) (omega arith) ∙ C.out_word_is k l both.0))
               besides no_more)
 
-          pub outs_ready : (moving_words ≤ length extended) × (count ≤ 16) × (length out-marks ≡ row_words) × (length out-words ≡ row_words)
-              × ((k : ℕ) → k < count * 5 → bit_at (bit_or live.outs live.heads) (k / 5) ≡ 0 → Stays out_mark out_word (out_from out-marks out-words) extended k)
+          pub outs_ready : (moving_words ≤ length extended) × (count ≤ 16) × (length out_marks ≡ row_words) × (length out_words ≡ row_words)
+              × ((k : ℕ) → k < count * 5 → bit_at (bit_or live.outs live.heads) (k / 5) ≡ 0 → Stays out_mark out_word (out_from out_marks out_words) extended k)
           outs_ready = (
-            extended_long s m slots marks cells out-marks out-words T R headed by_heads linked links received units extended by_extras,
+            extended_long s m slots marks cells out_marks out_words T R headed by_heads linked links received units extended by_extras,
             few,
             ap length T.out_mark_is ∙ length_tab row_words _,
             ap length T.out_word_is ∙ length_tab row_words _,
             λ k l. outs_stay k (omega (arith, e, l)),
           )
 
-          module _ {crossed : List ℕ} (crossing : crossed ≡ stage out_mark out_word (count * 5) (out_from out-marks out-words) extended) where
-            by_outs : crossed ≡ stage out_mark out_word (nodes (sheet_in s) * 5) (out_from out-marks out-words) extended
-            by_outs = crossing ∙ ap (λ (n : ℕ). stage out_mark out_word (n * 5) (out_from out-marks out-words) extended) e
+          module _ {crossed : List ℕ} (crossing : crossed ≡ stage out_mark out_word (count * 5) (out_from out_marks out_words) extended) where
+            by_outs : crossed ≡ stage out_mark out_word (nodes (sheet_in s) * 5) (out_from out_marks out_words) extended
+            by_outs = crossing ∙ ap (λ (n : ℕ). stage out_mark out_word (n * 5) (out_from out_marks out_words) extended) e
 
             own_sheet : sheet_in crossed ≡ sheet_in s
-            own_sheet = crossed_sheet s m slots marks cells out-marks out-words T R headed by_heads linked links received units extended by_extras crossed by_outs
+            own_sheet = crossed_sheet s m slots marks cells out_marks out_words T R headed by_heads linked links received units extended by_extras crossed by_outs
 
             sender_same : (row c : ℕ) → left_row ≤ row → row ≤ to_go_row → c < 64 → reg crossed row c ≡ reg s row c
-            sender_same = crossed_sender s m slots marks cells out-marks out-words T R headed by_heads linked links received units extended by_extras crossed by_outs
+            sender_same = crossed_sender s m slots marks cells out_marks out_words T R headed by_heads linked links received units extended by_extras crossed by_outs
 
             slot_same : (c : ℕ) → slot_in crossed c ≡ slot_in s c
-            slot_same = slot_is s m slots marks cells out-marks out-words T R headed by_heads linked links received units extended by_extras crossed by_outs
+            slot_same = slot_is s m slots marks cells out_marks out_words T R headed by_heads linked links received units extended by_extras crossed by_outs
 
             own_circuit : (c : ℕ) → c < circuits (sheet_in crossed) → (c < circuits (sheet_in s)) × (c < 64)
             own_circuit c l =
                 let inside : c < circuits (sheet_in s) = subst (λ (z : List ℕ). c < circuits z) own_sheet l in
-                (inside, omega (arith, inside, few_circuits s m slots marks cells out-marks out-words T R))
+                (inside, omega (arith, inside, few_circuits s m slots marks cells out_marks out_words T R))
 
             acting_same : Acting crossed acting
             acting_same = record {
@@ -195,34 +195,34 @@ module _ {s m slots marks cells out-marks out-words : List ℕ} (T : Tables s m 
 
             pub senders_ready : (Steppable crossed) × (slots ≡ slot_table crossed) × (Acting crossed acting)
             senders_ready =
-                let ready = crossed_ready s m slots marks cells out-marks out-words T R headed by_heads linked links received units extended by_extras crossed by_outs in
+                let ready = crossed_ready s m slots marks cells out_marks out_words T R headed by_heads linked links received units extended by_extras crossed by_outs in
                 (ready.0, ready.1, acting_same)
 
             module _ {sent : List ℕ} (senders : sent ≡ stage left_row to_go_row (circuits (sheet_in crossed)) (next_in_row crossed []) crossed) where
               pub clock_ready : Clocked sent
               clock_ready =
-                  sent_ready s m slots marks cells out-marks out-words T R headed by_heads linked links received units extended by_extras crossed by_outs sent senders
+                  sent_ready s m slots marks cells out_marks out_words T R headed by_heads linked links received units extended by_extras crossed by_outs sent senders
 
               module _ {clocked after : List ℕ} (clock : clocked ≡ stage clock_row clock_row clock_words (next_in_row sent []) sent) (stores : after ≡ next_memory linked m) where
                 own_state : clocked ≡ next_state s m
                 own_state =
-                    state_is s m slots marks cells out-marks out-words T R headed by_heads linked links received units extended by_extras crossed by_outs sent senders
+                    state_is s m slots marks cells out_marks out_words T R headed by_heads linked links received units extended by_extras crossed by_outs sent senders
                     clocked clock
 
                 pub carried_length : length clocked ≡ length s
                 carried_length = ap length own_state ∙ state_length s m R.steppable.long
 
                 pub is_carried_out : (clocked ≡ next_state s m) × (after ≡ next_memory s m)
-                is_carried_out = (own_state, stores ∙ memory_is s m slots marks cells out-marks out-words T R headed by_heads linked links)
+                is_carried_out = (own_state, stores ∙ memory_is s m slots marks cells out_marks out_words T R headed by_heads linked links)
 
                 -- the masks that the links and the senders tell hold of the words after the cycle too
                 link_next : (row : ℕ) → link_mark ≤ row → row ≤ link_word → (mask : ℕ) → EmptyBeside linked mask row → EmptyBeside (next_state s m) mask row
                 link_next row a b mask h k l none =
                     let inside : k < nodes (sheet_in s) * 5 = subst (λ (z : List ℕ). k < nodes z * 5) (sheet_kept s m) l in
                     ap (λ (x : List ℕ). reg x row k) (sym own_state)
-                    ∙ received_same s m slots marks cells out-marks out-words T R headed by_heads linked links received units extended by_extras crossed by_outs sent senders
+                    ∙ received_same s m slots marks cells out_marks out_words T R headed by_heads linked links received units extended by_extras crossed by_outs sent senders
                     clocked clock row k (omega arith) (omega (arith, own_few)) a (omega arith)
-                    ∙ h k (subst (λ (z : List ℕ). k < nodes z * 5) (sym (linked_sheet s m slots marks cells out-marks out-words T R headed by_heads linked links)) inside) none
+                    ∙ h k (subst (λ (z : List ℕ). k < nodes z * 5) (sym (linked_sheet s m slots marks cells out_marks out_words T R headed by_heads linked links)) inside) none
 
                 pub covered_out : {mask sending extras : ℕ} → (EmptyBeside linked mask link_mark) × (EmptyBeside linked mask link_word)
                     → ((c : ℕ) → c < circuits (sheet_in crossed) → bit_at sending c ≡ 0 → reg sent to_go_row c ≡ 0) → extras ≡ pick kind live.outs 0
@@ -234,6 +234,6 @@ module _ {s m slots marks cells out-marks out-words : List ℕ} (T : Tables s m 
                     (link_next link_mark (omega arith) (omega arith) mask empty.0) (link_next link_word (omega arith) (omega arith) mask empty.1)
                     (λ c l none.
                     ap (λ (w : List ℕ). reg w to_go_row c) (sym own_state)
-                    ∙ clocked_same s m slots marks cells out-marks out-words T R headed by_heads linked links received units extended by_extras crossed by_outs sent senders
-                    clocked clock to_go_row c (omega arith) (omega (arith, l, few_circuits s m slots marks cells out-marks out-words T R)) (omega arith)
+                    ∙ clocked_same s m slots marks cells out_marks out_words T R headed by_heads linked links received units extended by_extras crossed by_outs sent senders
+                    clocked clock to_go_row c (omega arith) (omega (arith, l, few_circuits s m slots marks cells out_marks out_words T R)) (omega arith)
                     ∙ goes c (subst (λ (z : List ℕ). c < circuits z) (sym own_sheet) l) none))

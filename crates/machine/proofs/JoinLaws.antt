@@ -43,8 +43,8 @@ use Rattle.tables.specs.Inner.Tables.{Tables}
 
 -- The words s and m as the cycle begins, the tables made from them, and the words after each stage: the header stage, the links, the
 -- receive units, the extra registers, the outputs, the senders and the clock.
-module _ (s m slots source-marks source-words out-marks out-words : List ℕ)
-    (T : Tables s m slots source-marks source-words out-marks out-words) (R : Ready s m) where
+module _ (s m slots source_marks source_words out_marks out_words : List ℕ)
+    (T : Tables s m slots source_marks source_words out_marks out_words) (R : Ready s m) where
   abbrev places : ℕ
   places = nodes (sheet_in s) * 5
 
@@ -92,7 +92,7 @@ module _ (s m slots source-marks source-words out-marks out-words : List ℕ)
           ap (reg headed row) neighbour_same
           ∙ headed_off row (neighbour_place s (k / 5) (k % 5)) (omega arith) place_small (λ x y z. omega arith)
 
-      link_mark_is : link_from source-marks source-words headed link_mark k ≡ next_link_mark s (k / 5) (k % 5)
+      link_mark_is : link_from source_marks source_words headed link_mark k ≡ next_link_mark s (k / 5) (k % 5)
       unfolding link_from next_link_mark ◌=?◌
       link_mark_is =
           ap₂ (λ a b. pick (k % 5 =? 4) a b)
@@ -102,7 +102,7 @@ module _ (s m slots source-marks source-words out-marks out-words : List ℕ)
           ∙ out_same (end_mark s (opposite_of (k % 5))) (omega (arith, end_low s (opposite_of (k % 5))))
           (omega (arith, end_high s (opposite_of (k % 5)))))
 
-      link_word_is : link_from source-marks source-words headed link_word k ≡ next_link_word s m (k / 5) (k % 5)
+      link_word_is : link_from source_marks source_words headed link_word k ≡ next_link_word s m (k / 5) (k % 5)
       unfolding link_from next_link_word ◌=?◌
       link_word_is =
           ap₂ (λ a b. pick (k % 5 =? 4) a b)
@@ -113,37 +113,37 @@ module _ (s m slots source-marks source-words out-marks out-words : List ℕ)
           (omega (arith, end_high s (opposite_of (k % 5)), end_behind s (opposite_of (k % 5)))))
 
       -- the out registers
-      pub out_mark_is : out_from out-marks out-words out_mark k ≡ next_out_mark s (k / 5) (k % 5)
+      pub out_mark_is : out_from out_marks out_words out_mark k ≡ next_out_mark s (k / 5) (k % 5)
       unfolding out_from ◌=?◌
       out_mark_is =
           ap (λ (x : List ℕ). word x k) T.out_mark_is ∙ tab_at row_words _ k (omega (arith, few))
           ∙ ap (λ (t : Bool). pick t (next_out_mark s (k / 5) (k % 5)) 0) (yes< l)
 
-      pub out_word_is : out_from out-marks out-words out_word k ≡ next_out_word s (k / 5) (k % 5)
+      pub out_word_is : out_from out_marks out_words out_word k ≡ next_out_word s (k / 5) (k % 5)
       unfolding out_from ◌=?◌
       out_word_is =
           ap (λ (x : List ℕ). word x k) T.out_word_is ∙ tab_at row_words _ k (omega (arith, few))
           ∙ ap (λ (t : Bool). pick t (next_out_word s (k / 5) (k % 5)) 0) (yes< l)
 
-    module _ (linked : List ℕ) (by-links : linked ≡ stage link_mark link_word (nodes (sheet_in headed) * 5) (link_from source-marks source-words headed) headed) where
+    module _ (linked : List ℕ) (by-links : linked ≡ stage link_mark link_word (nodes (sheet_in headed) * 5) (link_from source_marks source_words headed) headed) where
       link_places : nodes (sheet_in headed) * 5 ≡ places
       link_places = ap (λ (z : List ℕ). nodes z * 5) headed_sheet
 
       linked_off : (row k : ℕ) → row < row_count → k < row_words → (link_mark ≤ row → row ≤ latch_row → k < places → ⊥) → reg linked row k ≡ reg s row k
       linked_off row k rl kl h =
-          off link_mark link_word (nodes (sheet_in headed) * 5) (link_from source-marks source-words headed) headed linked by-links row k rl kl
+          off link_mark link_word (nodes (sheet_in headed) * 5) (link_from source_marks source_words headed) headed linked by-links row k rl kl
           (λ a b l. h a (omega arith) (omega (arith, link_places)))
           ∙ headed_off row k rl kl (λ a b l. h (omega arith) b l)
 
       pub linked_sheet : sheet_in linked ≡ sheet_in s
       linked_sheet =
           ap sheet_in by-links
-          ∙ stage_sheet link_mark link_word (nodes (sheet_in headed) * 5) (link_from source-marks source-words headed) headed ∙ headed_sheet
+          ∙ stage_sheet link_mark link_word (nodes (sheet_in headed) * 5) (link_from source_marks source_words headed) headed ∙ headed_sheet
 
       linked_length : length linked ≡ length s
       linked_length =
           ap length by-links
-          ∙ stage_length link_mark link_word (nodes (sheet_in headed) * 5) (link_from source-marks source-words headed) headed headed_ready.1
+          ∙ stage_length link_mark link_word (nodes (sheet_in headed) * 5) (link_from source_marks source_words headed) headed headed_ready.1
           ∙ headed_length
 
       -- the nodes' registers
@@ -270,7 +270,7 @@ module _ (s m slots source-marks source-words out-marks out-words : List ℕ)
         extended_long extended e = omega (arith, extended_length extended e, long)
 
         module _ (extended : List ℕ) (by_extras : extended ≡ stage extra_mark extra_word places (next_in_row received []) received)
-            (crossed : List ℕ) (by_outs : crossed ≡ stage out_mark out_word places (out_from out-marks out-words) extended) where
+            (crossed : List ℕ) (by_outs : crossed ≡ stage out_mark out_word places (out_from out_marks out_words) extended) where
           pub extended_off : (row k : ℕ) → row < row_count → k < row_words → (link_mark ≤ row → row ≤ latch_row → k < places → ⊥)
               → (receive_mark ≤ row → row ≤ landing_word → k < nodes (sheet_in s) → ⊥) → (extra_mark ≤ row → row ≤ extra_word → k < places → ⊥)
               → reg extended row k ≡ reg s row k
@@ -281,17 +281,17 @@ module _ (s m slots source-marks source-words out-marks out-words : List ℕ)
               → (receive_mark ≤ row → row ≤ landing_word → k < nodes (sheet_in s) → ⊥) → (extra_mark ≤ row → row ≤ extra_word → k < places → ⊥)
               → reg crossed row k ≡ reg s row k
           crossed_off row k rl kl h g f =
-              off out_mark out_word places (out_from out-marks out-words) extended crossed by_outs row k rl kl (λ a b l. h (omega arith) b l)
+              off out_mark out_word places (out_from out_marks out_words) extended crossed by_outs row k rl kl (λ a b l. h (omega arith) b l)
               ∙ extended_off row k rl kl (λ a b l. h a (omega arith) l) g f
 
           pub crossed_sheet : sheet_in crossed ≡ sheet_in s
           crossed_sheet =
-              ap sheet_in by_outs ∙ stage_sheet out_mark out_word places (out_from out-marks out-words) extended
+              ap sheet_in by_outs ∙ stage_sheet out_mark out_word places (out_from out_marks out_words) extended
               ∙ ap sheet_in by_extras ∙ stage_sheet extra_mark extra_word places (next_in_row received []) received ∙ received_sheet
 
           crossed_length : length crossed ≡ length s
           crossed_length =
-              ap length by_outs ∙ stage_length out_mark out_word places (out_from out-marks out-words) extended (extended_long extended by_extras)
+              ap length by_outs ∙ stage_length out_mark out_word places (out_from out_marks out_words) extended (extended_long extended by_extras)
               ∙ extended_length extended by_extras
 
           crossed_clock : (k : ℕ) → k < row_words → reg crossed clock_row k ≡ reg s clock_row k
@@ -402,7 +402,7 @@ module _ (s m slots source-marks source-words out-marks out-words : List ℕ)
 
                 crossed_same : link_mark ≤ row → row ≤ landing_word → (out_mark ≤ row → row ≤ out_word → ⊥) → reg clocked row k ≡ reg received row k
                 crossed_same h g f =
-                    sent_same h g ∙ off out_mark out_word places (out_from out-marks out-words) extended crossed by_outs row k rl kl (λ a b l. f a b)
+                    sent_same h g ∙ off out_mark out_word places (out_from out_marks out_words) extended crossed by_outs row k rl kl (λ a b l. f a b)
                     ∙ off extra_mark extra_word places (next_in_row received []) received extended by_extras row k rl kl (λ a b l. omega arith)
 
                 pub received_same : link_mark ≤ row → row ≤ latch_row → reg clocked row k ≡ reg linked row k
@@ -414,14 +414,14 @@ module _ (s m slots source-marks source-words out-marks out-words : List ℕ)
                 head_row : head_mark ≤ row → row ≤ latch_row → k < places → reg clocked row k ≡ next_in_row s [] row k
                 head_row a b l =
                     received_same (omega arith) b
-                    ∙ off link_mark link_word (nodes (sheet_in headed) * 5) (link_from source-marks source-words headed) headed linked by-links row k rl kl
+                    ∙ off link_mark link_word (nodes (sheet_in headed) * 5) (link_from source_marks source_words headed) headed linked by-links row k rl kl
                     (λ x y z. omega arith)
                     ∙ here head_mark latch_row places (next_in_row s []) s headed by_heads row k rl kl a b l
 
-                link_row : link_mark ≤ row → row ≤ link_word → k < places → reg clocked row k ≡ link_from source-marks source-words headed row k
+                link_row : link_mark ≤ row → row ≤ link_word → k < places → reg clocked row k ≡ link_from source_marks source_words headed row k
                 link_row a b l =
                     received_same a (omega arith)
-                    ∙ here link_mark link_word (nodes (sheet_in headed) * 5) (link_from source-marks source-words headed) headed linked by-links row k rl kl a b
+                    ∙ here link_mark link_word (nodes (sheet_in headed) * 5) (link_from source_marks source_words headed) headed linked by-links row k rl kl a b
                     (omega (arith, link_places, l))
 
                 node_row : receive_mark ≤ row → row ≤ landing_word → k < nodes (sheet_in s) → reg clocked row k ≡ next_in_row linked [] row k
@@ -430,10 +430,10 @@ module _ (s m slots source-marks source-words out-marks out-words : List ℕ)
                     ∙ here receive_mark landing_word (nodes (sheet_in linked)) (next_in_row linked []) linked received by_units row k rl kl a b
                     (omega (arith, unit_count, l))
 
-                out_row : out_mark ≤ row → row ≤ out_word → k < places → reg clocked row k ≡ out_from out-marks out-words row k
+                out_row : out_mark ≤ row → row ≤ out_word → k < places → reg clocked row k ≡ out_from out_marks out_words row k
                 out_row a b l =
                     sent_same (omega arith) (omega arith)
-                    ∙ here out_mark out_word places (out_from out-marks out-words) extended crossed by_outs row k rl kl a b l
+                    ∙ here out_mark out_word places (out_from out_marks out_words) extended crossed by_outs row k rl kl a b l
 
                 sender_row : left_row ≤ row → row ≤ to_go_row → k < circuits (sheet_in s) → reg clocked row k ≡ next_in_row crossed [] row k
                 sender_row a b l =
@@ -445,7 +445,7 @@ module _ (s m slots source-marks source-words out-marks out-words : List ℕ)
                 extra_row a b l =
                     clocked_same (omega arith)
                     ∙ off left_row to_go_row (circuits (sheet_in crossed)) (next_in_row crossed []) crossed sent by-senders row k rl kl (λ x y z. omega arith)
-                    ∙ off out_mark out_word places (out_from out-marks out-words) extended crossed by_outs row k rl kl (λ x y z. omega arith)
+                    ∙ off out_mark out_word places (out_from out_marks out_words) extended crossed by_outs row k rl kl (λ x y z. omega arith)
                     ∙ here extra_mark extra_word places (next_in_row received []) received extended by_extras row k rl kl a b l
 
                 clock_row_is : row ≡ clock_row → k < clock_words → reg clocked row k ≡ next_in_row sent [] row k
@@ -505,11 +505,11 @@ module _ (s m slots source-marks source-words out-marks out-words : List ℕ)
               clocked_rest =
                   ap (drop moving_words) by_clock ∙ stage_rest clock_row clock_row clock_words (next_in_row sent []) sent
                   ∙ ap (drop moving_words) by-senders ∙ stage_rest left_row to_go_row (circuits (sheet_in crossed)) (next_in_row crossed []) crossed
-                  ∙ ap (drop moving_words) by_outs ∙ stage_rest out_mark out_word places (out_from out-marks out-words) extended
+                  ∙ ap (drop moving_words) by_outs ∙ stage_rest out_mark out_word places (out_from out_marks out_words) extended
                   ∙ ap (drop moving_words) by_extras ∙ stage_rest extra_mark extra_word places (next_in_row received []) received
                   ∙ ap (drop moving_words) by_units ∙ stage_rest receive_mark landing_word (nodes (sheet_in linked)) (next_in_row linked []) linked
                   ∙ ap (drop moving_words) by-links
-                  ∙ stage_rest link_mark link_word (nodes (sheet_in headed) * 5) (link_from source-marks source-words headed) headed
+                  ∙ stage_rest link_mark link_word (nodes (sheet_in headed) * 5) (link_from source_marks source_words headed) headed
                   ∙ ap (drop moving_words) by_heads ∙ stage_rest head_mark latch_row places (next_in_row s []) s
 
               -- the words after the last stage are those after the cycle

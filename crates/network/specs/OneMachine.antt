@@ -1,5 +1,5 @@
 -- The machine in lent words is the machine of the article: the claim, which proofs/OneMachineProved proves. What the calls do is said with
--- nextState, nextMemory and faultyIn; whoever believes this claim need not read how those are made (Inner/Machine).
+-- next_state, next_memory and faulty_in; whoever believes this claim need not read how those are made (Inner/Machine).
 use Rattle.std.specs.Prelude.{ℕ, ◌*◌, ◌%◌, ◌≤◌, ◌<◌, false, not, List, ◌≡◌, length, drop}
 use Rattle.words.specs.Numbers.{unless}
 use Rattle.sheet.specs.Sheet.{circuits, nodes}

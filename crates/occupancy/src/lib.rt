@@ -3,12 +3,12 @@
 #![tactic(auto)]
 
 ghost use Rattle.std.specs.Prelude.{◌≡◌, ◌+◌, ◌*◌, ◌/◌, ◌%◌, ◌<◌, ◌≤◌, length};
-ghost use Rattle.occupancy.specs.Inner.Occupancy.{bit_at, run, any_taken, window as windowOf, slot_mask, take_run, TakenIfFree, NextTaken};
+ghost use Rattle.occupancy.specs.Inner.Occupancy.{bit_at, run, any_taken, window as window_of, slot_mask, take_run, TakenIfFree, NextTaken};
 
 // The sixty-four places from word q on.
 fn window(table: &[u32], q: usize) -> u64
     requires { q + 1 < length table.now }
-    ensures { result ≡ windowOf table.now q }
+    ensures { result ≡ window_of table.now q }
 {
     (table[q] as u64) + (table[q + 1] as u64) * 4294967296
 }

@@ -1,9 +1,9 @@
 // The nodes' receive units: whether a word strays (number 20), and their registers, landings and memories after a cycle.
 ghost use Rattle.std.specs.Prelude.{◌≡◌, ◌+◌, ◌*◌, ◌<◌, ◌≤◌, [], length};
 ghost use Rattle.words.specs.Tests.{any};
-ghost use Rattle.sheet.specs.Sheet.{nodes as nodesOf};
+ghost use Rattle.sheet.specs.Sheet.{nodes as nodes_of};
 ghost use Rattle.occupancy.specs.Inner.Occupancy.{bit_at};
-ghost use Rattle.network.specs.Registers.{sheet_in, room as roomOf, moving_words, receive_mark, landing_mark, landing_word};
+ghost use Rattle.network.specs.Registers.{sheet_in, room as room_of, moving_words, receive_mark, landing_mark, landing_word};
 ghost use Rattle.network.specs.Inner.Machine.{memory_mark, memory_word, strays_in, next_receive_mark, next_receive_kind, next_receive_address, next_landing_mark, next_in_row, next_memory};
 ghost use Rattle.network.specs.Inner.Stages.{stage};
 ghost use Rattle.network.specs.Inner.Quiet.{unlanded};
@@ -47,7 +47,7 @@ fn memory_word(s: &[u32], node: u32) -> u32
 
 // A payload word strays: no packet is arriving, or its address lies past the node's memory. has_stray_among hands on the sheet's room.
 fn does_stray(s: &[u32], node: u32, room: u32) -> bool
-    requires { (node < 16) × (room ≡ roomOf s.now) }
+    requires { (node < 16) × (room ≡ room_of s.now) }
     ensures { result ≡ strays_in s.now node }
 {
     if memory_mark(s, node) < 2 {
@@ -63,7 +63,7 @@ fn does_stray(s: &[u32], node: u32, room: u32) -> bool
 // sheet passes, with the sheet's numbers.
 pub fn has_stray_among(s: &[u32], nodes: u32, room: u32, outs: u64) -> bool
     requires { (Counted s.now nodes room) × ((node : _) → node < nodes → bit_at outs node ≡ 0 → memory_mark s.now node ≡ 0) }
-    ensures { result ≡ any (nodesOf (sheet_in s.now)) (strays_in s.now) }
+    ensures { result ≡ any (nodes_of (sheet_in s.now)) (strays_in s.now) }
 {
     let mut node = occupancy::next_taken(outs, 0);
     while node < nodes {
@@ -78,7 +78,7 @@ pub fn has_stray_among(s: &[u32], nodes: u32, room: u32, outs: u64) -> bool
 // A word strays at some node. The cycle calls it on a sound state, whose sheet passes, with the sheet's numbers.
 pub fn has_stray(s: &[u32], nodes: u32, room: u32) -> bool
     requires { Counted s.now nodes room }
-    ensures { result ≡ any (nodesOf (sheet_in s.now)) (strays_in s.now) }
+    ensures { result ≡ any (nodes_of (sheet_in s.now)) (strays_in s.now) }
 {
     has_stray_among(s, nodes, room, network::ALL_NODES)
 }
@@ -218,7 +218,7 @@ pub fn clear_landings(s: &mut [u32], nodes: u32)
 // out one at each access.
 pub fn step_receivers_among(s: &mut [u32], m: &mut [u32], nodes: u32, room: u32, outs: u64)
     requires { (Receivable s.old m.old nodes room) × ((node : _) → node < nodes → bit_at outs node ≡ 0 → (memory_mark s.old node ≡ 0) × (memory_word s.old node ≡ 0)) }
-    ensures state { s.new ≡ stage receive_mark landing_word (nodesOf (sheet_in s.old)) (next_in_row s.old []) s.old }
+    ensures state { s.new ≡ stage receive_mark landing_word (nodes_of (sheet_in s.old)) (next_in_row s.old []) s.old }
     ensures memory { m.new ≡ next_memory s.old m.old }
 {
     if s.len() < network::MOVING_WORDS {
@@ -235,7 +235,7 @@ pub fn step_receivers_among(s: &mut [u32], m: &mut [u32], nodes: u32, room: u32,
 // The nodes' rows and the memories after a cycle, in place, whatever there is at the nodes. The cycle calls it once number 20 is excluded.
 pub fn step_receivers(s: &mut [u32], m: &mut [u32], nodes: u32, room: u32)
     requires { Receivable s.old m.old nodes room }
-    ensures state { s.new ≡ stage receive_mark landing_word (nodesOf (sheet_in s.old)) (next_in_row s.old []) s.old }
+    ensures state { s.new ≡ stage receive_mark landing_word (nodes_of (sheet_in s.old)) (next_in_row s.old []) s.old }
     ensures memory { m.new ≡ next_memory s.old m.old }
 {
     step_receivers_among(s, m, nodes, room, network::ALL_NODES);

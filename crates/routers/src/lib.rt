@@ -5,7 +5,7 @@
 ghost use Rattle.std.specs.Prelude.{◌≡◌, ◌+◌, ◌*◌, ◌/◌, ◌%◌, ◌<◌, ◌≤◌, [], length};
 ghost use Rattle.words.specs.Tests.{any, ◌and◌, ◌or◌, ◌≤?◌, ◌<?◌, ◌=?◌};
 ghost use Rattle.words.specs.Words.{pick, tab};
-ghost use Rattle.sheet.specs.Sheet.{nodes as nodeCount};
+ghost use Rattle.sheet.specs.Sheet.{nodes as node_count};
 ghost use Rattle.occupancy.specs.Inner.Occupancy.{bit_at};
 ghost use Rattle.network.specs.Registers.{reg as reg_of, sheet_in, moving_words, link_mark, link_word, latch_row, row_words, head_mark, out_mark, out_word};
 ghost use Rattle.network.specs.Inner.Machine.{next_choice, next_out_mark, next_out_word, collides_in, unheld_in, unchosen_in, next_in_row};
@@ -43,8 +43,8 @@ fn unheld(mark: u32, latch: u32) -> u32
 
 // Number 20: some payload word in a link register finds no choice held. A cycle, which knows its nodes, meets the requires, here and below.
 pub fn has_unheld(s: &[u32], count: u32) -> bool
-    requires { (count ≡ nodeCount (sheet_in s.now) * 5) × (count ≤ row_words) }
-    ensures { result ≡ any (nodeCount (sheet_in s.now)) (λ node. any 5 (unheld_in s.now node)) }
+    requires { (count ≡ node_count (sheet_in s.now) * 5) × (count ≤ row_words) }
+    ensures { result ≡ any (node_count (sheet_in s.now)) (λ node. any 5 (unheld_in s.now node)) }
 {
     if s.len() < network::MOVING_WORDS {
         return false;
@@ -121,10 +121,10 @@ fn cross_node(s: &[u32], k: u32, marks: &mut [u32], cells: &mut [u32]) -> u32
 // The crossbar of all nodes that may have a word in their header stages: what goes on each output, into two lent tables of zeros. Number 20:
 // two words want one output, of which the first stays, or a payload word left the header stage with no choice.
 pub fn cross_among(s: &[u32], nodes: u32, heads: u64, marks: &mut [u32], cells: &mut [u32]) -> bool
-    requires { (nodes ≡ nodeCount (sheet_in s.now)) × (nodes ≤ 16) × (marks.old ≡ tab row_words (λ k. 0)) × (cells.old ≡ tab row_words (λ k. 0)) × (EmptyBeside s.now heads head_mark) }
-    ensures fault { result ≡ (any (nodeCount (sheet_in s.now)) (λ node. any 5 (collides_in s.now node)) or any (nodeCount (sheet_in s.now)) (λ node. any 5 (unchosen_in s.now node))) }
-    ensures marks { marks.new ≡ tab row_words (λ k. pick (k <? nodeCount (sheet_in s.now) * 5) (next_out_mark s.now (k / 5) (k % 5)) 0) }
-    ensures cells { cells.new ≡ tab row_words (λ k. pick (k <? nodeCount (sheet_in s.now) * 5) (next_out_word s.now (k / 5) (k % 5)) 0) }
+    requires { (nodes ≡ node_count (sheet_in s.now)) × (nodes ≤ 16) × (marks.old ≡ tab row_words (λ k. 0)) × (cells.old ≡ tab row_words (λ k. 0)) × (EmptyBeside s.now heads head_mark) }
+    ensures fault { result ≡ (any (node_count (sheet_in s.now)) (λ node. any 5 (collides_in s.now node)) or any (node_count (sheet_in s.now)) (λ node. any 5 (unchosen_in s.now node))) }
+    ensures marks { marks.new ≡ tab row_words (λ k. pick (k <? node_count (sheet_in s.now) * 5) (next_out_mark s.now (k / 5) (k % 5)) 0) }
+    ensures cells { cells.new ≡ tab row_words (λ k. pick (k <? node_count (sheet_in s.now) * 5) (next_out_word s.now (k / 5) (k % 5)) 0) }
 {
     if s.len() < network::MOVING_WORDS {
         return false;
@@ -144,10 +144,10 @@ pub fn cross_among(s: &[u32], nodes: u32, heads: u64, marks: &mut [u32], cells: 
 // The crossbar of all nodes: what goes on each output, into two lent tables of zeros. Number 20: two words want one output, of which the
 // first stays, or a payload word left the header stage with no choice.
 pub fn cross(s: &[u32], nodes: u32, marks: &mut [u32], cells: &mut [u32]) -> bool
-    requires { (nodes ≡ nodeCount (sheet_in s.now)) × (nodes ≤ 16) × (marks.old ≡ tab row_words (λ k. 0)) × (cells.old ≡ tab row_words (λ k. 0)) }
-    ensures fault { result ≡ (any (nodeCount (sheet_in s.now)) (λ node. any 5 (collides_in s.now node)) or any (nodeCount (sheet_in s.now)) (λ node. any 5 (unchosen_in s.now node))) }
-    ensures marks { marks.new ≡ tab row_words (λ k. pick (k <? nodeCount (sheet_in s.now) * 5) (next_out_mark s.now (k / 5) (k % 5)) 0) }
-    ensures cells { cells.new ≡ tab row_words (λ k. pick (k <? nodeCount (sheet_in s.now) * 5) (next_out_word s.now (k / 5) (k % 5)) 0) }
+    requires { (nodes ≡ node_count (sheet_in s.now)) × (nodes ≤ 16) × (marks.old ≡ tab row_words (λ k. 0)) × (cells.old ≡ tab row_words (λ k. 0)) }
+    ensures fault { result ≡ (any (node_count (sheet_in s.now)) (λ node. any 5 (collides_in s.now node)) or any (node_count (sheet_in s.now)) (λ node. any 5 (unchosen_in s.now node))) }
+    ensures marks { marks.new ≡ tab row_words (λ k. pick (k <? node_count (sheet_in s.now) * 5) (next_out_mark s.now (k / 5) (k % 5)) 0) }
+    ensures cells { cells.new ≡ tab row_words (λ k. pick (k <? node_count (sheet_in s.now) * 5) (next_out_word s.now (k / 5) (k % 5)) 0) }
 {
     cross_among(s, nodes, network::ALL_NODES, marks, cells)
 }

@@ -12,7 +12,7 @@ use Rattle.session.specs.Calls.{number, does, after}
 abbrev pub is_alone : Call → Bool
 is_alone (load z) = false
 is_alone (start circuit read_address write_address count kind) = true
-is_alone (start_all ts answerWords) = true
+is_alone (start_all ts answer_words) = true
 is_alone (store node address new) = false
 is_alone (order schedule period) = true
 is_alone cycle = false
@@ -25,7 +25,7 @@ module _ (s m : List ℕ) where
   pub number_alone : (x : Call) → is_alone x ≡ true → number x (lend s m) ≡ number x (lend_state s)
   number_alone (load z) e = absurd (false≢true e)
   number_alone (start circuit read_address write_address count kind) e = refl
-  number_alone (start_all ts answerWords) e = refl
+  number_alone (start_all ts answer_words) e = refl
   number_alone (store node address new) e = absurd (false≢true e)
   number_alone (order schedule period) e = refl
   number_alone cycle e = absurd (false≢true e)
@@ -37,7 +37,7 @@ module _ (s m : List ℕ) where
   does_alone : (x : Call) → is_alone x ≡ true → does x (lend s m) ≡ lend (does x (lend_state s)).state m
   does_alone (load z) e = absurd (false≢true e)
   does_alone (start circuit read_address write_address count kind) e = refl
-  does_alone (start_all ts answerWords) e = refl
+  does_alone (start_all ts answer_words) e = refl
   does_alone (store node address new) e = absurd (false≢true e)
   does_alone (order schedule period) e = refl
   does_alone cycle e = absurd (false≢true e)

@@ -260,9 +260,9 @@ asked_sound (what_landed node) w e = (landed_passed w.state node e).state.is_sou
 pub sound_kept : (x : Call) (w : Lent) → number x w ≡ 0 → sound (does x w).state ≡ true
 sound_kept (load z) w e = load_sound (meant z) w.state w.memory e
 sound_kept (start circuit read_address write_address count kind) w e = start_kept w.state circuit read_address write_address count kind e
-sound_kept (start_all ts answerWords) w e =
+sound_kept (start_all ts answer_words) w e =
     all_has (λ s. sound s ≡ true) (λ t s z p. start_kept s t.circuit t.read t.write t.count t.kind z) ts w.state
-    (list_passed w.state (length ts) answerWords e).state.is_sound
+    (list_passed w.state (length ts) answer_words e).state.is_sound
 sound_kept (store node address new) w e = (place_passed w.state w.memory node address e).memory.state.is_sound
 sound_kept (order schedule period) w e = order_kept w.state schedule period e
 sound_kept cycle w e = cycle_kept w.state w.memory e
@@ -282,7 +282,7 @@ pub state_length_kept : (x : Call) (w : Lent) → number x w ≡ 0 → length (d
 state_length_kept (load z) w e = load_length (meant z) w.state w.memory e
 state_length_kept (start circuit read_address write_address count kind) w e =
     started_length w.state circuit read_address write_address count kind
-state_length_kept (start_all ts answerWords) w e =
+state_length_kept (start_all ts answer_words) w e =
     all_has (λ s. length s ≡ length w.state) (λ t s z p. started_length s t.circuit t.read t.write t.count t.kind ∙ p)
     ts w.state refl
 state_length_kept (store node address new) w e = refl
@@ -294,7 +294,7 @@ pub memory_length_kept : (x : Call) (w : Lent) → length (does x w).memory ≡ 
 unfolding stored
 memory_length_kept (load z) w = refl
 memory_length_kept (start circuit read_address write_address count kind) w = refl
-memory_length_kept (start_all ts answerWords) w = refl
+memory_length_kept (start_all ts answer_words) w = refl
 memory_length_kept (store node address new) w = length-set w.memory _ new
 memory_length_kept (ask question) w = refl
 memory_length_kept (order schedule period) w = refl
@@ -312,7 +312,7 @@ pub sheet_same : (x : Call) (w : Lent) → is_load x ≡ false → number x w �
 sheet_same (load z) w n e = absurd (false≢true (sym n))
 sheet_same (start circuit read_address write_address count kind) w n e =
     start_sheet w.state circuit read_address write_address count kind e
-sheet_same (start_all ts answerWords) w n e =
+sheet_same (start_all ts answer_words) w n e =
     all_has (λ s. sheet_in s ≡ sheet_in w.state) (λ t s z p. start_sheet s t.circuit t.read t.write t.count t.kind z ∙ p)
     ts w.state refl
 sheet_same (store node address new) w n e = refl

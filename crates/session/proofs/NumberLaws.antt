@@ -121,14 +121,14 @@ start_passed s circuit read_address write_address count kind e =
     }
 
 -- a list of transfers that is taken
-pub record ListPassed (s : List ℕ) (transfers answerWords : ℕ) : Type 0 where
+pub record ListPassed (s : List ℕ) (transfers answer_words : ℕ) : Type 0 where
   pub state : StatePassed s
   pub few : transfers ≤ 64
-  pub answered : transfers ≤ answerWords
+  pub answered : transfers ≤ answer_words
 
-pub list_passed : (s : List ℕ) (transfers answerWords : ℕ) → start_all_number s transfers answerWords ≡ 0 → ListPassed s transfers answerWords
+pub list_passed : (s : List ℕ) (transfers answer_words : ℕ) → start_all_number s transfers answer_words ≡ 0 → ListPassed s transfers answer_words
 unfolding start_all_number
-list_passed s transfers answerWords e =
+list_passed s transfers answer_words e =
     let p = then_zero _ _ e in
     let both = unless_zero 21 _ (omega arith) p.1 in
     record { state = state_passed s p.0; few = is≤ _ _ (and_left _ _ both); answered = is≤ _ _ (and_right _ _ both) }

@@ -141,7 +141,7 @@ all_busy ts us t u s e c named fits =
 
 pub as_singles : AsSingles
 as_singles = record {
-  words = λ ts answerWords w e. after_done (start_all ts answerWords) w e ∙ all_is ts w;
+  words = λ ts answer_words w e. after_done (start_all ts answer_words) w e ∙ all_is ts w;
   answers = answers_are;
   as_many = answers_length;
   busy = all_busy;

@@ -63,7 +63,7 @@ transfer_number s t = start_number s t.circuit t.read t.write t.count t.kind
 
 -- a list of transfers: at most 64, and an answer word for each (21)
 unfoldable pub start_all_number : List ℕ → ℕ → ℕ → ℕ
-start_all_number s transfers answerWords = state_number s then unless 21 (transfers ≤? 64 and transfers ≤? answerWords)
+start_all_number s transfers answer_words = state_number s then unless 21 (transfers ≤? 64 and transfers ≤? answer_words)
 
 -- store and fetch: the node and the address exist (15)
 unfoldable pub place_number : List ℕ → List ℕ → ℕ → ℕ → ℕ
@@ -187,7 +187,7 @@ pub data Call : Type 0 where
 abbrev pub is_load : Call → Bool
 is_load (load z) = true
 is_load (start circuit read_address write_address count kind) = false
-is_load (start_all ts answerWords) = false
+is_load (start_all ts answer_words) = false
 is_load (store node address new) = false
 is_load (order schedule period) = false
 is_load cycle = false
@@ -197,7 +197,7 @@ is_load (ask question) = false
 abbrev pub number : Call → Lent → ℕ
 number (load z) w = load_number z w.state w.memory
 number (start circuit read_address write_address count kind) w = start_number w.state circuit read_address write_address count kind
-number (start_all ts answerWords) w = start_all_number w.state (length ts) answerWords
+number (start_all ts answer_words) w = start_all_number w.state (length ts) answer_words
 number (store node address new) w = place_number w.state w.memory node address
 number (order schedule period) w = order_number w.state schedule period
 number cycle w = cycle_number w.state w.memory
@@ -208,7 +208,7 @@ abbrev pub does : Call → Lent → Lent
 does (load z) w = record { state = loaded (meant z) w.state; memory = w.memory }
 does (start circuit read_address write_address count kind) w =
     record { state = started w.state circuit read_address write_address count kind; memory = w.memory }
-does (start_all ts answerWords) w = record { state = started_all w.state ts; memory = w.memory }
+does (start_all ts answer_words) w = record { state = started_all w.state ts; memory = w.memory }
 does (store node address new) w = record { state = w.state; memory = stored w.state w.memory node address new }
 does (order schedule period) w = record { state = ordered w.state schedule period; memory = w.memory }
 does cycle w = record { state = next_state w.state w.memory; memory = next_memory w.state w.memory }
@@ -230,8 +230,8 @@ as_start t = start t.circuit t.read t.write t.count t.kind
 -- document 02, L1: a list that is taken is its single starts, one after another
 pub record AsSingles : Type 0 where
   -- it leaves what they leave
-  pub words : (ts : List Transfer) (answerWords : ℕ) (w : Lent) → number (start_all ts answerWords) w ≡ 0
-      → after (start_all ts answerWords) w ≡ after_all (map as_start ts) w
+  pub words : (ts : List Transfer) (answer_words : ℕ) (w : Lent) → number (start_all ts answer_words) w ≡ 0
+      → after (start_all ts answer_words) w ≡ after_all (map as_start ts) w
   -- and answers each as that start answers; there are as many answers as transfers
   pub answers : (ts : List Transfer) (w : Lent) (i : ℕ) → i < length ts
       → slice_index (answers_all w.state ts) i ≡ number (slice_index_or (map as_start ts) i cycle) (after_all (take i (map as_start ts)) w)

@@ -16,13 +16,13 @@ use Rattle.sheet.specs.Inner.Passed.{Framed, CircuitSmall}
 use Rattle.sheet.proofs.PassedLaws.{circuit_small}
 
 -- a circuit, from its six words
-pub circuit_is : (z : List ℕ) (k : ℕ) {source readOffset readSize destination receiveOffset receiveSize : ℕ}
-    → source ≡ word z (5 + 6 * k) → readOffset ≡ word z (5 + 6 * k + 2) → readSize ≡ word z (5 + 6 * k + 3)
-    → destination ≡ word z (5 + 6 * k + 1) → receiveOffset ≡ word z (5 + 6 * k + 4) → receiveSize ≡ word z (5 + 6 * k + 5)
+pub circuit_is : (z : List ℕ) (k : ℕ) {source read_offset read_size destination receive_offset receive_size : ℕ}
+    → source ≡ word z (5 + 6 * k) → read_offset ≡ word z (5 + 6 * k + 2) → read_size ≡ word z (5 + 6 * k + 3)
+    → destination ≡ word z (5 + 6 * k + 1) → receive_offset ≡ word z (5 + 6 * k + 4) → receive_size ≡ word z (5 + 6 * k + 5)
     → ◌≡◌ {A = Circuit}
     record {
-      read = record { node = source; offset = readOffset; size = readSize };
-      receive = record { node = destination; offset = receiveOffset; size = receiveSize };
+      read = record { node = source; offset = read_offset; size = read_size };
+      receive = record { node = destination; offset = receive_offset; size = receive_size };
     }
     (circuit_at z k)
 unfolding circuit_at

@@ -4,7 +4,7 @@
 ghost use Rattle.std.specs.Prelude.{true, ◌≡◌, ◌*◌, ◌≤◌};
 ghost use Rattle.words.specs.Tests.{all, ◌and◌, ◌or◌, ◌≤?◌, ◌=?◌};
 ghost use Rattle.packet.specs.Header.{data_kind};
-ghost use Rattle.sheet.specs.Sheet.{circuits, is_long, nodes as nodesOf};
+ghost use Rattle.sheet.specs.Sheet.{circuits, is_long, nodes as nodes_of};
 ghost use Rattle.sheet.specs.Inner.Passed.{Framed};
 ghost use Rattle.network.specs.Registers.{reg as reg_of, sheet_in, link_mark, head_mark, out_mark, choice_row, receive_mark, receive_kind};
 ghost use Rattle.soundness.specs.Sound.{kind_travels, lies_in, clock_sound, order_sound, transfer_sound, cell_sound, router_sound, extra_sound, node_sound, sound};
@@ -225,7 +225,7 @@ fn transfers_sound(s: &[u32], z: &[u32]) -> bool
 // The registers of each router: five inputs and outputs a node.
 fn routers_sound(s: &[u32], z: &[u32]) -> bool
     requires { (z.now ≡ sheet_in s.now) × (Framed z.now) }
-    ensures { result ≡ all (nodesOf (sheet_in s.now) * 5) (router_sound s.now) }
+    ensures { result ≡ all (nodes_of (sheet_in s.now) * 5) (router_sound s.now) }
 {
     let count = sheet::nodes_of(z) * 5;
     let mut k: u32 = 0;
@@ -242,7 +242,7 @@ fn routers_sound(s: &[u32], z: &[u32]) -> bool
 // The extra registers of long vertical links; a grid without such links has none.
 fn extras_sound(s: &[u32], z: &[u32]) -> bool
     requires { (z.now ≡ sheet_in s.now) × (Framed z.now) }
-    ensures { result ≡ all (nodesOf (sheet_in s.now) * 5) (extra_sound s.now) }
+    ensures { result ≡ all (nodes_of (sheet_in s.now) * 5) (extra_sound s.now) }
 {
     if sheet::is_long(z) {
         let count = sheet::nodes_of(z) * 5;
@@ -261,7 +261,7 @@ fn extras_sound(s: &[u32], z: &[u32]) -> bool
 // Each node's registers.
 fn nodes_sound(s: &[u32], z: &[u32]) -> bool
     requires { (z.now ≡ sheet_in s.now) × (Framed z.now) }
-    ensures { result ≡ all (nodesOf (sheet_in s.now)) (node_sound s.now) }
+    ensures { result ≡ all (nodes_of (sheet_in s.now)) (node_sound s.now) }
 {
     let count = sheet::nodes_of(z);
     let mut n: u32 = 0;
@@ -278,7 +278,7 @@ fn nodes_sound(s: &[u32], z: &[u32]) -> bool
 // The transfers, the routers, their long links and the nodes.
 fn parts_sound(s: &[u32], z: &[u32]) -> bool
     requires { (z.now ≡ sheet_in s.now) × (Framed z.now) }
-    ensures { result ≡ (all (circuits (sheet_in s.now)) (transfer_sound s.now) and all (nodesOf (sheet_in s.now) * 5) (router_sound s.now) and all (nodesOf (sheet_in s.now) * 5) (extra_sound s.now) and all (nodesOf (sheet_in s.now)) (node_sound s.now)) }
+    ensures { result ≡ (all (circuits (sheet_in s.now)) (transfer_sound s.now) and all (nodes_of (sheet_in s.now) * 5) (router_sound s.now) and all (nodes_of (sheet_in s.now) * 5) (extra_sound s.now) and all (nodes_of (sheet_in s.now)) (node_sound s.now)) }
 {
     if transfers_sound(s, z) {
         if routers_sound(s, z) {

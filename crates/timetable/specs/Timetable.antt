@@ -79,7 +79,7 @@ hours_of (suc n) schedule change = Refused (suc n)
 abbrev pub hours_answer : List ℕ → ℕ → Hours
 hours_answer t minute = hours_of (hours_number t minute) (schedule_in t minute) (next_change t minute)
 
--- the claim that two windows that cover one minute are one (proofs/TimetableLaws, `one_Covers`)
+-- the claim that two windows that cover one minute are one (proofs/TimetableLaws, `one_covers`)
 abbrev pub OneCovers : Type 0
 OneCovers =
     (t : List ℕ) (j k minute : ℕ) → timetable_fits t ≡ true → j < windows t → k < windows t

@@ -30,7 +30,7 @@ abbrev pub bad_loads : List Call → Bool
 bad_loads [] = true
 bad_loads (load z ∷ calls) = pick (check_number z =? 0) false (bad_loads calls)
 bad_loads (start circuit read_address write_address count kind ∷ calls) = bad_loads calls
-bad_loads (start_all ts answerWords ∷ calls) = bad_loads calls
+bad_loads (start_all ts answer_words ∷ calls) = bad_loads calls
 bad_loads (store node address new ∷ calls) = bad_loads calls
 bad_loads (ask question ∷ calls) = bad_loads calls
 bad_loads (order schedule period ∷ calls) = bad_loads calls
@@ -51,7 +51,7 @@ bad_loads_refused (load z ∷ calls) w e = go (check_number z =? 0) refl e (λ r
     go false q r h = (λ l n. false≢true (sym q ∙ yes= (load_passes z w n)), h r)
 bad_loads_refused (start circuit read_address write_address count kind ∷ calls) w e =
     (λ q n. false≢true q, bad_loads_refused calls (after (start circuit read_address write_address count kind) w) e)
-bad_loads_refused (start_all ts answerWords ∷ calls) w e = (λ q n. false≢true q, bad_loads_refused calls (after (start_all ts answerWords) w) e)
+bad_loads_refused (start_all ts answer_words ∷ calls) w e = (λ q n. false≢true q, bad_loads_refused calls (after (start_all ts answer_words) w) e)
 bad_loads_refused (store node address new ∷ calls) w e = (λ q n. false≢true q, bad_loads_refused calls (after (store node address new) w) e)
 bad_loads_refused (ask question ∷ calls) w e = (λ q n. false≢true q, bad_loads_refused calls (after (ask question) w) e)
 bad_loads_refused (order schedule period ∷ calls) w e = (λ q n. false≢true q, bad_loads_refused calls (after (order schedule period) w) e)

@@ -174,7 +174,7 @@ next_cycle z k = go (k.cycle + 1 =? period z k.schedule)
 pub cycles_kept : (z : List ℕ) (x : Call) (w : Lent) (k : Calendar) → is_cycle x ≡ false → (calendar_all z (event_of x w) k).cycles ≡ k.cycles
 cycles_kept z (load y) w k c = refl
 cycles_kept z (start circuit read_address write_address count kind) w k c = refl
-cycles_kept z (start_all ts answerWords) w k c = ap (λ (d : Calendar). d.cycles) (calendar_starts z ts w.state k)
+cycles_kept z (start_all ts answer_words) w k c = ap (λ (d : Calendar). d.cycles) (calendar_starts z ts w.state k)
 cycles_kept z (store node address new) w k c = refl
 cycles_kept z (ask question) w k c = refl
 cycles_kept z (order schedule period) w k c = refl
@@ -231,8 +231,8 @@ module _ (z : List ℕ) (w : Lent) (f : Fine z w) (k : Calendar) (d : Dated k (s
       → Dated (calendar_all z (event_of x w) k) (seen (does x w))
   does_dated (load y) l c e = absurd (false≢true (sym l))
   does_dated (start circuit read_address write_address count kind) l c e = start_dated z w f k d circuit read_address write_address count kind e
-  does_dated (start_all ts answerWords) l c e =
-      subst (λ (h : Calendar). Dated h (seen (does (start_all ts answerWords) w))) (sym (calendar_starts z ts w.state k))
+  does_dated (start_all ts answer_words) l c e =
+      subst (λ (h : Calendar). Dated h (seen (does (start_all ts answer_words) w))) (sym (calendar_starts z ts w.state k))
       (list_has z (λ (u : Lent). Dated k (seen u))
       (λ t u g e p. start_dated z u g k p t.circuit t.read t.write t.count t.kind e) ts w f d)
   does_dated (store node address new) l c e =

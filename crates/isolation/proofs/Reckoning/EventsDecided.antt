@@ -68,7 +68,7 @@ ask_goes z (what_landed node) = node <? nodes z
 abbrev pub goes : List ℕ → List ℕ → List Event → Call → Bool
 goes z m es (load y) = false
 goes z m es (start circuit read_address write_address count kind) = start_answer z m es circuit read_address write_address count kind =? 0
-goes z m es (start_all ts answerWords) = length ts ≤? 64 and length ts ≤? answerWords
+goes z m es (start_all ts answer_words) = length ts ≤? 64 and length ts ≤? answer_words
 goes z m es (store node address new) = node <? nodes z and address <? memory_words z
 goes z m es (order schedule period) = order_goes z (calendar_after z es) schedule period
 goes z m es cycle = true
@@ -185,7 +185,7 @@ module _ (z : List ℕ) (passes : verdict z ≡ 0) (S : ℕ → View) (J : Traje
 abbrev pub told : List ℕ → List ℕ → List Event → Call → List Event
 told z m es (load y) = []
 told z m es (start circuit read_address write_address count kind) = event_of (start circuit read_address write_address count kind) (lend_state [])
-told z m es (start_all ts answerWords) = list_told z m ts es
+told z m es (start_all ts answer_words) = list_told z m ts es
 told z m es (store node address new) = event_of (store node address new) (lend_state [])
 told z m es (order schedule period) = event_of (order schedule period) (lend_state [])
 told z m es cycle = event_of cycle (lend_state [])
@@ -221,10 +221,10 @@ module _ (l : Session) (k : ℕ) where
         counted = refl;
       })
 
-  list_test : (ts : List Listed) (answerWords : ℕ)
-      → (number (start_all ts answerWords) w =? 0) ≡ (length ts ≤? 64 and length ts ≤? answerWords)
+  list_test : (ts : List Listed) (answer_words : ℕ)
+      → (number (start_all ts answer_words) w =? 0) ≡ (length ts ≤? 64 and length ts ≤? answer_words)
   unfolding start_all_number
-  list_test ts answerWords = after_zero _ (state_zero z w f) ∙ unless_test 20 _
+  list_test ts answer_words = after_zero _ (state_zero z w f) ∙ unless_test 20 _
 
   order_test : (schedule period : ℕ) → (number (order schedule period) w =? 0) ≡ order_goes z (calendar_at l k) schedule period
   unfolding order_number is_pending ahead
@@ -273,7 +273,7 @@ module _ (l : Session) (k : ℕ) where
   call_test (load y) c r = no= (r refl)
   call_test (start circuit read_address write_address count kind) c r =
       ap (λ (n : ℕ). n =? 0) (start_here circuit read_address write_address count kind)
-  call_test (start_all ts answerWords) c r = list_test ts answerWords
+  call_test (start_all ts answer_words) c r = list_test ts answer_words
   call_test (store node address new) c r = place_test node address
   call_test (order schedule period) c r = order_test schedule period
   call_test cycle c r = yes= (c refl)
@@ -283,7 +283,7 @@ module _ (l : Session) (k : ℕ) where
   call_told : (x : Call) → event_of x w ≡ told z l.lent.memory es x
   call_told (load y) = refl
   call_told (start circuit read_address write_address count kind) = refl
-  call_told (start_all ts answerWords) = (list_here ts).tells
+  call_told (start_all ts answer_words) = (list_here ts).tells
   call_told (store node address new) = refl
   call_told (order schedule period) = refl
   call_told cycle = refl

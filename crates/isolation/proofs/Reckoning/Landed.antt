@@ -46,7 +46,7 @@ module _ (z : List ℕ) (w : Lent) (f : Fine z w) (node : ℕ) (inside : node < 
   does_kept : (x : Call) → is_load x ≡ false → is_cycle x ≡ false → number x w ≡ 0 → (seen (does x w)).landing node ≡ (seen w).landing node
   does_kept (load y) n c e = absurd (false≢true (sym n))
   does_kept (start circuit read_address write_address count kind) n c e = start_kept z w f node inside circuit read_address write_address count kind e
-  does_kept (start_all ts answerWords) n c e =
+  does_kept (start_all ts answer_words) n c e =
       list_has z (λ (u : Lent). (seen u).landing node ≡ (seen w).landing node)
       (λ t u g e p. start_kept z u g node inside t.circuit t.read t.write t.count t.kind e ∙ p) ts w f refl
   does_kept (store at address new) n c e = refl

@@ -86,7 +86,7 @@ own_most : (x : Call) (w : Lent) (b : Bool) → cycles_in (pick b (event_of x w)
 own_most x w false = omega arith
 own_most (load z) w true = omega arith
 own_most (start circuit read_address write_address count kind) w true = omega arith
-own_most (start_all ts answerWords) w true = omega (arith, starts_cycles ts w.state)
+own_most (start_all ts answer_words) w true = omega (arith, starts_cycles ts w.state)
 own_most (store node address new) w true = omega arith
 own_most (ask question) w true = omega arith
 own_most (order schedule period) w true = omega arith
@@ -96,7 +96,7 @@ own_cycle : (x : Call) (w : Lent) (b : Bool) → cycles_in (pick b (event_of x w
 own_cycle x w false e = absurd (let z : ⊥ = omega arith in z)
 own_cycle (load z) w true e = absurd (let z : ⊥ = omega arith in z)
 own_cycle (start circuit read_address write_address count kind) w true e = absurd (let z : ⊥ = omega arith in z)
-own_cycle (start_all ts answerWords) w true e = absurd (let z : ⊥ = omega (arith, starts_cycles ts w.state) in z)
+own_cycle (start_all ts answer_words) w true e = absurd (let z : ⊥ = omega (arith, starts_cycles ts w.state) in z)
 own_cycle (store node address new) w true e = absurd (let z : ⊥ = omega arith in z)
 own_cycle (ask question) w true e = absurd (let z : ⊥ = omega arith in z)
 own_cycle (order schedule period) w true e = absurd (let z : ⊥ = omega arith in z)

@@ -202,7 +202,7 @@ module _ (z : List ℕ) (circuit : ℕ) (inside : circuit < circuits z) where
         → Now z circuit (does x w) n (reckon_all z circuit (event_of x w) k r)
     does_now (load y) l c e = absurd (false≢true (sym l))
     does_now (start c read_address write_address count kind) l q e = start_now w f n k r now c read_address write_address count kind e
-    does_now (start_all ts answerWords) l c e = list_now w f n k r now ts
+    does_now (start_all ts answer_words) l c e = list_now w f n k r now ts
     does_now (store node address new) l c e = store_now w f n k r now node address new e
     does_now (ask question) l c e = now
     does_now (order schedule period) l c e = order_now w f n k r now schedule period e
@@ -222,7 +222,7 @@ leaving_same : (z : List ℕ) (circuit : ℕ) (x : Call) (w : Lent) (k : Calenda
 leaving_same z circuit (load y) w k r c t = refl
 leaving_same z circuit (start d read_address write_address count kind) w k r c t =
     start_leaving circuit d (transfer_of read_address write_address count kind) r t
-leaving_same z circuit (start_all ts answerWords) w k r c t =
+leaving_same z circuit (start_all ts answer_words) w k r c t =
     by_starts (λ s es s'. (q : Reckoned) → (reckon_all z circuit es k q).sent.leaving t ≡ q.sent.leaving t) (λ s q. refl)
     (λ u s s' es e rest q.
     rest (reckon_event z circuit (start_of u) k q)

@@ -35,11 +35,11 @@ calendar_starts z ts s k = by_starts (λ u es u'. calendar_all z es k ≡ k) (λ
 -- they are what the list's single starts tell, one after another
 pub tells_singles : TellsSingles
 unfolding carried_out
-tells_singles [] answerWords w = refl
-tells_singles (t ∷ ts) answerWords w =
+tells_singles [] answer_words w = refl
+tells_singles (t ∷ ts) answer_words w =
     go (transfer_number w.state t =? 0)
     ∙ ap (λ (es : List Event). pick (transfer_number w.state t =? 0) (start_of t ∷ []) [] ++ es)
-    (tells_singles ts answerWords (lend (started_next w.state t) w.memory) ∙ ap (events (map as_start ts)) (sym (next_is t w)))
+    (tells_singles ts answer_words (lend (started_next w.state t) w.memory) ∙ ap (events (map as_start ts)) (sym (next_is t w)))
   where
     later : List Listed
     later = carried_out (started_next w.state t) ts

@@ -86,7 +86,7 @@ fine_opened l =
 abbrev pub is_cycle : Call → Bool
 is_cycle (load z) = false
 is_cycle (start circuit read_address write_address count kind) = false
-is_cycle (start_all ts answerWords) = false
+is_cycle (start_all ts answer_words) = false
 is_cycle (store node address new) = false
 is_cycle (order schedule period) = false
 is_cycle cycle = true
@@ -239,7 +239,7 @@ module _ (z : List ℕ) (w : Lent) (f : Fine z w) where
   does_between : (x : Call) → is_load x ≡ false → is_cycle x ≡ false → number x w ≡ 0 → Between z (seen w) (seen (does x w))
   does_between (load y) n c e = absurd (false≢true (sym n))
   does_between (start circuit read_address write_address count kind) n c e = start_between z w f circuit read_address write_address count kind e
-  does_between (start_all ts answerWords) n c e =
+  does_between (start_all ts answer_words) n c e =
       list_has z (λ (u : Lent). Between z (seen w) (seen u))
       (λ t u g e p. between_then z _ _ _ p (start_between z u g t.circuit t.read t.write t.count t.kind e))
       ts w f (same_between z w f w.memory)
@@ -333,7 +333,7 @@ call_streams z x w next f r c S =
 pub a_cycle : (x : Call) → is_cycle x ≡ true → x ≡ cycle
 a_cycle (load z) e = absurd (false≢true e)
 a_cycle (start circuit read_address write_address count kind) e = absurd (false≢true e)
-a_cycle (start_all ts answerWords) e = absurd (false≢true e)
+a_cycle (start_all ts answer_words) e = absurd (false≢true e)
 a_cycle (store node address new) e = absurd (false≢true e)
 a_cycle (ask question) e = absurd (false≢true e)
 a_cycle (order schedule period) e = absurd (false≢true e)

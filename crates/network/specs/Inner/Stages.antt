@@ -1,5 +1,5 @@
 -- A cycle in the order in which code carries it out in place, stage by stage. Nobody has to believe these: that the stages together are
--- nextState and nextMemory is proved where they are joined.
+-- next_state and next_memory is proved where they are joined.
 use Rattle.std.specs.Prelude.{ℕ, ◌/◌, ◌%◌, List, ◌++◌, drop}
 use Rattle.words.specs.Tests.{◌and◌, ◌≤?◌, ◌<?◌, ◌=?◌}
 use Rattle.words.specs.Words.{word, pick, tab}

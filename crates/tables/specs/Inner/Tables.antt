@@ -7,17 +7,17 @@ use Rattle.network.specs.Registers.{sheet_in, row_words}
 use Rattle.network.specs.Inner.Machine.{source_mark, source_word, next_out_mark, next_out_word}
 use Rattle.sources.specs.Inner.Slots.{slot_table}
 
-pub record Tables (s m slots source-marks source-words out-marks out-words : List ℕ) : Type 0 where
+pub record Tables (s m slots source_marks source_words out_marks out_words : List ℕ) : Type 0 where
   pub slot : slots ≡ slot_table s
-  pub source_mark_is : source-marks ≡ tab 16 (source_mark s)
-  pub source_word_is : source-words ≡ tab 16 (source_word s m)
-  pub out_mark_is : out-marks ≡ tab row_words (λ k. pick (k <? nodes (sheet_in s) * 5) (next_out_mark s (k / 5) (k % 5)) 0)
-  pub out_word_is : out-words ≡ tab row_words (λ k. pick (k <? nodes (sheet_in s) * 5) (next_out_word s (k / 5) (k % 5)) 0)
+  pub source_mark_is : source_marks ≡ tab 16 (source_mark s)
+  pub source_word_is : source_words ≡ tab 16 (source_word s m)
+  pub out_mark_is : out_marks ≡ tab row_words (λ k. pick (k <? nodes (sheet_in s) * 5) (next_out_mark s (k / 5) (k % 5)) 0)
+  pub out_word_is : out_words ≡ tab row_words (λ k. pick (k <? nodes (sheet_in s) * 5) (next_out_word s (k / 5) (k % 5)) 0)
 
 -- the tables as they are lent: zeros
-pub record Empty (slots source-marks source-words out-marks out-words : List ℕ) : Type 0 where
+pub record Empty (slots source_marks source_words out_marks out_words : List ℕ) : Type 0 where
   pub slot : slots ≡ tab 64 (λ k. 0)
-  pub source_mark_is : source-marks ≡ tab 16 (λ k. 0)
-  pub source_word_is : source-words ≡ tab 16 (λ k. 0)
-  pub out_mark_is : out-marks ≡ tab row_words (λ k. 0)
-  pub out_word_is : out-words ≡ tab row_words (λ k. 0)
+  pub source_mark_is : source_marks ≡ tab 16 (λ k. 0)
+  pub source_word_is : source_words ≡ tab 16 (λ k. 0)
+  pub out_mark_is : out_marks ≡ tab row_words (λ k. 0)
+  pub out_word_is : out_words ≡ tab row_words (λ k. 0)
