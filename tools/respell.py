@@ -37,6 +37,27 @@ BY_HAND = {
     "mark-at": "mark_at",
 }
 
+# Names of parameters and of imports under another name, which no line declares.
+PARAMETERS = {
+    "answerWords": "answer_words",
+    "nodeCount": "node_count",
+    "nodesOf": "nodes_of",
+    "windowOf": "window_of",
+    "sheetVerdict": "sheet_verdict",
+    "roomOf": "room_of",
+    "readSize": "read_size",
+    "readOffset": "read_offset",
+    "receiveSize": "receive_size",
+    "receiveOffset": "receive_offset",
+    "periodOf": "period_of",
+    "source-marks": "source_marks",
+    "source-words": "source_words",
+    "out-marks": "out_marks",
+    "out-words": "out_words",
+    "circuitWords": "circuit_words",
+    "entryWords": "entry_words",
+}
+
 # Names that port.py had turned already and that fall together with one turned here, each in its file.
 IN_FILE = {
     "crates/network/proofs/QuietLaws.antt": {"empty-at": "empty_place"},
@@ -159,6 +180,7 @@ def main():
         elif to_turn(n):
             # A law or a field beside the definition that it is about.
             names[n] = snake(n) + ("_is" if "-" in n and snake(n) in camel else "")
+    names.update(PARAMETERS)
     back = {}
     for n in sorted(own | fields):
         back.setdefault(names.get(n, n), []).append(n)
