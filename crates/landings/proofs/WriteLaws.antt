@@ -1,10 +1,10 @@
 -- What was written: a stretch of the output, part behind part.
-use Rattle.std.proofs.Common.{◌≡◌, Result, Ok, Err, OnOk, OnErr, ℕ, ◌+◌, ◌-◌, ◌≤◌, List, [], ◌++◌, None, Some, length, take, drop, sym, ap, subst, ◌∙◌, append_assoc, append-nil, arith, length-take-le, length-drop}
+use Rattle.std.proofs.Common.{◌≡◌, Result, Ok, Err, OnOk, OnErr, ℕ, ◌+◌, ◌-◌, ◌≤◌, List, [], ◌++◌, None, Some, length, take, drop, sym, ap, subst, ◌∙◌, append_assoc, append-nil, arith, length-take-le, length-append, length-drop}
 use Rattle.std.proofs.Math.Seq.{take-append-add}
-use Rattle.std.proofs.lemmas.List.{take_all, drop-drop, take-append-drop}
+use Rattle.std.proofs.lemmas.List.{take_all, take_rest, take-append-le, drop-drop, take-append-drop}
 use Rattle.std.specs.declared.option.Option.{Option}
-use Rattle.std.specs.Io.KnownBytes.{Appends}
-use Rattle.landings.specs.Output.{HasAt}
+use Rattle.std.specs.Io.KnownBytes.{Keeps, Appends}
+use Rattle.landings.specs.Output.{HasAt, GotPart}
 
 -- two writes, one behind the other
 pub both_written : (a b c : Option (List ℕ)) (xs ys zs : List ℕ) → Appends a b xs → Appends b c ys → zs ≡ xs ++ ys → Appends a c zs
@@ -17,6 +17,26 @@ both_written (Some x) (Some y) (Some z) xs ys zs p q e =
 none_written : (a : Option (List ℕ)) (xs : List ℕ) → xs ≡ [] → Appends a a xs
 none_written None xs e = tt
 none_written (Some x) xs e = sym (append-nil x) ∙ ap (λ (l : List ℕ). x ++ l) (sym e)
+
+-- a write that took nothing
+pub kept_written : (a b c : Option (List ℕ)) (xs : List ℕ) → Appends a b xs → Keeps b c → Appends a c xs
+kept_written None b c xs p q = tt
+kept_written (Some x) None c xs p q = absurd p
+kept_written (Some x) (Some y) None xs p q = absurd q
+kept_written (Some x) (Some y) (Some z) xs p q = q ∙ p
+
+-- a text's front was written, and some of what is behind it
+pub front_more : (a b c : Option (List ℕ)) (text : List ℕ) (done n : ℕ)
+    → done ≤ length text
+    → Appends a b (take done text)
+    → Appends b c (take n (take (length text - done) (drop done text)))
+    → Appends a c (take (done + n) text)
+front_more a b c text done n l p q =
+    both_written a b c _ _ _ p q
+    (ap (take (done + n)) (sym (take-append-drop done text))
+    ∙ ap (λ k. take (k + n) (take done text ++ drop done text)) (sym (length-take-le done text l))
+    ∙ take-append-add (take done text) (drop done text) n
+    ∙ ap (λ (x : List ℕ). take done text ++ take n x) (sym (take_rest text done)))
 
 -- the text from one place to another was written
 pub record Written (before after : Option (List ℕ)) (text : List ℕ) (from to : ℕ) : Type 0 where
@@ -60,6 +80,44 @@ written_rest a b {text} {from} {to} w e f =
     subst (Appends a b)
     (take_all (to - from) (drop from text) (omega (arith, e, w.ahead, length-drop from text)) ∙ ap (λ n. drop n text) f)
     w.bytes
+
+-- a first part of a front is one of the whole
+pub got_front : (a b : Option (List ℕ)) (xs ys zs : List ℕ) → zs ≡ xs ++ ys → GotPart a b xs → GotPart a b zs
+got_front a b xs ys zs e p = (
+  p.0,
+  omega (arith, p.1, ap length e, length-append xs ys),
+  subst (Appends a b) (sym (ap (take p.0) e ∙ take-append-le p.0 xs ys p.1)) p.2,
+)
+
+-- a front was written, and a first part of the rest
+pub got_behind : (a b c : Option (List ℕ)) (xs ys zs : List ℕ) → zs ≡ xs ++ ys → Appends a b xs → GotPart b c ys → GotPart a c zs
+got_behind a b c xs ys zs e p q = (
+  length xs + q.0,
+  omega (arith, q.1, ap length e, length-append xs ys),
+  both_written a b c xs (take q.0 ys) _ p q.2 (ap (take (length xs + q.0)) e ∙ take-append-add xs ys q.0),
+)
+
+-- what a writer got a first part of, by another name
+pub got_as : (a b : Option (List ℕ)) (xs ys : List ℕ) → xs ≡ ys → GotPart a b xs → GotPart a b ys
+got_as a b xs ys e p = subst (GotPart a b) e p
+
+-- the text from one place to another was written, and a first part of the next part
+pub got_more : (a b c : Option (List ℕ)) {text part : List ℕ} {from to start : ℕ}
+    → Written a b text from to
+    → HasAt text to part
+    → GotPart b c part
+    → from ≡ start
+    → GotPart a c (drop start text)
+got_more a b c {text} {part} {from} {to} {start} w h p e =
+    let behind : drop (to - from) (drop from text) ≡ drop to text = drop-drop (to - from) from text ∙ ap (λ n. drop n text) (let z : from + (to - from) ≡ to = omega (arith, w.ahead) in z) in
+    got_behind a b c (take (to - from) (drop from text)) (drop to text) (drop start text)
+    (ap (λ n. drop n text) (sym e)
+    ∙ sym (take-append-drop (to - from) (drop from text))
+    ∙ ap (λ (l : List ℕ). take (to - from) (drop from text) ++ l) behind)
+    w.bytes
+    (got_front b c part (drop (length part) (drop to text)) (drop to text)
+    (sym (take-append-drop (length part) (drop to text)) ∙ ap (λ (l : List ℕ). l ++ drop (length part) (drop to text)) h.1)
+    p)
 
 -- what was written, by another name
 pub written_as : (a b : Option (List ℕ)) (xs ys : List ℕ) → xs ≡ ys → Appends a b xs → Appends a b ys

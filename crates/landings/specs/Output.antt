@@ -1,8 +1,8 @@
 -- All that `landings` prints, as a function of its input: one of three messages, or a heading and every line of the listing
 -- (document 01, "The key's examples"). Texts are bytes in ASCII.
-use Rattle.std.specs.Prelude.{ℕ, ◌+◌, ◌*◌, ◌<◌, ◌≤◌, List, [], ◌∷◌, ◌++◌, ◌≡◌, length, take, drop}
+use Rattle.std.specs.Prelude.{ℕ, ◌+◌, ◌*◌, ◌<◌, ◌≤◌, ◌⊎◌, List, [], ◌∷◌, ◌++◌, ◌≡◌, length, take, drop}
 use Rattle.std.specs.declared.option.Option.{Option}
-use Rattle.std.specs.Io.KnownBytes.{Consumes, IsAtEnd, Appends}
+use Rattle.std.specs.Io.KnownBytes.{Keeps, Consumes, IsAtEnd, Appends}
 use Rattle.sheet.specs.Sheet.{meant, nodes, sheet_words}
 use Rattle.session.specs.Calls.{Lent, lend}
 use Rattle.listing.specs.Text.{too_large, input_ends}
@@ -43,6 +43,10 @@ printout bytes = printed (message bytes) (all_lines bytes)
 abbrev pub HasAt : List ℕ → ℕ → List ℕ → Type 0
 HasAt text place part = (place + length part ≤ length text) × (take (length part) (drop place text) ≡ part)
 
+-- a writer got a first part of a text, which may be none of it or all
+abbrev pub GotPart : Option (List ℕ) → Option (List ℕ) → List ℕ → Type 0
+GotPart output after text = (n : ℕ) × (n ≤ length text) × Appends output after (take n text)
+
 -- so many bytes were read, and all that there are where they are fewer than a longest input has; their output was written
 abbrev pub Answered : Option (List ℕ) → Option (List ℕ) → Option (List ℕ) → Option (List ℕ) → Type 0
 Answered input rest output after =
@@ -50,3 +54,12 @@ Answered input rest output after =
     × Consumes input rest bytes
     × (length bytes < 4 * (3 + (sheet_words + most_memory + 5 * most_transfers)) → IsAtEnd rest)
     × Appends output after (printout bytes)
+
+-- reading or writing failed: so many bytes were read, and the writer got a first part of their output, and none of it unless all bytes were
+-- read that there are, where they are fewer than a longest input has
+abbrev pub BrokenOff : Option (List ℕ) → Option (List ℕ) → Option (List ℕ) → Option (List ℕ) → Type 0
+BrokenOff input rest output after =
+    (bytes : List ℕ)
+    × Consumes input rest bytes
+    × GotPart output after (printout bytes)
+    × (Keeps output after ⊎ (length bytes < 4 * (3 + (sheet_words + most_memory + 5 * most_transfers)) → IsAtEnd rest))

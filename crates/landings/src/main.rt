@@ -13,7 +13,7 @@ ghost use Rattle.landings.specs.declared.input.Message.TheVariants.{Runs};
 ghost use Rattle.landings.specs.Input.{stated_length, sheet_of};
 ghost use Rattle.landings.specs.Messages.{input_message};
 ghost use Rattle.landings.specs.Lines.{cycles_on, refused_line};
-ghost use Rattle.landings.specs.Output.{heading, before_cycles, printout, HasAt, Answered};
+ghost use Rattle.landings.specs.Output.{heading, before_cycles, printout, HasAt, GotPart, Answered, BrokenOff};
 ghost use Rattle.landings.specs.Inner.Ended.{cycles_listed, at_end, Halted};
 ghost use Rattle.landings.specs.Inner.Pages.{ReadyToList, Lendable};
 
@@ -35,6 +35,7 @@ fn print_refused<W: Write>(
     ensures place { OnOk result (place.new ≡ place.old + length (refused_line number)) }
     ensures written { OnOk result (Appends (W.contents writer.old) (W.contents writer.new) (refused_line number)) }
     ensures err { OnErr result (place.new ≤ length (printout bytes.now)) }
+    ensures stopped { OnErr result (GotPart (W.contents writer.old) (W.contents writer.new) (refused_line number)) }
 {
     write_part(writer, bytes, place, b"refused ")?;
     let mut line = [0u8; 12];
@@ -58,6 +59,7 @@ fn write_pages<W: Write>(
     ensures words { OnOk result (lend s.new m.new ≡ cycles_on (cycles_listed bytes.now) (before_cycles bytes.now)) }
     ensures written { OnOk result (Appends (W.contents writer.old) (W.contents writer.new) (drop (length heading) (printout bytes.now))) }
     ensures err { OnErr result (Halted bytes.now place.new (lend s.new m.new)) }
+    ensures stopped { OnErr result (GotPart (W.contents writer.old) (W.contents writer.new) (drop (length heading) (printout bytes.now))) }
 {
     let mut time: u32 = 0;
     while time < last {
@@ -86,6 +88,7 @@ fn list<W: Write>(
     ensures words { OnOk result (lend s.new m.new ≡ cycles_on (cycles_listed bytes.now) (before_cycles bytes.now)) }
     ensures written { OnOk result (Appends (W.contents writer.old) (W.contents writer.new) (printout bytes.now)) }
     ensures err { OnErr result (Halted bytes.now place.new (lend s.new m.new)) }
+    ensures stopped { OnErr result (GotPart (W.contents writer.old) (W.contents writer.new) (printout bytes.now)) }
 {
     write_part(writer, bytes, place, b"cycle node address word kind\n")?;
     let mut buffer = [0u8; 65536];
@@ -106,6 +109,7 @@ fn run_session<W: Write>(
     ensures words { OnOk result (lend s.new m.new ≡ at_end bytes.now) }
     ensures written { OnOk result (Appends (W.contents writer.old) (W.contents writer.new) (printout bytes.now)) }
     ensures err { OnErr result (Halted bytes.now place.new (lend s.new m.new)) }
+    ensures stopped { OnErr result (GotPart (W.contents writer.old) (W.contents writer.new) (printout bytes.now)) }
 {
     let number = calls::prepare(bytes, sheet, s, m);
     if number != 0 {
@@ -128,6 +132,7 @@ fn run<W: Write>(
     ensures written { OnOk result (Appends (W.contents writer.old) (W.contents writer.new) (printout bytes.now)) }
     ensures sheet { sheet.new ≡ sheet_of bytes.now }
     ensures err { OnErr result (place.new ≤ length (printout bytes.now)) }
+    ensures stopped { OnErr result (GotPart (W.contents writer.old) (W.contents writer.new) (printout bytes.now)) }
 {
     octets::read_words(bytes, 1, sheet);
     let size = input::memory_size(sheet) as usize;
@@ -142,6 +147,7 @@ fn run_input<W: Write>(writer: &mut W, bytes: &[u8], place: &mut usize) -> io::R
     ensures place { OnOk result (place.new ≡ length (printout bytes.now)) }
     ensures written { OnOk result (Appends (W.contents writer.old) (W.contents writer.new) (printout bytes.now)) }
     ensures err { OnErr result (place.new ≤ length (printout bytes.now)) }
+    ensures stopped { OnErr result (GotPart (W.contents writer.old) (W.contents writer.new) (printout bytes.now)) }
 {
     let n = octets::word_in(bytes, 0) as usize;
     let mut sheet = [0u32; sheet::SHEET_WORDS as usize];
@@ -154,6 +160,7 @@ fn answer<W: Write>(writer: &mut W, bytes: &[u8], place: &mut usize) -> io::Resu
     ensures place { OnOk result (place.new ≡ length (printout bytes.now)) }
     ensures written { OnOk result (Appends (W.contents writer.old) (W.contents writer.new) (printout bytes.now)) }
     ensures err { OnErr result (place.new ≤ length (printout bytes.now)) }
+    ensures stopped { OnErr result (GotPart (W.contents writer.old) (W.contents writer.new) (printout bytes.now)) }
 {
     match input::input_message(bytes) {
         Message::TooLarge => write_part(writer, bytes, place, b"too large\n"),
@@ -165,7 +172,8 @@ fn answer<W: Write>(writer: &mut W, bytes: &[u8], place: &mut usize) -> io::Resu
 
 // Reads the input, and prints all of its output.
 fn respond<R: Read, W: Write>(reader: &mut R, writer: &mut W) -> io::Result<()>
-    ensures { OnOk result (Answered (R.remaining reader.old) (R.remaining reader.new) (W.contents writer.old) (W.contents writer.new)) }
+    ensures ok { OnOk result (Answered (R.remaining reader.old) (R.remaining reader.new) (W.contents writer.old) (W.contents writer.new)) }
+    ensures err { OnErr result (BrokenOff (R.remaining reader.old) (R.remaining reader.new) (W.contents writer.old) (W.contents writer.new)) }
 {
     let mut bytes = [0u8; input::MOST_BYTES];
     let n = reading::read_full(reader, &mut bytes)?;

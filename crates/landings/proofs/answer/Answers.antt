@@ -2,14 +2,14 @@
 use Rattle.std.proofs.Common.{◌≡◌, ◌≤◌, ◌+◌, length}
 use Rattle.std.specs.Io.KnownBytes.{Appends}
 use Rattle.landings.specs.Lines.{refused_line}
-use Rattle.landings.specs.Output.{printout}
+use Rattle.landings.specs.Output.{printout, GotPart}
 use Rattle.landings.proofs.OutputLaws.{message_stops, line_has, line_done}
 use Rattle.listing.specs.Text.{too_large, input_ends}
 use mathlib.Core.Path.{refl, sym, ◌∙◌}
 use Rattle.std.proofs.Common.{arith}
-use Rattle.std.proofs.lemmas.Result.{on_ok_weaker}
+use Rattle.std.proofs.lemmas.Result.{on_ok_weaker, on_err_weaker}
 use Rattle.landings.proofs.OutputLaws.{output_is}
-use Rattle.landings.proofs.WriteLaws.{written_as, on_ok, on_err}
+use Rattle.landings.proofs.WriteLaws.{written_as, got_as, on_ok, on_err}
 use Rattle.landings.proofs.answer.Goals as goal
 
 pub write_part-requires : goal.write_part-requires
@@ -61,3 +61,17 @@ returns-in-Refused-clause-place g c = on_ok_weaker {P = c.print_refused.new.plac
 pub returns-in-Refused-clause-written : goal.returns-in-Refused-clause-written
 returns-in-Refused-clause-written g c =
     on_ok_weaker {P = Appends (g.W.Write.contents c.args.writer.now) (g.W.Write.contents c.print_refused.new.writer) (refused_line c.in-Refused.n)} {Q = Appends (g.W.Write.contents c.args.writer.now) (g.W.Write.contents c.print_refused.new.writer) (printout c.args.bytes.now)} c.print_refused.result (λ w. written_as _ _ _ _ (sym (output_is _ (message_stops _ _ refl (sym c.input_message.ensures ∙ c.in-Refused.is)))) w) c.print_refused.ensures.written
+
+pub returns-in-TooLarge-clause-stopped : goal.returns-in-TooLarge-clause-stopped
+unfolding too_large
+returns-in-TooLarge-clause-stopped g c =
+    on_err_weaker {P = GotPart (g.W.Write.contents c.args.writer.now) (g.W.Write.contents c.write_part.new.writer) too_large} {Q = GotPart (g.W.Write.contents c.args.writer.now) (g.W.Write.contents c.write_part.new.writer) (printout c.args.bytes.now)} c.write_part.result (λ p. got_as _ _ _ _ (sym (output_is _ (message_stops _ _ refl (sym c.input_message.ensures ∙ c.in-TooLarge.is)))) p) c.write_part.ensures.err
+
+pub returns-in-InputEnds-clause-stopped : goal.returns-in-InputEnds-clause-stopped
+unfolding input_ends
+returns-in-InputEnds-clause-stopped g c =
+    on_err_weaker {P = GotPart (g.W.Write.contents c.args.writer.now) (g.W.Write.contents c.write_part-in-InputEnds.new.writer) input_ends} {Q = GotPart (g.W.Write.contents c.args.writer.now) (g.W.Write.contents c.write_part-in-InputEnds.new.writer) (printout c.args.bytes.now)} c.write_part-in-InputEnds.result (λ p. got_as _ _ _ _ (sym (output_is _ (message_stops _ _ refl (sym c.input_message.ensures ∙ c.in-InputEnds.is)))) p) c.write_part-in-InputEnds.ensures.err
+
+pub returns-in-Refused-clause-stopped : goal.returns-in-Refused-clause-stopped
+returns-in-Refused-clause-stopped g c =
+    on_err_weaker {P = GotPart (g.W.Write.contents c.args.writer.now) (g.W.Write.contents c.print_refused.new.writer) (refused_line c.in-Refused.n)} {Q = GotPart (g.W.Write.contents c.args.writer.now) (g.W.Write.contents c.print_refused.new.writer) (printout c.args.bytes.now)} c.print_refused.result (λ p. got_as _ _ _ _ (sym (output_is _ (message_stops _ _ refl (sym c.input_message.ensures ∙ c.in-Refused.is)))) p) c.print_refused.ensures.stopped

@@ -2,7 +2,7 @@
 use Rattle.std.proofs.Common.{length, drop}
 use Rattle.std.specs.Io.KnownBytes.{Appends}
 use Rattle.session.specs.Calls.{lend}
-use Rattle.landings.specs.Output.{printout}
+use Rattle.landings.specs.Output.{printout, GotPart}
 use Rattle.landings.specs.Inner.Ended.{Halted}
 use Rattle.landings.proofs.OutputLaws.{heading_has}
 use Rattle.landings.specs.Output.{heading}
@@ -10,9 +10,9 @@ use native.Mathlib.Omega.{arith}
 use Prim.Native.Nat.{ℕ}
 use mathlib.Core.Path.{refl, sym}
 use lib.ListN.{length-replicate}
-use Rattle.std.proofs.lemmas.Result.{on_ok_weaker}
+use Rattle.std.proofs.lemmas.Result.{on_ok_weaker, on_err_weaker}
 use Rattle.landings.proofs.OutputLaws.{none_listed}
-use Rattle.landings.proofs.WriteLaws.{both_written, front_and_rest, on_err}
+use Rattle.landings.proofs.WriteLaws.{both_written, got_front, got_behind, front_and_rest, on_err}
 use Rattle.landings.proofs.list.Goals as goal
 
 pub write_part-requires : goal.write_part-requires
@@ -40,3 +40,19 @@ returns-clause-written g c =
     (λ w. both_written _ _ _ _ _ _ c.in_ok-write_part.ensures.written w
     (front_and_rest _ _ (heading_has _ c.requires.0.runs c.requires.1) c.requires.1 refl))
     c.write_pages.ensures.written
+
+pub returns-in_err-write_part-clause-stopped : goal.returns-in_err-write_part-clause-stopped
+unfolding heading
+returns-in_err-write_part-clause-stopped g c =
+    on_err {P = GotPart (g.W.Write.contents c.args.writer.now) (g.W.Write.contents c.write_part.new.writer) (printout c.args.bytes.now)} _
+    (got_front _ _ _ _ _ (front_and_rest _ _ (heading_has _ c.requires.0.runs c.requires.1) c.requires.1 refl) c.in_err-write_part.ensures.err)
+
+pub returns-clause-stopped : goal.returns-clause-stopped
+unfolding heading
+returns-clause-stopped g c =
+    on_err_weaker {P = GotPart (g.W.Write.contents c.write_part.new.writer) (g.W.Write.contents c.write_pages.new.writer) (drop (length heading) (printout c.args.bytes.now))} {Q = GotPart (g.W.Write.contents c.args.writer.now) (g.W.Write.contents c.write_pages.new.writer) (printout c.args.bytes.now)} c.write_pages.result
+    (λ p. got_behind _ _ _ _ _ _
+    (front_and_rest _ _ (heading_has _ c.requires.0.runs c.requires.1) c.requires.1 refl)
+    c.in_ok-write_part.ensures.written
+    p)
+    c.write_pages.ensures.stopped

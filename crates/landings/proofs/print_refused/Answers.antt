@@ -2,16 +2,16 @@
 use Rattle.std.proofs.Common.{◌≡◌, ◌≤◌, ◌+◌, length, take}
 use Rattle.std.specs.Io.KnownBytes.{Appends}
 use Rattle.landings.specs.Lines.{refused_line}
-use Rattle.landings.specs.Output.{printout}
+use Rattle.landings.specs.Output.{printout, GotPart}
 use Rattle.landings.proofs.OutputLaws.{refused_has, number_fits, number_has, refused_done}
-use Rattle.listing.specs.Text.{refused}
+use Rattle.listing.specs.Text.{line_end, field, refused}
 use native.Mathlib.Omega.{arith}
-use mathlib.Core.Path.{sym}
+use mathlib.Core.Path.{refl, sym}
 use lib.Seq.{length-take-le}
 use Rattle.std.proofs.Common.{◌++◌, List, ℕ, ap}
-use Rattle.std.proofs.lemmas.Result.{on_ok_weaker}
+use Rattle.std.proofs.lemmas.Result.{on_ok_weaker, on_err_weaker}
 use Rattle.landings.proofs.OutputLaws.{number_is}
-use Rattle.landings.proofs.WriteLaws.{both_written, on_ok, on_err}
+use Rattle.landings.proofs.WriteLaws.{both_written, got_front, got_behind, on_ok, on_err}
 use Rattle.landings.proofs.print_refused.Goals as goal
 
 pub write_part-requires : goal.write_part-requires
@@ -66,3 +66,21 @@ returns-clause-err g c =
           c.put_field-end.ensures.bytes).0,
       c.write_part-2.ensures.place,
     ))
+
+pub returns-in_err-write_part-clause-stopped : goal.returns-in_err-write_part-clause-stopped
+unfolding refused
+returns-in_err-write_part-clause-stopped g c =
+    on_err {P = GotPart (g.W.Write.contents c.args.writer.now) (g.W.Write.contents c.write_part.new.writer) (refused_line c.args.number)} _
+    (got_front _ _ _ (field c.args.number line_end) _ refl c.in_err-write_part.ensures.err)
+
+pub returns-clause-stopped : goal.returns-clause-stopped
+unfolding refused
+returns-clause-stopped g c =
+    on_err_weaker {P = GotPart (g.W.Write.contents c.write_part.new.writer) (g.W.Write.contents c.write_part-2.new.writer) (take c.put_field-end.result c.put_field-end.new.buffer)} {Q = GotPart (g.W.Write.contents c.args.writer.now) (g.W.Write.contents c.write_part-2.new.writer) (refused_line c.args.number)} c.write_part-2.result
+    (λ p. got_behind _ _ _ _ _ _
+    (ap (λ (x : List ℕ). refused ++ x)
+    (sym (number_is _ _ _ c.requires _ _ _ _ c.write_part.ensures.place (omega arith) c.put_field-end.ensures.place
+    c.put_field-end.ensures.bytes)))
+    c.in_ok-write_part.ensures.written
+    p)
+    c.write_part-2.ensures.err

@@ -3,7 +3,7 @@ use Rattle.std.proofs.Common.{◌≡◌, ◌≤◌, ◌+◌, length}
 use Rattle.std.specs.Io.KnownBytes.{Appends}
 use Rattle.session.specs.Calls.{lend}
 use Rattle.landings.specs.Lines.{cycles_on, refused_line}
-use Rattle.landings.specs.Output.{printout, before_cycles}
+use Rattle.landings.specs.Output.{printout, before_cycles, GotPart}
 use Rattle.landings.specs.Inner.Ended.{cycles_listed, at_end, Halted}
 use Rattle.landings.proofs.CallLaws.{place_is, sheet_good}
 use Rattle.landings.proofs.OutputLaws.{line_has, line_done, refusal_is, no_refusal_is, before_is, end_refused, end_runs}
@@ -15,7 +15,7 @@ use Rattle.sheet.specs.Sheet.{meant, nodes}
 use Rattle.std.proofs.Common.{sym}
 use Rattle.std.proofs.lemmas.Result.{on_ok_weaker, on_err_weaker}
 use Rattle.landings.proofs.OutputLaws.{output_is, none_listed}
-use Rattle.landings.proofs.WriteLaws.{written_as, on_ok}
+use Rattle.landings.proofs.WriteLaws.{written_as, got_as, on_ok}
 use Rattle.landings.proofs.run_session.Goals as goal
 
 pub prepare-number-requires : goal.prepare-number-requires
@@ -63,3 +63,7 @@ returns-then-number-ne0-clause-err g c = on_err_weaker {P = c.print_refused.new.
 pub returns-clause-words : goal.returns-clause-words
 returns-clause-words g c =
     on_ok_weaker {P = lend c.list.new.s c.list.new.m ≡ cycles_on (cycles_listed c.args.bytes.now) (before_cycles c.args.bytes.now)} {Q = lend c.list.new.s c.list.new.m ≡ at_end c.args.bytes.now} c.list.result (λ w. end_runs _ (no_refusal_is _ _ c.if-number-ne0.false c.prepare-number.ensures.message) w) c.list.ensures.words
+
+pub returns-then-number-ne0-clause-stopped : goal.returns-then-number-ne0-clause-stopped
+returns-then-number-ne0-clause-stopped g c =
+    on_err_weaker {P = GotPart (g.W.Write.contents c.args.writer.now) (g.W.Write.contents c.print_refused.new.writer) (refused_line c.prepare-number.result)} {Q = GotPart (g.W.Write.contents c.args.writer.now) (g.W.Write.contents c.print_refused.new.writer) (printout c.args.bytes.now)} c.print_refused.result (λ p. got_as _ _ _ _ (sym (output_is _ (refusal_is _ _ c.if-number-ne0.true c.prepare-number.ensures.message))) p) c.print_refused.ensures.stopped

@@ -4,7 +4,7 @@ use Rattle.std.proofs.Common.{◌≡◌, ◌≤◌, ◌+◌, length, drop}
 use Rattle.std.specs.Io.KnownBytes.{Appends}
 use Rattle.session.specs.Calls.{lend}
 use Rattle.landings.specs.Lines.{cycles_on, refused_line}
-use Rattle.landings.specs.Output.{printout, heading, before_cycles}
+use Rattle.landings.specs.Output.{printout, heading, before_cycles, GotPart}
 use Rattle.landings.specs.Inner.Ended.{cycles_listed, Halted}
 use mathlib.Core.Path.{sym}
 use native.Mathlib.Omega.{arith}
@@ -13,7 +13,7 @@ use Rattle.landings.proofs.OutputLaws.{few_nodes}
 use Rattle.landings.proofs.PagingLaws.{page_start, page_nodes, page_has, refusal_has, refusal_done, page_next, page_done}
 use Rattle.std.proofs.lemmas.Result.{on_ok_weaker, on_err_weaker}
 use Rattle.landings.proofs.PagingLaws.{page_halted}
-use Rattle.landings.proofs.WriteLaws.{written_none, written_more, written_rest, on_ok_both, on_err}
+use Rattle.landings.proofs.WriteLaws.{written_none, written_more, written_rest, got_more, on_ok_both, on_err}
 use Rattle.landings.proofs.write_pages.Goals as goal
 
 pub fill-page-requires : goal.fill-page-requires
@@ -100,3 +100,18 @@ returns-clause-words g c = (page_done _ _ _ _ _ _ _ _ _ _ _ c.loop-time.invarian
 pub returns-clause-written : goal.returns-clause-written
 returns-clause-written g c =
     written_rest _ _ c.loop-time.invariant.1 (page_done _ _ _ _ _ _ _ _ _ _ _ c.loop-time.invariant.0 (omega arith) c.requires.0).0 c.requires.1
+
+pub returns-in_err-write_part-clause-stopped : goal.returns-in_err-write_part-clause-stopped
+returns-in_err-write_part-clause-stopped g c =
+    on_err {P = GotPart (g.W.Write.contents c.args.writer.now) (g.W.Write.contents c.write_part.new.writer) (drop (length heading) (printout c.args.bytes.now))} _
+    (got_more _ _ _ c.loop-time.invariant.1 (page_has _ _ _ _ _ _ _ _ _ _ _ c.loop-time.invariant.0 c.fill-page.ensures.cycles c.fill-page.ensures.lines c.requires.0) c.in_err-write_part.ensures.err c.requires.1)
+
+pub returns-then-page-ne0-clause-stopped : goal.returns-then-page-ne0-clause-stopped
+returns-then-page-ne0-clause-stopped g c =
+    on_err_weaker {P = GotPart (g.W.Write.contents c.write_part.new.writer) (g.W.Write.contents c.print_refused.new.writer) (refused_line c.fill-page.result.refusal)} {Q = GotPart (g.W.Write.contents c.args.writer.now) (g.W.Write.contents c.print_refused.new.writer) (drop (length heading) (printout c.args.bytes.now))} c.print_refused.result
+    (λ p. got_more _ _ _
+    (written_more _ _ _ c.loop-time.invariant.1 (page_has _ _ _ _ _ _ _ _ _ _ _ c.loop-time.invariant.0 c.fill-page.ensures.cycles c.fill-page.ensures.lines c.requires.0) c.in_ok-write_part.ensures.written c.write_part.ensures.place)
+    (refusal_has _ _ _ _ _ _ _ _ _ _ _ c.loop-time.invariant.0 c.fill-page.ensures.cycles c.fill-page.ensures.lines c.requires.0 c.if-page-ne0.true c.write_part.ensures.place)
+    p
+    c.requires.1)
+    c.print_refused.ensures.stopped
