@@ -3,6 +3,7 @@
 use Rattle.std.specs.Prelude.{ℕ, ◌+◌, ◌*◌, ◌<◌, ◌≤◌, ◌⊎◌, List, [], ◌∷◌, ◌++◌, ◌≡◌, length, take, drop}
 use Rattle.std.specs.declared.option.Option.{Option}
 use Rattle.std.specs.Io.KnownBytes.{Keeps, Consumes, IsAtEnd, Appends}
+use Rattle.streams.specs.Written.{GotPart}
 use Rattle.sheet.specs.Sheet.{meant, nodes, sheet_words}
 use Rattle.session.specs.Calls.{Lent, lend}
 use Rattle.listing.specs.Text.{too_large, input_ends}
@@ -42,10 +43,6 @@ printout bytes = printed (message bytes) (all_lines bytes)
 -- a text has a part at a place
 abbrev pub HasAt : List ℕ → ℕ → List ℕ → Type 0
 HasAt text place part = (place + length part ≤ length text) × (take (length part) (drop place text) ≡ part)
-
--- a writer got a first part of a text, which may be none of it or all
-abbrev pub GotPart : Option (List ℕ) → Option (List ℕ) → List ℕ → Type 0
-GotPart output after text = (n : ℕ) × (n ≤ length text) × Appends output after (take n text)
 
 -- so many bytes were read, and all that there are where they are fewer than a longest input has; their output was written
 abbrev pub Answered : Option (List ℕ) → Option (List ℕ) → Option (List ℕ) → Option (List ℕ) → Type 0

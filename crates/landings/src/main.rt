@@ -13,7 +13,8 @@ ghost use Rattle.landings.specs.declared.input.Message.TheVariants.{Runs};
 ghost use Rattle.landings.specs.Input.{stated_length, sheet_of};
 ghost use Rattle.landings.specs.Messages.{input_message};
 ghost use Rattle.landings.specs.Lines.{cycles_on, refused_line};
-ghost use Rattle.landings.specs.Output.{heading, before_cycles, printout, HasAt, GotPart, Answered, BrokenOff};
+ghost use Rattle.landings.specs.Output.{heading, before_cycles, printout, HasAt, Answered, BrokenOff};
+ghost use Rattle.streams.specs.Written.{GotPart};
 ghost use Rattle.landings.specs.Inner.Ended.{cycles_listed, at_end, Halted};
 ghost use Rattle.landings.specs.Inner.Pages.{ReadyToList, Lendable};
 
@@ -176,7 +177,7 @@ fn respond<R: Read, W: Write>(reader: &mut R, writer: &mut W) -> io::Result<()>
     ensures err { OnErr result (BrokenOff (R.remaining reader.old) (R.remaining reader.new) (W.contents writer.old) (W.contents writer.new)) }
 {
     let mut bytes = [0u8; input::MOST_BYTES];
-    let n = reading::read_full(reader, &mut bytes)?;
+    let n = streams::read_full(reader, &mut bytes)?;
     let mut place = 0;
     answer(writer, &bytes[..n], &mut place)
 }

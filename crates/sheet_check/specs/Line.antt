@@ -1,8 +1,9 @@
 -- The line that sheet_check prints for its input (document 01, "The key's examples", gives the messages): a word with the sheet's
 -- length, then the sheet; what follows is ignored.
-use Rattle.std.specs.Prelude.{ℕ, zero, suc, ◌+◌, ◌*◌, ◌<◌, ◌≤◌, ◌⊎◌, List, [], ◌∷◌, ◌++◌, length, take}
+use Rattle.std.specs.Prelude.{ℕ, zero, suc, ◌+◌, ◌*◌, ◌<◌, ◌⊎◌, List, [], ◌∷◌, ◌++◌, length}
 use Rattle.std.specs.declared.option.Option.{Option}
 use Rattle.std.specs.Io.KnownBytes.{Keeps, Consumes, IsAtEnd, Appends}
+use Rattle.streams.specs.Written.{GotPart}
 use Rattle.words.specs.Tests.{◌<?◌}
 use Rattle.words.specs.Words.{pick, tab}
 use Rattle.sheet.specs.Sheet.{sheet_words}
@@ -36,10 +37,6 @@ text_of Passes = passes
 text_of (Refused n) = refused ++ field n line_end
 text_of TooLarge = too_large
 text_of InputEnds = input_ends
-
--- a writer got a first part of a text, which may be none of it or all
-abbrev pub GotPart : Option (List ℕ) → Option (List ℕ) → List ℕ → Type 0
-GotPart output after text = (n : ℕ) × (n ≤ length text) × Appends output after (take n text)
 
 -- so many bytes were read, and all that there are where they are fewer than a longest sheet needs; the text of their line was written
 abbrev pub Answered : Option (List ℕ) → Option (List ℕ) → Option (List ℕ) → Option (List ℕ) → Type 0

@@ -2,14 +2,13 @@
 #![tactic(auto)]
 
 ghost use Rattle.std.specs.Prelude.{◌≡◌, ◌+◌, ◌*◌, ◌<◌, ◌≤◌, length, take, OnOk, OnErr};
-ghost use Rattle.std.specs.Io.KnownBytes.{Appends};
 ghost use Rattle.octets.specs.Octets.{word_in};
-ghost use Rattle.sheet_check.specs.Line.{line_of, sheet_of, verdict_line, text_of, GotPart, Answered, BrokenOff};
+ghost use Rattle.sheet_check.specs.Line.{line_of, sheet_of, verdict_line, text_of, Answered, BrokenOff};
 ghost use Rattle.sheet.specs.Rules.{check_number};
 
 use checker::Outcome;
 use std::io;
-use std::io::{Error, ErrorKind, Read, Write};
+use std::io::{Read, Write};
 
 const LINE_END: u8 = 10;
 
@@ -98,32 +97,6 @@ fn answer(bytes: &[u8]) -> Text
     text_of(line_for(bytes))
 }
 
-// Writes all of a text, in as many writes as that takes, and again where a signal interrupts one, as std's `write_all` does, which does not
-// say what an error leaves written. What ends it is an error of a write, a write that takes no byte, or the last of 2^64 tries.
-fn write_whole<W: Write>(writer: &mut W, text: &[u8]) -> io::Result<()>
-    ensures written { OnOk result (Appends (W.contents writer.old) (W.contents writer.new) text.now) }
-    ensures err { OnErr result (GotPart (W.contents writer.old) (W.contents writer.new) text.now) }
-{
-    let mut done = 0;
-    'writes: for _ in 0..u64::MAX {
-        if done == text.len() {
-            return Ok(());
-        }
-        match writer.write(&text[done..]) {
-            Ok(0) => {
-                return Err(Error::new(ErrorKind::WriteZero, "failed to write whole buffer"));
-            }
-            Ok(n) => done += n,
-            Err(e) if e.kind() == ErrorKind::Interrupted => {}
-            Err(e) => return Err(e),
-        }
-    }
-    Err(Error::new(
-        ErrorKind::TimedOut,
-        "gave up reading or writing after 2^64 tries",
-    ))
-}
-
 // The bytes of the longest input of which all is needed: a word with the sheet's length, and the longest sheet.
 const MOST_BYTES: usize = 4 * (1 + sheet::SHEET_WORDS as usize);
 
@@ -133,9 +106,9 @@ fn respond<R: Read, W: Write>(reader: &mut R, writer: &mut W) -> io::Result<()>
     ensures err { OnErr result (BrokenOff (R.remaining reader.old) (R.remaining reader.new) (W.contents writer.old) (W.contents writer.new)) }
 {
     let mut bytes = [0u8; MOST_BYTES];
-    let n = reading::read_full(reader, &mut bytes)?;
+    let n = streams::read_full(reader, &mut bytes)?;
     let text = answer(&bytes[..n]);
-    write_whole(writer, &text.bytes[..text.count])
+    streams::write_whole(writer, &text.bytes[..text.count])
 }
 
 fn main(rt: HostRuntime) -> io::Result<()> {

@@ -2,7 +2,8 @@
 use Rattle.std.proofs.Common.{◌≡◌, ◌≤◌, ◌+◌, length}
 use Rattle.std.specs.Io.KnownBytes.{Appends}
 use Rattle.landings.specs.Lines.{refused_line}
-use Rattle.landings.specs.Output.{printout, GotPart}
+use Rattle.landings.specs.Output.{printout}
+use Rattle.streams.specs.Written.{GotPart}
 use Rattle.landings.proofs.OutputLaws.{message_stops, line_has, line_done}
 use Rattle.listing.specs.Text.{too_large, input_ends}
 use mathlib.Core.Path.{refl, sym, ◌∙◌}

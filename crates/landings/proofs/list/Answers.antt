@@ -2,7 +2,8 @@
 use Rattle.std.proofs.Common.{length, drop}
 use Rattle.std.specs.Io.KnownBytes.{Appends}
 use Rattle.session.specs.Calls.{lend}
-use Rattle.landings.specs.Output.{printout, GotPart}
+use Rattle.landings.specs.Output.{printout}
+use Rattle.streams.specs.Written.{GotPart}
 use Rattle.landings.specs.Inner.Ended.{Halted}
 use Rattle.landings.proofs.OutputLaws.{heading_has}
 use Rattle.landings.specs.Output.{heading}
@@ -12,7 +13,8 @@ use mathlib.Core.Path.{refl, sym}
 use lib.ListN.{length-replicate}
 use Rattle.std.proofs.lemmas.Result.{on_ok_weaker, on_err_weaker}
 use Rattle.landings.proofs.OutputLaws.{none_listed}
-use Rattle.landings.proofs.WriteLaws.{both_written, got_front, got_behind, front_and_rest, on_err}
+use Rattle.streams.proofs.WriteLaws.{both_written}
+use Rattle.landings.proofs.WriteLaws.{got_front, got_behind, front_and_rest, on_err}
 use Rattle.landings.proofs.list.Goals as goal
 
 pub write_part-requires : goal.write_part-requires

@@ -2,7 +2,8 @@
 use Rattle.std.proofs.Common.{◌≡◌, ◌≤◌, ◌+◌, length, take}
 use Rattle.std.specs.Io.KnownBytes.{Appends}
 use Rattle.landings.specs.Lines.{refused_line}
-use Rattle.landings.specs.Output.{printout, GotPart}
+use Rattle.landings.specs.Output.{printout}
+use Rattle.streams.specs.Written.{GotPart}
 use Rattle.landings.proofs.OutputLaws.{refused_has, number_fits, number_has, refused_done}
 use Rattle.listing.specs.Text.{line_end, field, refused}
 use native.Mathlib.Omega.{arith}
@@ -11,7 +12,8 @@ use lib.Seq.{length-take-le}
 use Rattle.std.proofs.Common.{◌++◌, List, ℕ, ap}
 use Rattle.std.proofs.lemmas.Result.{on_ok_weaker, on_err_weaker}
 use Rattle.landings.proofs.OutputLaws.{number_is}
-use Rattle.landings.proofs.WriteLaws.{both_written, got_front, got_behind, on_ok, on_err}
+use Rattle.streams.proofs.WriteLaws.{both_written}
+use Rattle.landings.proofs.WriteLaws.{got_front, got_behind, on_ok, on_err}
 use Rattle.landings.proofs.print_refused.Goals as goal
 
 pub write_part-requires : goal.write_part-requires

@@ -3,7 +3,8 @@ use Rattle.std.proofs.Common.{◌≡◌, ◌≤◌, ◌+◌, length}
 use Rattle.std.specs.Io.KnownBytes.{Appends}
 use Rattle.session.specs.Calls.{lend}
 use Rattle.landings.specs.Lines.{cycles_on, refused_line}
-use Rattle.landings.specs.Output.{printout, before_cycles, GotPart}
+use Rattle.landings.specs.Output.{printout, before_cycles}
+use Rattle.streams.specs.Written.{GotPart}
 use Rattle.landings.specs.Inner.Ended.{cycles_listed, at_end, Halted}
 use Rattle.landings.proofs.CallLaws.{place_is, sheet_good}
 use Rattle.landings.proofs.OutputLaws.{line_has, line_done, refusal_is, no_refusal_is, before_is, end_refused, end_runs}

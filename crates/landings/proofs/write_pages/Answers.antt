@@ -4,7 +4,8 @@ use Rattle.std.proofs.Common.{◌≡◌, ◌≤◌, ◌+◌, length, drop}
 use Rattle.std.specs.Io.KnownBytes.{Appends}
 use Rattle.session.specs.Calls.{lend}
 use Rattle.landings.specs.Lines.{cycles_on, refused_line}
-use Rattle.landings.specs.Output.{printout, heading, before_cycles, GotPart}
+use Rattle.landings.specs.Output.{printout, heading, before_cycles}
+use Rattle.streams.specs.Written.{GotPart}
 use Rattle.landings.specs.Inner.Ended.{cycles_listed, Halted}
 use mathlib.Core.Path.{sym}
 use native.Mathlib.Omega.{arith}

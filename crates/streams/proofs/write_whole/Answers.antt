@@ -1,10 +1,10 @@
--- `landings::output::write_whole` meets its contract: each write takes the next bytes of the text, or none.
+-- `streams::write_whole` meets its contract: each write takes the next bytes of the text, or none.
 use native.Mathlib.Omega.{arith}
 use Rattle.std.proofs.Common.{take, sym, subst}
 use Rattle.std.specs.Io.KnownBytes.{Appends}
-use Rattle.landings.proofs.WriteLaws.{front_more, kept_written}
-use Rattle.landings.proofs.output.write_whole.Goals.{in-Ok, in-Err}
-use Rattle.landings.proofs.output.write_whole.Goals as goal
+use Rattle.streams.proofs.WriteLaws.{front_more, kept_written}
+use Rattle.streams.proofs.write_whole.Goals.{in-Ok, in-Err}
+use Rattle.streams.proofs.write_whole.Goals as goal
 
 pub writes-preserved : goal.writes-preserved
 writes-preserved g c =

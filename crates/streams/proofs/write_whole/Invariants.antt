@@ -1,7 +1,7 @@
 -- So many bytes were written.
 use Rattle.std.proofs.Common.{◌≤◌, length, take}
 use Rattle.std.specs.Io.KnownBytes.{Appends}
-use Rattle.sheet_check.proofs.write_whole.Given as goal
+use Rattle.streams.proofs.write_whole.Given as goal
 
 abbrev pub invariant-writes : goal.invariant-writes
 invariant-writes g l =
