@@ -25,8 +25,8 @@ const same = (name) => name;
 const small = (name) => name.toLowerCase();
 const stem = (name) => name.replace(/\.[^.]*$/, '');
 
-// A finder of the key's sheet by its name: the exact name first, then regardless of capitals, then the name without its ending, each
-// where only one sheet has it; null where there is none.
+// A finder of the key's sheet by its name as it is compared: the exact name first, then regardless of capitals, then the name without its
+// ending, each where only one sheet has it; null where there is none.
 function sheetFinder(keys) {
   const forms = [[same, same], [small, small], [stem, same], [(name) => small(stem(name)), small]];
   const tables = forms.map(([ofKey, ofPaper]) => {
@@ -37,10 +37,7 @@ function sheetFinder(keys) {
     }
     return (name) => table.get(ofPaper(name)) ?? null;
   });
-  return (path) => {
-    const name = compared(path);
-    return tables.reduce((found, lookUp) => found ?? lookUp(name), null);
-  };
+  return (name) => tables.reduce((found, lookUp) => found ?? lookUp(name), null);
 }
 
 // A verdict's number, or null.
@@ -65,7 +62,9 @@ function namedLine(text, find) {
   const [name, after] = [text.slice(0, colon), text.slice(colon + 1).trim()];
   const number = verdictOf(after);
   if (after !== '' && number === null) return null;
-  return { text: number === null ? text : `${name}: ${verdictText(number)}`, name: small(compared(name)), number, sheet: find(name) };
+  // Once a line: of a name with many marks to be put in order this is what takes the time.
+  const shown = compared(name);
+  return { text: number === null ? text : `${name}: ${verdictText(number)}`, name: small(shown), number, sheet: find(shown) };
 }
 
 // A line with one blank between its words and none around.
@@ -93,7 +92,7 @@ function readLine(line, find) {
 
 function sheetOfComment(text, find) {
   const colon = text.indexOf(':');
-  const below = find(text) ?? (colon < 0 ? null : find(text.slice(0, colon)));
+  const below = find(compared(text)) ?? (colon < 0 ? null : find(compared(text.slice(0, colon))));
   return below ? { below } : null;
 }
 
