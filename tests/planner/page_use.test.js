@@ -160,9 +160,9 @@ test('the largest sheet does not stall the page', async () => {
     }
   }
   const path = written('largest.csv', rows.join('\n'));
-  // The least of three tries, and more where a loop of the same length takes longer than on an idle machine: others may share it.
+  // The least of twelve tries, and more where a loop of the same length takes longer than on an idle machine: others may share it.
   let least = Infinity;
-  for (let tries = 0; tries < 3 && least >= 1000; tries++) least = Math.min(least, (await longestPause(path)) / (await slowness()));
+  for (let tries = 0; tries < 12 && least >= 1000; tries++) least = Math.min(least, (await longestPause(path)) / (await slowness()));
   assert.ok(least < 1000, `the page stood still for ${least} ms`);
 });
 
