@@ -1,4 +1,4 @@
-// Time as tests may bound it: of the processor, not of the clock, since other work may share the machine; the least of three tries.
+// Time as tests may bound it: of the processor, not of the clock, since other work may share the machine; the least of twelve tries.
 
 export function leastMilliseconds(work, limit) {
   let least = Infinity;
