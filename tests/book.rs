@@ -54,12 +54,13 @@ fn is_fixity(line: &str) -> bool {
     ["infix ", "infixl ", "infixr "].iter().any(|word| line.starts_with(word))
 }
 
-/// The lines of a source's clauses: from a line that begins with `requires` or `ensures` to the one where its braces are closed again.
+/// The lines of a source's clauses: from a line that begins with `requires` or `ensures`, or with the ghost item of a type or an `impl`, to the
+/// one where its braces are closed again.
 fn clauses(text: &str) -> impl Iterator<Item = &str> {
     let mut open = 0;
     text.lines().filter(move |line| {
-        let begins = ["requires", "ensures"].iter().any(|word| line.trim_start().starts_with(word));
-        if is_comment(line) || open == 0 && !begins {
+        let begins = ["requires", "ensures", "ghost ", "pub ghost "].iter().any(|word| line.trim_start().starts_with(word));
+        if is_comment(line) || is_use(line) || open == 0 && !begins {
             return false;
         }
         open += line.matches('{').count() as i32 - line.matches('}').count() as i32;

@@ -12,7 +12,8 @@ use std::path::{Path, PathBuf};
 use std::process::ExitCode;
 
 /// The crates that are open to callers.
-const OPEN_CRATES: [&str; 7] = ["batch", "checker", "exports", "packet", "session", "soundness", "timetable"];
+const OPEN_CRATES: [&str; 8] =
+    ["batch", "checker", "exports", "packet", "refusal", "session", "soundness", "timetable"];
 
 /// All that lies in a folder, in the order of names.
 fn inside(folder: &Path) -> Vec<PathBuf> {

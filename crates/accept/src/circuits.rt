@@ -37,8 +37,6 @@ fn list_circuit(from: &mut [u32], to: &mut [u32], node: usize, k: u32)
 {
     if to[node] == 0 {
         from[node] = k;
-        to[node] = k + 1;
-        return;
     }
     to[node] = k + 1;
 }
@@ -51,23 +49,19 @@ fn circuits_arranged(z: &[u32], from: &mut [u32], to: &mut [u32]) -> bool
 {
     let nodes = sheet::nodes_of(z);
     let memory = sheet::memory_of(z);
-    let count = sheet::circuits_of(z);
     let mut end: u64 = 0;
-    let mut k: u32 = 0;
-    while k < count {
+    for k in 0..sheet::circuits_of(z) {
         let circuit = circuit_within(z, k);
-        if circuit.fits(nodes, memory) {
-            let receive = circuit.receive;
-            let key = (receive.node as u64) * 65536 + (receive.offset as u64);
-            if key < end {
-                return false;
-            }
-            end = key + (receive.size as u64);
-            list_circuit(from, to, receive.node as usize, k);
-            k += 1;
-        } else {
+        if !circuit.fits(nodes, memory) {
             return false;
         }
+        let receive = circuit.receive;
+        let key = (receive.node as u64) * 65536 + (receive.offset as u64);
+        if key < end {
+            return false;
+        }
+        end = key + (receive.size as u64);
+        list_circuit(from, to, receive.node as usize, k);
     }
     true
 }
@@ -77,15 +71,9 @@ fn read_apart(z: &[u32], k: u32, first: u32, last: u32) -> bool
     requires { (Framed z.now) × (rule4 z.now ≡ true) × (k < circuits z.now) × (last ≤ circuits z.now) }
     ensures { result ≡ true → (i : _) → first ≤ i → i < last → apart (circuit_at z.now i).receive (circuit_at z.now k).read ≡ true }
 {
-    let own = circuit_within(z, k);
-    let read = own.read;
-    let mut i = first;
-    while i < last {
-        let other = circuit_within(z, i);
-        let receive = other.receive;
-        if receive.is_apart(read) {
-            i += 1;
-        } else {
+    let read = circuit_within(z, k).read;
+    for i in first..last {
+        if !circuit_within(z, i).receive.is_apart(read) {
             return false;
         }
     }
@@ -97,15 +85,9 @@ fn reads_apart(z: &[u32], from: &[u32], to: &[u32]) -> bool
     requires { (Framed z.now) × (Ordered z.now (circuits z.now)) × (ByNode z.now from.now to.now (circuits z.now)) }
     ensures { result ≡ true → rule6 z.now ≡ true }
 {
-    let count = sheet::circuits_of(z);
-    let mut k: u32 = 0;
-    while k < count {
-        let circuit = circuit_within(z, k);
-        let read = circuit.read;
-        let node = read.node as usize;
-        if read_apart(z, k, from[node], to[node]) {
-            k += 1;
-        } else {
+    for k in 0..sheet::circuits_of(z) {
+        let node = circuit_within(z, k).read.node as usize;
+        if !read_apart(z, k, from[node], to[node]) {
             return false;
         }
     }
@@ -119,8 +101,5 @@ pub fn keeps_circuits(z: &[u32]) -> bool
 {
     let mut from = [0u32; 16];
     let mut to = [0u32; 16];
-    if circuits_arranged(z, &mut from, &mut to) {
-        return reads_apart(z, &from, &to);
-    }
-    false
+    circuits_arranged(z, &mut from, &mut to) && reads_apart(z, &from, &to)
 }

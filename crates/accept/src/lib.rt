@@ -15,22 +15,12 @@ ghost use Rattle.sheet.specs.Inner.Passed.{Framed};
 fn keeps_frame(z: &[u32]) -> bool
     ensures { result ≡ true → Framed z.now }
 {
-    if sheet::keeps_rule1(z) {
-        if sheet::keeps_rule2(z) {
-            return sheet::keeps_rule3(z);
-        }
-    }
-    false
+    sheet::keeps_rule1(z) && sheet::keeps_rule2(z) && sheet::keeps_rule3(z)
 }
 
 // The sheet keeps the rules 1 to 11, where this answers true.
 pub fn accepts(z: &[u32]) -> bool
     ensures { result ≡ true → verdict z.now ≡ 0 }
 {
-    if keeps_frame(z) {
-        if circuits::keeps_circuits(z) {
-            return schedules::keeps_schedules(z);
-        }
-    }
-    false
+    keeps_frame(z) && circuits::keeps_circuits(z) && schedules::keeps_schedules(z)
 }

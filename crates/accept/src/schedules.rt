@@ -12,17 +12,6 @@ use super::walks::place_entry;
 use super::working::{find_ends, find_neighbours, longest_period};
 use sheet::Entry;
 
-// Sets all words to 0.
-fn clear(table: &mut [u32])
-    ensures { (length table.new ≡ length table.old) × ((k : _) → word table.new k ≡ 0) }
-{
-    let mut k = 0;
-    while k < table.len() {
-        table[k] = 0;
-        k += 1;
-    }
-}
-
 // The entries of schedule j, each in order behind the one before, in time, and along a route whose wires are free. The loop counts words and not
 // entries, which leaves it a register more.
 fn place_entries(table: &mut [u32], near: &[u32], z: &[u32], ends: &[u32], j: u32) -> bool
@@ -36,27 +25,23 @@ fn place_entries(table: &mut [u32], near: &[u32], z: &[u32], ends: &[u32], j: u3
     let entries = sheet::entries_of(z, j);
     let stride = ((period / 32) as usize) + 2;
     let mut least: u32 = 0;
-    let mut at = 0;
-    while at < entries.len() {
-        let e = Entry::at(entries, at / 4);
-        if e.fits(circuits, period) {
-            let key = e.offset * 64 + e.circuit;
-            if key < least {
-                return false;
-            }
-            let both = ends[e.circuit as usize];
-            if period + 2 < e.offset + e.size - 1 + both / 65536 {
-                return false;
-            }
-            if place_entry(table, near, z, long, both, stride, e) {
-                least = key + 1;
-                at += 4;
-            } else {
-                return false;
-            }
-        } else {
+    for i in 0..entries.len() / 4 {
+        let e = Entry::at(entries, i);
+        if !e.fits(circuits, period) {
             return false;
         }
+        let key = e.offset * 64 + e.circuit;
+        if key < least {
+            return false;
+        }
+        let both = ends[e.circuit as usize];
+        if period + 2 < e.offset + e.size - 1 + both / 65536 {
+            return false;
+        }
+        if !place_entry(table, near, z, long, both, stride, e) {
+            return false;
+        }
+        least = key + 1;
     }
     true
 }
@@ -67,10 +52,8 @@ fn keeps_schedule(table: &mut [u32], near: &[u32], z: &[u32], ends: &[u32], j: u
     ensures long { length table.new ≡ length table.old }
     ensures kept { result ≡ true → ScheduleKept z.now j }
 {
-    if words::is_between(9, 1024, sheet::schedule_period(z, j)) {
-        return place_entries(table, near, z, ends, j);
-    }
-    false
+    words::is_between(9, 1024, sheet::schedule_period(z, j))
+        && place_entries(table, near, z, ends, j)
 }
 
 // The numbers 7 to 11 at all schedules, in a free table with room for each. The first is called apart from those behind it: a function with one
@@ -79,20 +62,16 @@ fn schedules_kept(table: &mut [u32], near: &[u32], z: &[u32], ends: &[u32]) -> b
     requires { ((j : _) → j < schedules z.now → Schedulable (length table.old) near.now z.now ends.now j) × (Free table.old) × (0 < schedules z.now) }
     ensures { result ≡ true → KeptAll z.now (schedules z.now) }
 {
-    let count = sheet::schedules_of(z);
-    if keeps_schedule(table, near, z, ends, 0) {
-        let mut j: u32 = 1;
-        while j < count {
-            clear(table);
-            if keeps_schedule(table, near, z, ends, j) {
-                j += 1;
-            } else {
-                return false;
-            }
-        }
-        return true;
+    if !keeps_schedule(table, near, z, ends, 0) {
+        return false;
     }
-    false
+    for j in 1..sheet::schedules_of(z) {
+        table.fill(0);
+        if !keeps_schedule(table, near, z, ends, j) {
+            return false;
+        }
+    }
+    true
 }
 
 // The same, with what is worked out of the sheet once; keeps_schedules has chosen the tables.
@@ -106,47 +85,18 @@ fn kept_in(table: &mut [u32], near: &mut [u32], z: &[u32]) -> bool
     schedules_kept(table, near, z, &ends)
 }
 
-// The same in a table of 64 words, which a small sheet needs no more than: making zeros is a good part of the time of small sheets.
-fn kept_in_small(z: &[u32]) -> bool
-    requires { (Framed z.now) × (rule4 z.now ≡ true) × ((j : _) → j < schedules z.now → nodes z.now * wires_per_node * row_words (period z.now j) ≤ 64) }
+// The same in tables of so many words; making zeros is a good part of the time of small sheets.
+fn kept_in_tables<const WORDS: usize, const WIRES: usize>(z: &[u32]) -> bool
+    requires { (Framed z.now) × (rule4 z.now ≡ true) × (WORDS ≤ 3264) × (nodes z.now * wires_per_node ≤ WIRES) × (WIRES ≤ 96) × ((j : _) → j < schedules z.now → nodes z.now * wires_per_node * row_words (period z.now j) ≤ WORDS) }
     ensures { result ≡ true → KeptAll z.now (schedules z.now) }
 {
-    let mut table = [0u32; 64];
-    let mut near = [0u32; 32];
+    let mut table = [0u32; WORDS];
+    let mut near = [0u32; WIRES];
     kept_in(&mut table, &mut near, z)
 }
 
-// The same in a table of 512 words.
-fn kept_in_medium(z: &[u32]) -> bool
-    requires { (Framed z.now) × (rule4 z.now ≡ true) × ((j : _) → j < schedules z.now → nodes z.now * wires_per_node * row_words (period z.now j) ≤ 512) }
-    ensures { result ≡ true → KeptAll z.now (schedules z.now) }
-{
-    let mut table = [0u32; 512];
-    let mut near = [0u32; 96];
-    kept_in(&mut table, &mut near, z)
-}
-
-// The same in a table of 1,152 words.
-fn kept_in_large(z: &[u32]) -> bool
-    requires { (Framed z.now) × (rule4 z.now ≡ true) × ((j : _) → j < schedules z.now → nodes z.now * wires_per_node * row_words (period z.now j) ≤ 1152) }
-    ensures { result ≡ true → KeptAll z.now (schedules z.now) }
-{
-    let mut table = [0u32; 1152];
-    let mut near = [0u32; 96];
-    kept_in(&mut table, &mut near, z)
-}
-
-// The same in a table for the largest sheets: 96 wires with 34 words each.
-fn kept_in_largest(z: &[u32]) -> bool
-    requires { (Framed z.now) × (rule4 z.now ≡ true) × ((j : _) → j < schedules z.now → period z.now j ≤ 1024) }
-    ensures { result ≡ true → KeptAll z.now (schedules z.now) }
-{
-    let mut table = [0u32; 3264];
-    let mut near = [0u32; 96];
-    kept_in(&mut table, &mut near, z)
-}
-
-// The numbers 7 to 11; accepts has seen that the sheet keeps those before.
+// The numbers 7 to 11, in tables that are large enough: the largest sheets have 96 wires with 34 words each. accepts has seen that the sheet keeps those
+// before.
 pub fn keeps_schedules(z: &[u32]) -> bool
     requires { (Framed z.now) × (rule4 z.now ≡ true) }
     ensures { result ≡ true → KeptAll z.now (schedules z.now) }
@@ -156,14 +106,10 @@ pub fn keeps_schedules(z: &[u32]) -> bool
         return false;
     }
     let need = sheet::nodes_of(z) * torus::WIRES_PER_NODE * (longest / 32 + 2);
-    if need <= 64 {
-        return kept_in_small(z);
+    match need {
+        0..=64 => kept_in_tables::<64, 32>(z),
+        65..=512 => kept_in_tables::<512, 96>(z),
+        513..=1152 => kept_in_tables::<1152, 96>(z),
+        _ => kept_in_tables::<3264, 96>(z),
     }
-    if need <= 512 {
-        return kept_in_medium(z);
-    }
-    if need <= 1152 {
-        return kept_in_large(z);
-    }
-    kept_in_largest(z)
 }

@@ -1,6 +1,5 @@
 // The numbers 9 and 11 at one entry, in one walk along its route: each wire's places are taken as the walk goes.
 ghost use Rattle.std.specs.Prelude.{true, ◌≡◌, ◌+◌, ◌*◌, ◌/◌, ◌%◌, ◌<◌, ◌≤◌, length};
-ghost use Rattle.torus.specs.Route.{link_cycles};
 ghost use Rattle.sheet.specs.Sheet.{is_long};
 ghost use Rattle.occupancy.specs.Inner.Occupancy.{slot_mask, TakenIfFree};
 ghost use Rattle.accept.specs.Inner.Placing.{Placeable, FollowedFree, PlacedFree};
@@ -13,16 +12,6 @@ fn take_wire(table: &mut [u32], wire: u32, stride: usize, q: usize, mask: u64) -
     ensures { TakenIfFree table.old table.new (wire * stride + q) mask result }
 {
     occupancy::take_free(table, (wire as usize) * stride + q, mask)
-}
-
-// The cycles that the link of a side takes.
-fn link_cycles(long: bool, side: u32) -> u32
-    ensures { result ≡ link_cycles long side }
-{
-    if long {
-        return torus::link_cycles(side);
-    }
-    0
 }
 
 // Follows an entry's route from its source's router on, over no more cycles than the circuit's span, and takes the places of each output:
@@ -54,26 +43,22 @@ fn follow_entry(
         let side = rest % 4;
         rest = rest / 4;
         let wire = node + side;
-        if take_wire(table, wire, stride, q, mask) {
-            let cycles = torus::ROUTER_CYCLES + link_cycles(long, side);
-            if left < cycles {
-                return false;
-            }
-            node = near[wire as usize];
-            back = (side + 2) % 4;
-            mask = mask << cycles;
-            left = left - cycles;
-            if left == 0 {
-                break;
-            }
-        } else {
+        if !take_wire(table, wire, stride, q, mask) {
             return false;
         }
+        let cycles = torus::ROUTER_CYCLES + torus::link_cycles(long, side);
+        if left < cycles {
+            return false;
+        }
+        node = near[wire as usize];
+        back = (side + 2) % 4;
+        mask = mask << cycles;
+        left = left - cycles;
+        if left == 0 {
+            break;
+        }
     }
-    if node != ends / 256 % 256 {
-        return false;
-    }
-    if rest != back {
+    if node != ends / 256 % 256 || rest != back {
         return false;
     }
     take_wire(table, node + torus::MEMORY, stride, q, mask)
@@ -96,8 +81,6 @@ pub fn place_entry(
 {
     let q = (e.offset / 32) as usize;
     let slot = occupancy::slot_mask(e.offset % 32, e.size);
-    if take_wire(table, ends % 256 + torus::SOURCE, stride, q, slot) {
-        return follow_entry(table, near, z, long, ends, stride, e, q, slot);
-    }
-    false
+    take_wire(table, ends % 256 + torus::SOURCE, stride, q, slot)
+        && follow_entry(table, near, z, long, ends, stride, e, q, slot)
 }

@@ -33,24 +33,9 @@ pub fn find_neighbours(cols: u32, rows: u32, near: &mut [u32])
     requires { (InGrid cols rows 0) × (cols * rows * wires_per_node ≤ length near.old) }
     ensures { Neighbours cols rows near.new }
 {
-    let count = cols * rows;
-    let mut node: u32 = 0;
-    while node < count {
+    for node in 0..cols * rows {
         put_neighbours(cols, rows, node, near);
-        node += 1;
     }
-}
-
-// The cycles of the hops between two nodes of a grid of either kind.
-fn span_of(cols: u32, rows: u32, long: bool, source: u32, destination: u32) -> u32
-    requires { (InGrid cols rows source) × (InGrid cols rows destination) }
-    ensures { result ≡ router_cycles * distance_of cols rows source destination + pick long (shorter_way rows (source / cols) (destination / cols)) 0 }
-{
-    let span = torus::ROUTER_CYCLES * torus::distance(cols, rows, source, destination);
-    if long {
-        return span + torus::vertical_distance(cols, rows, source, destination);
-    }
-    span
 }
 
 // The ends and spans of all circuits.
@@ -61,15 +46,12 @@ pub fn find_ends(z: &[u32], ends: &mut [u32])
     let cols = sheet::columns_of(z);
     let rows = sheet::rows_of(z);
     let long = sheet::is_long(z);
-    let count = sheet::circuits_of(z);
-    let mut k: u32 = 0;
-    while k < count {
+    for k in 0..sheet::circuits_of(z) {
         let at = k as usize;
         let source = z[5 + 6 * at];
         let destination = z[6 + 6 * at];
-        let span = span_of(cols, rows, long, source, destination);
+        let span = torus::span(cols, rows, long, source, destination);
         ends[at] = source * 6 + destination * 1536 + span * 65536;
-        k += 1;
     }
 }
 
@@ -78,13 +60,9 @@ pub fn longest_period(z: &[u32]) -> u32
     requires { Framed z.now }
     ensures { (j : _) → j < schedules z.now → period z.now j ≤ result }
 {
-    let count = sheet::schedules_of(z);
     let mut longest: u32 = 0;
-    let mut j: u32 = 0;
-    while j < count {
-        let period = sheet::schedule_period(z, j);
-        longest = if longest < period { period } else { longest };
-        j += 1;
+    for j in 0..sheet::schedules_of(z) {
+        longest = longest.max(sheet::schedule_period(z, j));
     }
     longest
 }

@@ -3,15 +3,16 @@
 use Prim.Native.Nat.{ℕ, zero, suc, ◌+◌, ◌≤◌, ◌<◌}
 use mathlib.Core.List.{List, [], ◌∷◌, ◌++◌}
 use mathlib.Core.Path.{◌≡◌, refl, sym, ◌∙◌, ap, subst}
+use native.Mathlib.Omega.{arith}
 use native.Mathlib.Numerals.{add-one}
-use lib.ListN.{length, drop, set, length-set, length-append}
-use lib.Seq.{drop-cons, set_at, append_snoc}
+use lib.ListN.{length, take, drop, set, length-set, length-append}
+use lib.Seq.{drop-cons, take-suc, take-length, set_at, append_snoc}
 use Rattle.words.specs.Words.{word}
-use Rattle.words.proofs.TestLaws.{and_no, and_no_right, and_both, yes≤, no≤, yes=, no=}
-use Rattle.words.proofs.NumberLaws.{then_zero, then_first, then_next, unless_yes, unless_no}
+use Rattle.words.proofs.TestLaws.{yes=, no=}
+use Rattle.words.proofs.NumberLaws.{then_zero}
 use Rattle.session.specs.declared.Transfer.{Transfer}
 use Rattle.session.specs.Calls.{state_number, start_all_number, transfer_number, started_next, started_all, answers_all, start_all, Lent, lend_state, after, answers_after, as_start}
-use Rattle.batch.specs.Lists.{first_of}
+use Rattle.batch.specs.Lists.{first_of, item_at}
 use Rattle.session.proofs.RegisterLaws.{started_length}
 use Rattle.session.proofs.WritingLaws.{state_kept, state_written}
 use Rattle.session.proofs.KeptLaws.{state_passes}
@@ -47,11 +48,6 @@ pub record Started (s₀ answers₀ : List ℕ) (ts : List Transfer) (s answers 
 started_none : (s answers : List ℕ) → state_number s ≡ 0 → Started s answers [] s answers
 unfolding started_all answers_all
 started_none s answers p = record { passes = p; state = refl; answered = refl; long = refl }
-
-pub started_long : {s₀ answers₀ s answers : List ℕ} {ts : List Transfer} → Started s₀ answers₀ ts s answers → length s ≡ length s₀
-started_long {s₀} {ts = ts} h =
-    ap length h.state
-    ∙ all_has (λ x. length x ≡ length s₀) (λ t x e p. started_length x t.circuit t.read t.write t.count t.kind ∙ p) ts s₀ refl
 
 -- one answer more, behind those that are there
 answer_one : (front rest : List ℕ) (i r : ℕ) → length front ≡ i → i < length rest
@@ -93,6 +89,16 @@ first_more : (at : ℕ → Transfer) (n : ℕ) → first_of (n + 1) at ≡ first
 unfolding first_of
 first_more at n = ap (λ k. first_of k at) (add-one n)
 
+-- the first transfers of a list by their places are the list
+first_is : (ts : List Transfer) (n : ℕ) → n ≤ length ts → first_of n (item_at ts) ≡ take n ts
+unfolding first_of
+first_is ts zero m = refl
+first_is ts (suc n) m =
+    ap (λ (x : List Transfer). x ++ (item_at ts n ∷ [])) (first_is ts n (omega arith)) ∙ sym (take-suc ts n _ (omega arith))
+
+pub first_all : (ts : List Transfer) → first_of (length ts) (item_at ts) ≡ ts
+first_all ts = first_is ts (length ts) (omega arith) ∙ take-length ts
+
 -- a loop over the places: its beginning, a turn, and its end
 module _ (at : ℕ → Transfer) (s₀ answers₀ : List ℕ) where
   pub loop_none : state_number s₀ ≡ 0 → Started s₀ answers₀ (first_of 0 at) s₀ answers₀
@@ -113,24 +119,6 @@ module _ (at : ℕ → Transfer) (s₀ answers₀ : List ℕ) where
         h.answered ∙ ap (λ k. answers_all s₀ (first_of i at) ++ drop k answers₀) (first_length at i ∙ e)
             ∙ ap (λ (ts : List Transfer). answers_all s₀ ts ++ drop n answers₀) all,
       )
-
--- the number of a list of so many transfers: a number of 12 and 13, 21 for either length, or none
-module _ (s : List ℕ) (transfers answer_words : ℕ) {n : ℕ} (e : n ≡ state_number s) where
-  pub list_early : (n ≡ 0 → ⊥) → n ≡ start_all_number s transfers answer_words
-  unfolding start_all_number
-  list_early ne = then_first _ e ne
-
-  pub list_many : n ≡ 0 → 64 < transfers → 21 ≡ start_all_number s transfers answer_words
-  unfolding start_all_number
-  list_many z l = then_next (sym e ∙ z) (unless_no 21 (sym (and_no _ (no≤ l))))
-
-  pub list_unanswered : n ≡ 0 → answer_words < transfers → 21 ≡ start_all_number s transfers answer_words
-  unfolding start_all_number
-  list_unanswered z l = then_next (sym e ∙ z) (unless_no 21 (and_no_right _ _ (no≤ l)))
-
-  pub list_taken : n ≡ 0 → transfers ≤ 64 → transfers ≤ answer_words → 0 ≡ start_all_number s transfers answer_words
-  unfolding start_all_number
-  list_taken z l m = then_next (sym e ∙ z) (unless_yes 21 (and_both (yes≤ l) (yes≤ m)))
 
 -- a list that is taken passes 12 and 13
 pub all_passes : (s : List ℕ) (transfers answer_words : ℕ) → start_all_number s transfers answer_words ≡ 0 → state_number s ≡ 0

@@ -1,4 +1,2 @@
 pub mod BatchLaws
 pub mod ListsLaws
-pub mod WalkLaws
-pub mod RecordsLaws

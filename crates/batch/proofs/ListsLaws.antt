@@ -7,14 +7,14 @@ use mathlib.Core.Path.{◌≡◌, refl, sym, ◌∙◌, ap}
 use native.Mathlib.Omega.{arith}
 use lib.ListN.{length, drop}
 use Rattle.words.specs.Tests.{◌=?◌}
-use Rattle.words.specs.Words.{word, pick}
+use Rattle.words.specs.Words.{pick}
 use Rattle.words.specs.Numbers.{unless, ◌then◌}
-use Rattle.words.proofs.NumberLaws.{then_first, then_next, unless_yes, unless_no, then_zero, unless_zero}
+use Rattle.words.proofs.NumberLaws.{then_zero, unless_zero}
 use Rattle.words.proofs.TestLaws.{is=}
 use Rattle.session.specs.declared.Transfer.{Transfer}
 use Rattle.session.specs.Calls.{state_number, start_all_number, started_all, answers_all, start_all, after, answers_after, lend_state}
 use Rattle.session.proofs.NumberLaws.{list_passed}
-use Rattle.batch.specs.Lists.{transfer_at, transfers_of, same_lengths, start_lists_number, lists_state, lists_answers}
+use Rattle.batch.specs.Lists.{transfers_of, same_lengths, start_lists_number, lists_state, lists_answers}
 use Rattle.batch.proofs.BatchLaws.{first_length, all_passes, all_kept, all_written}
 
 -- behind a number, a test that holds adds nothing
@@ -34,20 +34,10 @@ module _ (circuits reads writes counts kinds : List ℕ) where
   as_long s answer_words = ap (λ k. start_all_number s k answer_words) (sym (first_length _ (length circuits)))
 
   -- the lists' number, from that of a list of transfers and from the test of their lengths
-  pub lists_early : (s : List ℕ) (answer_words : ℕ) {n : ℕ} → n ≡ start_all_number s (length circuits) answer_words → (n ≡ 0 → ⊥)
-      → n ≡ start_lists_number circuits reads writes counts kinds s answer_words
+  pub lists_number : (s : List ℕ) (answer_words : ℕ) → start_lists_number circuits reads writes counts kinds s answer_words
+      ≡ (start_all_number s (length circuits) answer_words then unless 21 (same_lengths circuits reads writes counts kinds))
   unfolding start_lists_number
-  lists_early s answer_words e ne = then_first _ (e ∙ as_long s answer_words) ne
-
-  pub lists_even : (s : List ℕ) (answer_words : ℕ) {n : ℕ} {b : Bool} → n ≡ start_all_number s (length circuits) answer_words → n ≡ 0
-      → b ≡ same_lengths circuits reads writes counts kinds → b ≡ true → 0 ≡ start_lists_number circuits reads writes counts kinds s answer_words
-  unfolding start_lists_number
-  lists_even s answer_words e z f t = then_next (sym (e ∙ as_long s answer_words) ∙ z) (unless_yes 21 (sym f ∙ t))
-
-  pub lists_uneven : (s : List ℕ) (answer_words : ℕ) {n : ℕ} {b : Bool} → n ≡ start_all_number s (length circuits) answer_words → n ≡ 0
-      → b ≡ same_lengths circuits reads writes counts kinds → b ≡ false → 21 ≡ start_lists_number circuits reads writes counts kinds s answer_words
-  unfolding start_lists_number
-  lists_uneven s answer_words e z f t = then_next (sym (e ∙ as_long s answer_words) ∙ z) (unless_no 21 (sym f ∙ t))
+  lists_number s answer_words = ap (λ k. k then unless 21 (same_lengths circuits reads writes counts kinds)) (sym (as_long s answer_words))
 
   -- lists that are taken: of one length, and their transfers are taken
   taken_both : (s : List ℕ) (answer_words : ℕ) {n : ℕ} → n ≡ start_lists_number circuits reads writes counts kinds s answer_words → n ≡ 0
@@ -84,8 +74,3 @@ module _ (circuits reads writes counts kinds : List ℕ) where
       let both = taken_both s (length answers) e z in
       let left = all_written made s answers refl both.0 f (g ∙ ap (λ k. answers_all s made ++ drop k answers) (sym (first_length _ (length circuits)))) in
       rw both.1 (left.0, left.1)
-
-  -- a transfer of five words
-  pub transfer_is : {a b c d e : ℕ} (i : ℕ) → a ≡ word circuits i → b ≡ word reads i → c ≡ word writes i → d ≡ word counts i → e ≡ word kinds i
-      → record { circuit = a; read = b; write = c; count = d; kind = e } ≡ transfer_at circuits reads writes counts kinds i
-  transfer_is i p q r s t = rw p (rw q (rw r (rw s (rw t refl))))

@@ -1,10 +1,14 @@
--- Five lists of words as a list of transfers (document 02, L1), for hosts without structs.
-use Rattle.std.specs.Prelude.{ℕ, zero, suc, Bool, List, [], ◌∷◌, ◌++◌, length}
+-- Transfers by their places, and five lists of words as a list of transfers (document 02, L1), for hosts without structs.
+use Rattle.std.specs.Prelude.{ℕ, zero, suc, Bool, List, [], ◌∷◌, ◌++◌, length, get_or}
 use Rattle.words.specs.Tests.{◌and◌, ◌=?◌}
 use Rattle.words.specs.Words.{word, pick}
 use Rattle.words.specs.Numbers.{unless, ◌then◌}
 use Rattle.session.specs.declared.Transfer.{Transfer}
 use Rattle.session.specs.Calls.{start_all, number, after, answers_after, lend_state}
+
+-- a transfer of a list, by its place; past the end all its words are 0
+abbrev pub item_at : List Transfer → ℕ → Transfer
+item_at ts i = get_or ts i (record { circuit = 0; read = 0; write = 0; count = 0; kind = 0 })
 
 -- the transfers at the first n places
 unfoldable pub first_of : ℕ → (ℕ → Transfer) → List Transfer

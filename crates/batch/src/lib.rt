@@ -4,35 +4,60 @@
 mod lists;
 mod records;
 
-ghost use Rattle.std.specs.Prelude.{◌≡◌};
-ghost use Rattle.session.specs.Calls.{state_number, transfer_number, start_all_number, started_next};
+ghost use Rattle.std.specs.Prelude.{◌≡◌, ◌≤◌, ◌<◌, ◌++◌, ℕ, length, drop};
+ghost use Rattle.refusal.specs.Numbers.{number_of};
+ghost use Rattle.session.specs.declared.Transfer.{Transfer};
+ghost use Rattle.session.specs.Calls.{state_number, transfer_number, start_all_number, started_next, started_all, answers_all};
+ghost use Rattle.batch.specs.Lists.{first_of};
 
 pub use lists::start_lists;
 pub use records::start_all;
-use session::{Transfer, number_of};
+use session::{Refusal, Transfer};
 
-// Starts one transfer on a state that has passed 12 and 13, which leaves it so: both loops begin with such a state.
+// Transfers that a loop reads in order.
+trait Transfers {
+    ghost size: { Self → ℕ };
+
+    ghost at_place: { Self → ℕ → Transfer };
+
+    // How many they are.
+    fn count(&self) -> usize
+        ensures { result ≡ size self.now };
+
+    // The transfer at a place; start_each asks for those that are there.
+    fn at(&self, i: usize) -> Transfer
+        requires { i < size self.now }
+        ensures { result ≡ at_place self.now i };
+}
+
+// Starts one transfer on a state that has passed 12 and 13, which leaves it so: the loop begins with such a state.
 fn start_one(s: &mut [u32], t: Transfer) -> u32
     requires { state_number s.old ≡ 0 }
     ensures answer { result ≡ transfer_number s.old t }
     ensures state { s.new ≡ started_next s.old t }
 {
-    number_of(session::start_sound(s, t.circuit, t.read, t.write, t.count, t.kind))
+    session::number_of(session::start_sound(s, t))
 }
 
-// The number that a list of so many transfers answers, with so many answer words.
-fn start_all_number(s: &[u32], transfers: usize, answers: usize) -> u32
-    ensures { result ≡ start_all_number s.now transfers answers }
+// What a list of so many transfers is refused for, with so many answer words.
+#[tactic(auto, using(session::proofs::AnswerLaws::numbers), unfolding(session::specs::Calls::start_all_number))]
+fn check_list(s: &[u32], transfers: usize, answers: usize) -> Result<(), Refusal>
+    ensures { number_of result ≡ start_all_number s.now transfers answers }
 {
-    let number = session::state_number(s);
-    if number != 0 {
-        return number;
+    session::check_state(s)?;
+    if transfers > 64 || transfers > answers {
+        return Err(Refusal::WrongList);
     }
-    if transfers > 64 {
-        return 21;
+    Ok(())
+}
+
+// Starts the transfers in order, with an answer to each; a list that is not refused meets the requires.
+fn start_each<T: Transfers>(s: &mut [u32], transfers: &T, answers: &mut [u32])
+    requires { (state_number s.old ≡ 0) × (T.size transfers.now ≤ length answers.old) }
+    ensures state { s.new ≡ started_all s.old (first_of (T.size transfers.now) (T.at_place transfers.now)) }
+    ensures answers { answers.new ≡ answers_all s.old (first_of (T.size transfers.now) (T.at_place transfers.now)) ++ drop (T.size transfers.now) answers.old }
+{
+    for i in 0..transfers.count() {
+        answers[i] = start_one(s, transfers.at(i));
     }
-    if transfers > answers {
-        return 21;
-    }
-    0
 }

@@ -15,8 +15,7 @@ use Rattle.sheet.specs.Inner.Passed.{Framed}
 use Rattle.sheet.proofs.PassedLaws.{headed, framed}
 use Rattle.sheet.proofs.VerdictLaws.{kept, append_kept, append_broken, passed_framed}
 use Rattle.sheet.proofs.MeantLaws.{meant_none, meant_some, number_some}
-use Rattle.checker.specs.declared.Outcome.TheVariants.{Refused}
-use Rattle.checker.specs.Answers.{outcome_of, entries_number, entries_part}
+use Rattle.checker.specs.Answers.{entries_number, entries_part}
 
 module _ (z : List ℕ) where
   -- what the first two groups settle
@@ -46,11 +45,6 @@ module _ (z : List ℕ) where
 
       pub entries_decide : m ≡ 0 → (k : ℕ) → k ≡ first_broken entry_rules z → k ≡ verdict z
       entries_decide y k g = g ∙ sym (append_kept z circuit_rules entry_rules (sym f ∙ y) refl) ∙ behind_frame
-
--- the outcome of a number that is not 0
-pub refused_is : (n : ℕ) → (n ≡ 0 → ⊥) → Refused n ≡ outcome_of n
-refused_is zero ne = absurd (ne refl)
-refused_is (suc n) ne = refl
 
 -- the number of handing back entries
 module _ (z : List ℕ) (j n : ℕ) (e : n ≡ sheet_number z) where

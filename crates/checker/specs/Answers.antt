@@ -1,17 +1,10 @@
--- The answers of the checker, one to one with the numbers of document 01, "Refusals".
-use Rattle.std.specs.Prelude.{ℕ, zero, suc, List, []}
+-- What the checker hands back of a sheet, and the numbers that apply then (document 01, "Refusals").
+use Rattle.std.specs.Prelude.{ℕ, List, []}
 use Rattle.words.specs.Tests.{◌<?◌, ◌=?◌}
 use Rattle.words.specs.Words.{pick}
 use Rattle.words.specs.Numbers.{unless, ◌then◌}
 use Rattle.sheet.specs.Sheet.{meant, schedules, entries_of}
 use Rattle.sheet.specs.Rules.{sheet_number}
-use Rattle.checker.specs.declared.Outcome.{Outcome}
-use Rattle.checker.specs.declared.Outcome.TheVariants.{Passes, Refused}
-
--- the answer of a number
-abbrev pub outcome_of : ℕ → Outcome
-outcome_of zero = Passes
-outcome_of (suc n) = Refused (suc n)
 
 -- handing back the entries of schedule j: 1 to 11, then 15 where the schedule does not exist
 unfoldable pub entries_number : List ℕ → ℕ → ℕ

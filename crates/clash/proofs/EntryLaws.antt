@@ -17,6 +17,8 @@ use Rattle.torus.specs.Inner.Grid.{InGrid}
 use Rattle.torus.specs.Route.{Use, Route, leads, nowhere, route_from}
 use Rattle.torus.specs.Inner.Paths.{path_of}
 use Rattle.torus.specs.Inner.Delays.{last_delay}
+use Rattle.std.specs.Prelude.{Option}
+use Rattle.std.specs.declared.option.Option.TheVariants.{Some, None}
 use Rattle.torus.specs.declared.Path.{Path}
 use Rattle.torus.proofs.RouteLaws.{SmallUses, wires_of, delays_of, uses_small, uses_length, hops_high, wires_small, delays_small}
 use Rattle.sheet.specs.declared.entries.Entry.{Entry}
@@ -82,12 +84,19 @@ module _ (room : ℕ) (z : List ℕ) (e : Entry) (stride : ℕ) (p : Placeable r
         (fitting_packet stride (nodes z * 6) last l.uses e.size e.offset small ends)
 
     -- the answer of following the entry's route
-    module _ (path : Path) (q : path ≡ path_of (entry_route z e)) where
-      path_is : path ≡ path_of (leads l.uses l.node l.hops l.vertical)
+    leads_on : None ≡ path_of (entry_route z e) → ⊥
+    leads_on q = let none : None ≡ path_of (leads l.uses l.node l.hops l.vertical) = q ∙ ap path_of l.route in cc
+
+    module _ (path : Path) (q : Some path ≡ path_of (entry_route z e)) where
+      path_is : Some path ≡ path_of (leads l.uses l.node l.hops l.vertical)
       path_is = q ∙ ap path_of l.route
 
+      abbrev field : (Path → ℕ) → Option Path → ℕ
+      field f None = 0
+      field f (Some x) = f x
+
       hops_is : path.hops ≡ l.hops
-      hops_is = ap (λ (x : Path). x.hops) path_is
+      hops_is = ap (field (λ x. x.hops)) path_is
 
       row : (xs : List ℕ) → length xs ≡ length l.uses → (k : ℕ) → k < length l.uses
           → word (put_all (replicate 9 0) 0 xs) (0 + k) ≡ word xs k
@@ -96,11 +105,11 @@ module _ (room : ℕ) (z : List ℕ) (e : Entry) (stride : ℕ) (p : Placeable r
 
       wire_at_is : (k : ℕ) → k < length l.uses → word path.wires (0 + k) ≡ word (wires_of l.uses) k
       wire_at_is k b =
-          ap (λ (x : Path). word x.wires (0 + k)) path_is ∙ row (wires_of l.uses) (length-map l.uses _) k b
+          ap (field (λ x. word x.wires (0 + k))) path_is ∙ row (wires_of l.uses) (length-map l.uses _) k b
 
       delay_at_is : (k : ℕ) → k < length l.uses → word path.delays (0 + k) ≡ word (delays_of l.uses) k
       delay_at_is k b =
-          ap (λ (x : Path). word x.delays (0 + k)) path_is ∙ row (delays_of l.uses) (length-map l.uses _) k b
+          ap (field (λ x. word x.delays (0 + k))) path_is ∙ row (delays_of l.uses) (length-map l.uses _) k b
 
       held_of : Held room path.wires path.delays (path.hops + 2) stride e.offset e.size
       held_of = record {
@@ -135,20 +144,22 @@ module _ (room : ℕ) (z : List ℕ) (e : Entry) (stride : ℕ) (p : Placeable r
     pub source_read : InGrid (columns z) (rows z) circuit.read.node
     source_read = subst (λ (k : Circuit). InGrid (columns z) (rows z) k.read.node) (sym c) p.source_inside
 
-    module _ (path : Path) (q : path ≡ path_of (route_from (columns z) (rows z) (is_long z) circuit.read.node e.route)) where
-      followed : path ≡ path_of (entry_route z e)
-      unfolding entry_route
-      followed =
-          q ∙ ap (λ (k : Circuit). path_of (route_from (columns z) (rows z) (is_long z) k.read.node e.route)) c
+    followed : path_of (route_from (columns z) (rows z) (is_long z) circuit.read.node e.route) ≡ path_of (entry_route z e)
+    unfolding entry_route
+    followed = ap (λ (k : Circuit). path_of (route_from (columns z) (rows z) (is_long z) k.read.node e.route)) c
 
+    pub entry_leads_on : None ≡ path_of (route_from (columns z) (rows z) (is_long z) circuit.read.node e.route) → ⊥
+    entry_leads_on q = leads_on leading (q ∙ followed)
+
+    module _ (path : Path) (q : Some path ≡ path_of (route_from (columns z) (rows z) (is_long z) circuit.read.node e.route)) where
       pub entry_held : Held room path.wires path.delays (path.hops + 2) stride e.offset e.size
-      entry_held = held_of leading path followed
+      entry_held = held_of leading path (q ∙ followed)
 
       pub entry_places_is : places path.wires path.delays stride e.offset e.size 0 (path.hops + 2) ≡ entry_places stride z e
-      entry_places_is = places_of leading path followed
+      entry_places_is = places_of leading path (q ∙ followed)
 
       pub entry_hops_is : path.hops ≤ 7
-      entry_hops_is = omega (arith, hops_is leading path followed, few leading)
+      entry_hops_is = omega (arith, hops_is leading path (q ∙ followed), few leading)
 
 -- each entry of a schedule that passed the rules is such an entry
 pub placeable : (room : ℕ) (z : List ℕ) → Routed z → (j : ℕ) → j < schedules z → (i : ℕ) → i < entry_count (entries_of z j)

@@ -36,13 +36,11 @@ fn packet_taken(
     requires { Held (length table.now) wires delays count stride cycle size }
     ensures { result ≡ any_taken table.now (places wires delays stride cycle size 0 count) }
 {
-    let mut i = 0;
-    while i < count {
+    for i in 0..count {
         let place = place_of(wires[i], delays[i], stride, cycle);
         if occupancy::run_taken(table, place, size) {
             return true;
         }
-        i += 1;
     }
     false
 }
@@ -60,26 +58,10 @@ fn take_packet(
     requires { Held (length table.old) wires delays count stride cycle size }
     ensures { Takes table.old table.new (places wires delays stride cycle size 0 count) }
 {
-    let mut i = 0;
-    while i < count {
+    for i in 0..count {
         let place = place_of(wires[i], delays[i], stride, cycle);
         occupancy::take_run(table, place, size);
-        i += 1;
     }
-}
-
-// Where a route leads from a node of the sheet's grid, of whichever kind. Each kind has its own function, and this one stands in each crate that
-// asks: with one for all, the compiler puts both into it, and both become slower.
-fn route_path(z: &[u32], source: u32, route: u32) -> Path
-    requires { InGrid (columns z.now) (rows z.now) source }
-    ensures { result ≡ path_of (route_from (columns z.now) (rows z.now) (is_long z.now) source route) }
-{
-    let cols = sheet::columns_of(z);
-    let rows = sheet::rows_of(z);
-    if sheet::is_long(z) {
-        return torus::follow_long(cols, rows, source, route);
-    }
-    torus::follow_short(cols, rows, source, route)
 }
 
 // Takes the places that an entry occupies, unless one of them is taken: whether it did.
@@ -88,8 +70,9 @@ fn place_entry(table: &mut [u32], z: &[u32], e: Entry, stride: usize) -> bool
     ensures { TakenOrKept table.old table.new (entry_places stride z.now e) result }
 {
     let circuit = Circuit::at(z, e.circuit);
-    let read = circuit.read;
-    let path = route_path(z, read.node, e.route);
+    let Some(path) = routes::path_from(z, circuit.read.node, e.route) else {
+        return false;
+    };
     let count = (path.hops + 2) as usize;
     let wires = path.wires;
     let delays = path.delays;
@@ -109,59 +92,36 @@ fn entries_apart(table: &mut [u32], z: &[u32], j: u32) -> bool
 {
     let stride = (sheet::schedule_period(z, j) as usize) + 6;
     let entries = sheet::entries_of(z, j);
-    let count = entries.len() / 4;
-    let mut i = 0;
-    while i < count {
-        if place_entry(table, z, Entry::at(entries, i), stride) {
-            i += 1;
-        } else {
+    for i in 0..entries.len() / 4 {
+        if !place_entry(table, z, Entry::at(entries, i), stride) {
             return false;
         }
     }
     true
 }
 
-// Number 11 at schedule j, in a table of 1,024 places, which a small sheet needs no more than.
-fn apart_in_small(z: &[u32], j: u32) -> bool
-    requires { (Routed z.now) × (j < schedules z.now) × (HoldsAllWires 33 z.now (period z.now j + 6)) }
+// Number 11 at schedule j, in a table of so many words.
+fn apart_in<const WORDS: usize>(z: &[u32], j: u32) -> bool
+    requires { (Routed z.now) × (j < schedules z.now) × (HoldsAllWires WORDS z.now (period z.now j + 6)) × (WORDS ≤ 3091) }
     ensures { result ≡ rule11_at z.now j }
 {
-    let mut table = [0u32; 33];
+    let mut table = [0u32; WORDS];
     entries_apart(&mut table, z, j)
 }
 
-// Number 11 at schedule j, in a table of 16,384 places.
-fn apart_in_middle(z: &[u32], j: u32) -> bool
-    requires { (Routed z.now) × (j < schedules z.now) × (HoldsAllWires 513 z.now (period z.now j + 6)) }
-    ensures { result ≡ rule11_at z.now j }
-{
-    let mut table = [0u32; 513];
-    entries_apart(&mut table, z, j)
-}
-
-// Number 11 at schedule j, in a table for the largest sheets: 96 wires in 1,030 cycles.
-fn apart_in_large(z: &[u32], j: u32) -> bool
-    requires { (Routed z.now) × (j < schedules z.now) × (HoldsAllWires 3091 z.now (period z.now j + 6)) }
-    ensures { result ≡ rule11_at z.now j }
-{
-    let mut table = [0u32; 3091];
-    entries_apart(&mut table, z, j)
-}
-
-// Number 11 at schedule j.
+// Number 11 at schedule j: in a table of 1,024 places, which a small sheet needs no more than, of 16,384, or for the largest sheets, 96 wires in
+// 1,030 cycles.
 fn schedule_apart(z: &[u32], j: u32) -> bool
     requires { (Routed z.now) × (j < schedules z.now) }
     ensures { result ≡ rule11_at z.now j }
 {
     let cycles = sheet::schedule_period(z, j) + 6;
     let places = sheet::nodes_of(z) * torus::WIRES_PER_NODE * cycles;
-    if places <= 1024 {
-        return apart_in_small(z, j);
+    match places {
+        0..=1024 => apart_in::<33>(z, j),
+        1025..=16384 => apart_in::<513>(z, j),
+        _ => apart_in::<3091>(z, j),
     }
-    if places <= 16384 {
-        return apart_in_middle(z, j);
-    }
-    apart_in_large(z, j)
 }
 
 // Number 11: no two entries of one schedule occupy one wire in one cycle. The checker calls the rules in
@@ -170,14 +130,5 @@ pub fn keeps_rule11(z: &[u32]) -> bool
     requires { Routed z.now }
     ensures { result ≡ rule11 z.now }
 {
-    let count = sheet::schedules_of(z);
-    let mut j: u32 = 0;
-    while j < count {
-        if schedule_apart(z, j) {
-            j += 1;
-        } else {
-            return false;
-        }
-    }
-    true
+    (0..sheet::schedules_of(z)).all(|j| schedule_apart(z, j))
 }

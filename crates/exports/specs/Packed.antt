@@ -1,16 +1,15 @@
 -- The answers of the exported calls, as numbers: a call without a value answers the number of document 01, 0 where it is carried out; a
 -- call with a value answers number × 2^32 + value in 64 bits, where one of the two is 0.
-use Rattle.std.specs.Prelude.{ℕ, ◌+◌, ◌*◌, List, [], ◌∷◌, length}
+use Rattle.std.specs.Prelude.{ℕ, ◌+◌, ◌*◌, List, [], ◌∷◌, length, Result, Option}
+use Rattle.std.specs.declared.option.Option.TheVariants.{None, Some}
+use Rattle.std.specs.declared.result.Result.TheVariants.{Ok, Err}
 use Rattle.words.specs.Tests.{◌=?◌}
 use Rattle.words.specs.Words.{pick}
 use Rattle.sheet.specs.Sheet.{schedule_place}
 use Rattle.checker.specs.Answers.{entries_part}
-use Rattle.session.specs.declared.Found.{Found}
-use Rattle.session.specs.declared.Found.TheVariants.{Word as FoundWord, Refused as FoundRefused}
 use Rattle.session.specs.declared.Landed.{Landed}
-use Rattle.session.specs.declared.Landed.TheVariants.{Nothing, Word as LandedWord, Refused as LandedRefused}
 use Rattle.timetable.specs.declared.Hours.{Hours}
-use Rattle.timetable.specs.declared.Hours.TheVariants.{Until, Always, Refused as HoursRefused}
+use Rattle.timetable.specs.declared.Hours.TheVariants.{Until, Always}
 
 unfoldable pub packed : ℕ → ℕ → ℕ
 packed number value = pick (number =? 0) value (number * 4294967296)
@@ -30,21 +29,21 @@ chosen field kind address word =
     pick (field =? 0) 1 (pick (field =? 1) kind (pick (field =? 2) address (pick (field =? 3) word 0)))
 
 -- the numbers of the session's answers that have a value
-abbrev pub packed_found : Found → ℕ
-packed_found (FoundWord w) = w
-packed_found (FoundRefused n) = n * 4294967296
+abbrev pub packed_found : Result ℕ ℕ → ℕ
+packed_found (Ok w) = w
+packed_found (Err n) = n * 4294967296
 
-abbrev pub packed_landed : ℕ → Landed → ℕ
-packed_landed field Nothing = 0
-packed_landed field (LandedWord kind address word) = chosen field kind address word
-packed_landed field (LandedRefused n) = n * 4294967296
+abbrev pub packed_landed : ℕ → Result (Option Landed) ℕ → ℕ
+packed_landed field (Ok None) = 0
+packed_landed field (Ok (Some x)) = chosen field x.kind x.address x.word
+packed_landed field (Err n) = n * 4294967296
 
 -- a field of the hours of a minute: 0 the schedule, 1 whether it ever changes, 2 the next minute at which it differs; 0 for any other
 unfoldable pub hours_field : ℕ → ℕ → ℕ → ℕ → ℕ
 hours_field field schedule changes minute = pick (field =? 0) schedule (pick (field =? 1) changes (pick (field =? 2) minute 0))
 
 -- the number of a timetable's answer; where the schedule never changes, the next minute is 0
-abbrev pub packed_hours : ℕ → Hours → ℕ
-packed_hours field (Until schedule minute) = hours_field field schedule 1 minute
-packed_hours field (Always schedule) = hours_field field schedule 0 0
-packed_hours field (HoursRefused n) = n * 4294967296
+abbrev pub packed_hours : ℕ → Result Hours ℕ → ℕ
+packed_hours field (Ok (Until schedule minute)) = hours_field field schedule 1 minute
+packed_hours field (Ok (Always schedule)) = hours_field field schedule 0 0
+packed_hours field (Err n) = n * 4294967296

@@ -10,10 +10,10 @@ ghost use Rattle.session.specs.Calls.{lend, lend_state, load, start, start_all, 
 ghost use Rattle.session.specs.Answers.{fetch_answer, left_answer, period_answer, landed_answer};
 ghost use Rattle.batch.specs.Lists.{start_lists_number, lists_state, lists_answers};
 ghost use Rattle.timetable.specs.Timetable.{hours_answer};
+ghost use Rattle.refusal.specs.Numbers.{numbered};
 ghost use Rattle.exports.specs.Packed.{packed, entries_place, entries_field, chosen, packed_found, packed_landed, hours_field, packed_hours};
 
-use checker::Outcome;
-use session::{Found, Landed, Transfer, number_of};
+use session::{Landed, Refusal, Transfer, number_of};
 use timetable::Hours;
 
 // The verdict upon a sheet: 0 where it passes, else the number of its refusal.
@@ -21,7 +21,7 @@ use timetable::Hours;
 pub extern "C" fn argo_verdict(sheet: &[u32]) -> u32
     ensures { result ≡ check_number sheet.now }
 {
-    checker::verdict_number(sheet)
+    number_of(checker::verdict(sheet))
 }
 
 // The place in the sheet of a schedule's first entry; entries_field asks only where the number is 0.
@@ -29,7 +29,7 @@ fn entries_place(sheet: &[u32], schedule: u32) -> usize
     requires { entries_number sheet.now schedule ≡ 0 }
     ensures { result ≡ entries_place sheet.now schedule }
 {
-    if sheet.len() == 0 {
+    if sheet.is_empty() {
         return 0;
     }
     sheet::schedule_place(sheet, schedule) + 2
@@ -37,6 +37,7 @@ fn entries_place(sheet: &[u32], schedule: u32) -> usize
 
 // A field of a schedule's entries: the place of their first word in the sheet, or how many words are handed back. argo_entries asks only
 // where the number is 0, which meets the requires.
+#[tactic(auto, using(session::proofs::AnswerLaws::numbers), unfolding(crate::specs::Packed::entries_field))]
 fn entries_field(sheet: &[u32], schedule: u32, field: u32) -> u64
     requires { entries_number sheet.now schedule ≡ 0 }
     ensures { result ≡ entries_field sheet.now schedule field }
@@ -49,13 +50,14 @@ fn entries_field(sheet: &[u32], schedule: u32, field: u32) -> u64
 }
 
 // A field of one schedule's entries, as the part of the sheet that is handed back.
+#[tactic(auto, using(session::proofs::AnswerLaws::numbers), unfolding(crate::specs::Packed::packed))]
 #[unsafe(no_mangle)]
 pub extern "C" fn argo_entries(sheet: &[u32], schedule: u32, field: u32) -> u64
     ensures { result ≡ packed (entries_number sheet.now schedule) (entries_field sheet.now schedule field) }
 {
-    match checker::entries_number(sheet, schedule) {
-        Outcome::Passes => entries_field(sheet, schedule, field),
-        Outcome::Refused(n) => n as u64 * 4294967296,
+    match checker::check_entries(sheet, schedule) {
+        Ok(()) => entries_field(sheet, schedule, field),
+        Err(refusal) => packed_found(Err(refusal)),
     }
 }
 
@@ -67,42 +69,35 @@ pub extern "C" fn argo_state_words() -> u32
     network::STATE_WORDS as u32
 }
 
-// A word, or a number above it.
-fn packed_found(found: Found) -> u64
-    ensures { result ≡ packed_found found }
+// A word, or a refusal's number above it.
+fn packed_found(found: Result<u32, Refusal>) -> u64
+    ensures { result ≡ packed_found (numbered found) }
 {
     match found {
-        Found::Word(w) => w as u64,
-        Found::Refused(n) => n as u64 * 4294967296,
+        Ok(word) => u64::from(word),
+        Err(refusal) => u64::from(refusal.number()) * 4294967296,
     }
 }
 
-// A field of a landing that is there.
-fn chosen_field(field: u32, kind: u32, address: u32, word: u32) -> u32
-    ensures { result ≡ chosen field kind address word }
+// A field of a landing that is there; hosts in C name it by a number, here and in the calls below.
+#[tactic(auto, using(session::proofs::AnswerLaws::numbers), unfolding(crate::specs::Packed::chosen))]
+fn chosen_field(field: u32, landed: Landed) -> u32
+    ensures { result ≡ chosen field landed.kind landed.address landed.word }
 {
     match field {
         0 => 1,
-        1 => kind,
-        2 => address,
-        3 => word,
+        1 => landed.kind,
+        2 => landed.address,
+        3 => landed.word,
         _ => 0,
     }
 }
 
-// A field of what landed, or a number above it.
-fn packed_landed(field: u32, what: Landed) -> u64
-    ensures { result ≡ packed_landed field what }
+// A field of what landed, or a refusal's number above it.
+fn packed_landed(field: u32, what: Result<Option<Landed>, Refusal>) -> u64
+    ensures { result ≡ packed_landed field (numbered what) }
 {
-    match what {
-        Landed::Nothing => 0,
-        Landed::Word {
-            kind,
-            address,
-            word,
-        } => chosen_field(field, kind, address, word) as u64,
-        Landed::Refused(n) => n as u64 * 4294967296,
-    }
+    packed_found(what.map(|landed| landed.map_or(0, |word| chosen_field(field, word))))
 }
 
 // Loads a sheet into a state, for a memory.
@@ -235,6 +230,7 @@ pub extern "C" fn argo_cycle(state: &mut [u32], memory: &mut [u32]) -> u32
 }
 
 // A field of the hours of a minute.
+#[tactic(auto, using(session::proofs::AnswerLaws::numbers), unfolding(crate::specs::Packed::hours_field))]
 fn hours_field(field: u32, schedule: u32, changes: u32, minute: u32) -> u32
     ensures { result ≡ hours_field field schedule changes minute }
 {
@@ -246,15 +242,14 @@ fn hours_field(field: u32, schedule: u32, changes: u32, minute: u32) -> u32
     }
 }
 
-// A field of a timetable's answer, or a number above it.
-fn packed_hours(field: u32, hours: Hours) -> u64
-    ensures { result ≡ packed_hours field hours }
+// A field of a timetable's answer, or a refusal's number above it.
+fn packed_hours(field: u32, hours: Result<Hours, Refusal>) -> u64
+    ensures { result ≡ packed_hours field (numbered hours) }
 {
-    match hours {
-        Hours::Until { schedule, minute } => hours_field(field, schedule, 1, minute) as u64,
-        Hours::Always(schedule) => hours_field(field, schedule, 0, 0) as u64,
-        Hours::Refused(n) => n as u64 * 4294967296,
-    }
+    packed_found(hours.map(|hours| match hours {
+        Hours::Until { schedule, minute } => hours_field(field, schedule, 1, minute),
+        Hours::Always(schedule) => hours_field(field, schedule, 0, 0),
+    }))
 }
 
 // A field of the hours of a minute by a weekly timetable; it needs no sheet and no state.

@@ -1,12 +1,13 @@
 // Which circuits have words on their way, read from a state's wires (docs/STATE.md, document 02, L3).
 #![tactic(auto)]
 
-ghost use Rattle.std.specs.Prelude.{◌≡◌, ◌*◌, ◌<◌};
+ghost use Rattle.std.specs.Prelude.{◌≡◌, ◌*◌, ◌/◌, ◌<◌};
 ghost use Rattle.sheet.specs.Sheet.{nodes as nodes_of};
 ghost use Rattle.sheet.specs.Inner.Passed.{Headed};
 ghost use Rattle.network.specs.View.{ports};
 ghost use Rattle.network.specs.Registers.{sheet_in};
 ghost use Rattle.network.specs.Inbound.{in_region, bound_for, furthest, comes_into, link_inbound, head_inbound, out_inbound, extra_inbound, header_inbound, is_arriving, is_inbound};
+ghost use Rattle.inbound.specs.Inner.Bound.{one_more};
 
 use network::reg;
 use packet::Header;
@@ -16,131 +17,124 @@ use sheet::{Circuit, Region};
 fn in_region(region: Region, address: u32) -> bool
     ensures { result ≡ in_region region address }
 {
-    if address < region.offset {
-        return false;
-    }
-    (address as u64) < region.offset as u64 + region.size as u64
+    region.offset <= address
+        && u64::from(address) < u64::from(region.offset) + u64::from(region.size)
 }
 
-// Where a header on an output of a node goes: one more than the node to whose memory it comes, 0 where it comes to none. is_inbound names
-// nodes and outputs of a sheet that passes, which meets the requires, here and below.
-fn bound_for(z: &[u32], node: u32, output: u32, word: u32) -> u32
-    requires { (Headed z.now) × (node < nodes_of z.now) × (output < ports) }
-    ensures { result ≡ bound_for furthest z.now node output word }
-{
-    let cols = sheet::columns_of(z);
-    let rows = sheet::rows_of(z);
-    let mut at = node;
-    let mut by = output;
-    let mut header = word;
-    let mut further = torus::CODES + 1;
-    while by != network::MEMORY_OUTPUT {
-        if further == 0 {
-            return 0;
+// A place of the routers' rows in a state's words s, beside the state's own sheet z, whose head has passed.
+#[derive(Clone, Copy)]
+struct Place<'a> {
+    s: &'a [u32],
+    z: &'a [u32],
+    k: u32,
+    ghost own: { z.now ≡ sheet_in s.now },
+    ghost headed: { Headed z.now },
+    ghost inside: { k < nodes_of z.now * ports },
+}
+
+impl Place<'_> {
+    // The node to whose memory a header on an output of the place's node comes, if it comes to one. The outputs of its own registers and
+    // of their headers meet the requires, here and below.
+    fn bound_for(&self, output: u32, word: u32) -> Option<u32>
+        requires { output < ports }
+        ensures { one_more result ≡ bound_for furthest self.now.z.now (self.now.k / ports) output word }
+    {
+        let cols = sheet::columns_of(self.z);
+        let rows = sheet::rows_of(self.z);
+        let mut at = self.k / network::OUTPUTS;
+        let mut by = output;
+        let mut header = word;
+        for _ in 0..torus::CODES + 1 {
+            if by == network::MEMORY_OUTPUT {
+                return Some(at);
+            }
+            at = torus::neighbour(cols, rows, at, by);
+            by = network::output_for((by + 2) % 4, header);
+            header = Header(header).shifted().0;
         }
-        at = torus::neighbour(cols, rows, at, by);
-        by = network::output_for((by + 2) % 4, header);
-        let passed = Header(header).shifted();
-        header = passed.0;
-        further -= 1;
+        if by == network::MEMORY_OUTPUT {
+            Some(at)
+        } else {
+            None
+        }
     }
-    at + 1
+
+    // A header on an output of the place's node comes into a region; its address is tested first, since most headers are of other regions.
+    fn comes_into(&self, region: Region, output: u32, word: u32) -> bool
+        requires { output < ports }
+        ensures { result ≡ comes_into self.now.z.now region (self.now.k / ports) output word }
+    {
+        in_region(region, Header(word).address())
+            && self.bound_for(output, word) == Some(region.node)
+    }
+
+    // The link register holds a header that comes into the region.
+    fn link_inbound(&self, region: Region) -> bool
+        ensures { result ≡ link_inbound self.now.s.now region self.now.k }
+    {
+        if reg(self.s, network::LINK_MARK, self.k) != 1 {
+            return false;
+        }
+        let word = reg(self.s, network::LINK_WORD, self.k);
+        let output = network::output_for(self.k % network::OUTPUTS, word);
+        self.comes_into(region, output, Header(word).shifted().0)
+    }
+
+    // The head register does, where an output is chosen for its header.
+    fn head_inbound(&self, region: Region) -> bool
+        ensures { result ≡ head_inbound self.now.s.now region self.now.k }
+    {
+        if reg(self.s, network::HEAD_MARK, self.k) != 1 {
+            return false;
+        }
+        let choice = reg(self.s, network::CHOICE_ROW, self.k);
+        (1..=network::OUTPUTS).contains(&choice)
+            && self.comes_into(region, choice - 1, reg(self.s, network::HEAD_WORD, self.k))
+    }
+
+    // The out register does.
+    fn out_inbound(&self, region: Region) -> bool
+        ensures { result ≡ out_inbound self.now.s.now region self.now.k }
+    {
+        if reg(self.s, network::OUT_MARK, self.k) != 1 {
+            return false;
+        }
+        let output = self.k % network::OUTPUTS;
+        self.comes_into(region, output, reg(self.s, network::OUT_WORD, self.k))
+    }
+
+    // The extra register does, where the output's link has one.
+    fn extra_inbound(&self, region: Region) -> bool
+        ensures { result ≡ extra_inbound self.now.s.now region self.now.k }
+    {
+        if reg(self.s, network::EXTRA_MARK, self.k) != 1 {
+            return false;
+        }
+        let output = self.k % network::OUTPUTS;
+        network::has_extra(self.z, output)
+            && self.comes_into(region, output, reg(self.s, network::EXTRA_WORD, self.k))
+    }
+
+    // A header at the place comes into the region. A place without headers costs the four reads of its marks.
+    fn header_inbound(&self, region: Region) -> bool
+        ensures { result ≡ header_inbound self.now.s.now region self.now.k }
+    {
+        self.link_inbound(region)
+            || self.head_inbound(region)
+            || self.out_inbound(region)
+            || self.extra_inbound(region)
+    }
 }
 
-// A header on an output of a node comes into a region; its address is tested first, since most headers are of other regions.
-fn comes_into(z: &[u32], region: Region, node: u32, output: u32, word: u32) -> bool
-    requires { (Headed z.now) × (node < nodes_of z.now) × (output < ports) }
-    ensures { result ≡ comes_into z.now region node output word }
-{
-    if in_region(region, Header(word).address()) {
-        let bound = bound_for(z, node, output, word);
-        return bound as u64 == region.node as u64 + 1;
-    }
-    false
-}
-
-// The link register at place k holds a header that comes into the region; is_inbound lends the state's own sheet, here and below.
-fn link_inbound(s: &[u32], z: &[u32], region: Region, k: u32) -> bool
-    requires { (z.now ≡ sheet_in s.now) × (Headed z.now) × (k < nodes_of z.now * ports) }
-    ensures { result ≡ link_inbound s.now region k }
-{
-    if reg(s, network::LINK_MARK, k) != 1 {
-        return false;
-    }
-    let word = reg(s, network::LINK_WORD, k);
-    let output = network::output_for(k % 5, word);
-    let passed = Header(word).shifted();
-    comes_into(z, region, k / 5, output, passed.0)
-}
-
-// The head register does, where an output is chosen for its header.
-fn head_inbound(s: &[u32], z: &[u32], region: Region, k: u32) -> bool
-    requires { (z.now ≡ sheet_in s.now) × (Headed z.now) × (k < nodes_of z.now * ports) }
-    ensures { result ≡ head_inbound s.now region k }
-{
-    if reg(s, network::HEAD_MARK, k) != 1 {
-        return false;
-    }
-    let choice = reg(s, network::CHOICE_ROW, k);
-    if choice < 1 {
-        return false;
-    }
-    if network::OUTPUTS < choice {
-        return false;
-    }
-    comes_into(z, region, k / 5, choice - 1, reg(s, network::HEAD_WORD, k))
-}
-
-// The out register does.
-fn out_inbound(s: &[u32], z: &[u32], region: Region, k: u32) -> bool
-    requires { (z.now ≡ sheet_in s.now) × (Headed z.now) × (k < nodes_of z.now * ports) }
-    ensures { result ≡ out_inbound s.now region k }
-{
-    if reg(s, network::OUT_MARK, k) != 1 {
-        return false;
-    }
-    comes_into(z, region, k / 5, k % 5, reg(s, network::OUT_WORD, k))
-}
-
-// The extra register does, where the output's link has one.
-fn extra_inbound(s: &[u32], z: &[u32], region: Region, k: u32) -> bool
-    requires { (z.now ≡ sheet_in s.now) × (Headed z.now) × (k < nodes_of z.now * ports) }
-    ensures { result ≡ extra_inbound s.now region k }
-{
-    if reg(s, network::EXTRA_MARK, k) != 1 {
-        return false;
-    }
-    if network::has_extra(z, k % 5) {
-        return comes_into(z, region, k / 5, k % 5, reg(s, network::EXTRA_WORD, k));
-    }
-    false
-}
-
-// A header at place k comes into the region. A place without headers costs the four reads of its marks.
-fn header_inbound(s: &[u32], z: &[u32], region: Region, k: u32) -> bool
-    requires { (z.now ≡ sheet_in s.now) × (Headed z.now) × (k < nodes_of z.now * ports) }
-    ensures { result ≡ header_inbound s.now region k }
-{
-    if link_inbound(s, z, region, k) {
-        return true;
-    }
-    if head_inbound(s, z, region, k) {
-        return true;
-    }
-    if out_inbound(s, z, region, k) {
-        return true;
-    }
-    extra_inbound(s, z, region, k)
-}
+// A receive unit's mark while a packet is arriving.
+const ARRIVING: u32 = 1;
 
 // A packet is arriving at the region's node, and the address of its next word lies in the region.
 fn is_arriving(s: &[u32], region: Region) -> bool
     ensures { result ≡ is_arriving s.now region }
 {
-    if reg(s, network::RECEIVE_MARK, region.node) != 1 {
-        return false;
-    }
-    in_region(region, reg(s, network::RECEIVE_ADDRESS, region.node))
+    reg(s, network::RECEIVE_MARK, region.node) == ARRIVING
+        && in_region(region, reg(s, network::RECEIVE_ADDRESS, region.node))
 }
 
 // Words are on their way into a circuit's receive region. A start on a state that has passed 12 and 13 meets the requires.
@@ -149,18 +143,11 @@ pub fn is_inbound(s: &[u32], circuit: u32) -> bool
     ensures { result ≡ is_inbound s.now circuit }
 {
     let z = network::sheet_of(s);
-    let regions = Circuit::at(z, circuit);
-    let region = regions.receive;
-    if is_arriving(s, region) {
-        return true;
-    }
-    let count = sheet::nodes_of(z) * 5;
-    let mut k: u32 = 0;
-    while k < count {
-        if header_inbound(s, z, region, k) {
-            return true;
-        }
-        k += 1;
-    }
-    false
+    let region = Circuit::at(z, circuit).receive;
+    is_arriving(s, region)
+        || (0..sheet::nodes_of(z) * network::OUTPUTS).any(
+            |k|
+                requires { (z.now ≡ sheet_in s.now) × (Headed z.now) × (k < nodes_of z.now * ports) }
+            { Place { s, z, k }.header_inbound(region) },
+        )
 }

@@ -1,7 +1,9 @@
 -- Demand 3: nothing that other circuits, routes or switch orders do can shift or alter one word that a circuit delivers, while its slots
 -- and the period lengths stay the same. Stated over what the calls answer (session/specs/Calls.antt) and the reckoning: the machine's
 -- cycle stands in it only as what the call `cycle` does.
-use Rattle.std.specs.Prelude.{ℕ, suc, ◌+◌, ◌≤◌, ◌<◌, Bool, true, false, ◌≡◌, length, get_or}
+use Rattle.std.specs.Prelude.{ℕ, suc, ◌+◌, ◌≤◌, ◌<◌, Bool, true, false, ◌≡◌, length, get_or, Result, Option}
+use Rattle.std.specs.declared.option.Option.TheVariants.{None, Some}
+use Rattle.std.specs.declared.result.Result.TheVariants.{Ok, Err}
 use mathlib.Core.List.{List, [], ◌∷◌, ◌++◌, flat_map}
 use Rattle.words.specs.Tests.{any, ◌and◌, ◌or◌, ◌≤?◌, ◌=?◌}
 use Rattle.words.specs.Words.{pick}
@@ -11,9 +13,7 @@ use Rattle.sheet.specs.Sheet.{columns, rows, is_long, circuits, schedules, nodes
 use Rattle.sheet.specs.Slots.{slot_length, source_of, destination_of}
 use Rattle.sheet.specs.Rules.{entry_route, route_hops, route_vertical}
 pub use Rattle.network.specs.Inbound.{in_region}
-use Rattle.session.specs.declared.Found.TheVariants.{Word as FoundWord}
 use Rattle.session.specs.declared.Landed.{Landed}
-use Rattle.session.specs.declared.Landed.TheVariants.{Nothing, Word as LandedWord, Refused}
 use Rattle.session.specs.Answers.{left_answer, fetch_answer, period_answer, landed_answer}
 use Rattle.session.specs.Calls.{what_landed, start, cycle, number, ask}
 use Rattle.isolation.specs.Sessions.{Session, after_load, standing, Event, start_done, store_done, order_done, cycle_done, events_before, events, Transfer}
@@ -21,10 +21,10 @@ use Rattle.isolation.specs.Calendar.{Calendar, calendar_at_load, calendar_event,
 use Rattle.isolation.specs.Reckoning.{Item, none, item, Reckoned, owed, hops_of, vertical_of, flight_cycles, last_reckoned, reckon}
 
 -- what landed, as far as it falls into a region
-abbrev pub item_within : Region → Landed → Item
-item_within r Nothing = none
-item_within r (LandedWord kind address w) = pick (in_region r address) (item kind address w) none
-item_within r (Refused n) = none
+abbrev pub item_within : Region → Result (Option Landed) ℕ → Item
+item_within r (Ok None) = none
+item_within r (Ok (Some x)) = pick (in_region r x.address) (item x.kind x.address x.word) none
+item_within r (Err n) = none
 
 -- the circuit of a session, and its reckoning after the first k calls
 abbrev pub its_record : Session → ℕ → Circuit
@@ -52,7 +52,7 @@ abbrev pub CycleAt : Session → ℕ → Type 0
 CycleAt l k = (k < length l.calls) × (get_or l.calls k cycle ≡ cycle) × (number cycle (standing l k) ≡ 0)
 
 -- what landed at the circuit's destination, as the session answers after its first k calls
-abbrev pub answer_at_destination : Session → ℕ → ℕ → Landed
+abbrev pub answer_at_destination : Session → ℕ → ℕ → Result (Option Landed) ℕ
 answer_at_destination l circuit k = landed_answer (standing l k) (destination_of l.sheet circuit)
 
 -- and of it what is the circuit's
@@ -69,11 +69,11 @@ pub record AsReckoned (l : Session) (circuit : ℕ) : Type 0 where
       → (entry_at (entries_of l.sheet j) i).circuit ≡ circuit
       → route_vertical (entry_route l.sheet (entry_at (entries_of l.sheet j) i)) ≡ vertical_of l.sheet circuit
   -- at every point words left answers the owed words
-  pub words_left : (k : ℕ) → k ≤ length l.calls → left_answer (standing l k) circuit ≡ FoundWord (owed (reckoned_at l circuit k))
+  pub words_left : (k : ℕ) → k ≤ length l.calls → left_answer (standing l k) circuit ≡ Ok (owed (reckoned_at l circuit k))
   -- what is reckoned to leave in cycle t, with kind, address and word, is what the session answers as landed at the destination directly
   -- after cycle t + 3 × (hops + 1) + v, which is call k
   pub lands : (k t kind address w : ℕ) → CycleAt l k → cycles_done l k ≡ t + flight_cycles l.sheet circuit
-      → (reckoned_at l circuit k).sent.leaving t ≡ item kind address w → answer_at_destination l circuit (suc k) ≡ LandedWord kind address w
+      → (reckoned_at l circuit k).sent.leaving t ≡ item kind address w → answer_at_destination l circuit (suc k) ≡ Ok (Some (record { kind = kind; address = address; word = w }))
   -- at every point what landed last in its receive region is what left so many cycles before, or nothing
   pub landings : (k : ℕ) → k ≤ length l.calls
       → circuit_landing l circuit k ≡ last_reckoned l.sheet circuit (reckoned_at l circuit k) (cycles_done l k)
@@ -86,9 +86,9 @@ pub record AsReckoned (l : Session) (circuit : ℕ) : Type 0 where
       → reckoned_busy l.sheet circuit (reckoned_at l circuit k) (cycles_done l k) ≡ false
   -- its regions' words are those at load, changed only by stores and these landings
   pub read_region : (k address : ℕ) → k ≤ length l.calls → in_region (its_record l circuit).read address ≡ true
-      → fetch_answer (standing l k) (source_of l.sheet circuit) address ≡ FoundWord ((reckoned_at l circuit k).words.read address)
+      → fetch_answer (standing l k) (source_of l.sheet circuit) address ≡ Ok ((reckoned_at l circuit k).words.read address)
   pub receive_region : (k address : ℕ) → k ≤ length l.calls → in_region (its_record l circuit).receive address ≡ true
-      → fetch_answer (standing l k) (destination_of l.sheet circuit) address ≡ FoundWord ((reckoned_at l circuit k).words.receive address)
+      → fetch_answer (standing l k) (destination_of l.sheet circuit) address ≡ Ok ((reckoned_at l circuit k).words.receive address)
 
 -- what of a session's events concerns a circuit: its starts, and stores into its regions
 pub data Act : Type 0 where
@@ -158,11 +158,11 @@ pub record Demand3 : Type 0 where
   pub cycles_carried_out : (l : Session) (k : ℕ) → k < length l.calls → get_or l.calls k cycle ≡ cycle
       → number cycle (standing l k) ≡ 0
   -- the period number answered is the reckoned one
-  pub period_number_is : (l : Session) (k : ℕ) → k ≤ length l.calls → period_answer (standing l k) ≡ FoundWord (calendar_at l k).number
+  pub period_number_is : (l : Session) (k : ℕ) → k ≤ length l.calls → period_answer (standing l k) ≡ Ok (calendar_at l k).number
   -- at every node and point what landed is answered; nothing has at load, and only a cycle that is carried out changes the answer
   pub landed_answered : (l : Session) (k node : ℕ) → k ≤ length l.calls → node < nodes l.sheet
       → number (ask (what_landed node)) (standing l k) ≡ 0
-  pub landed_at_load : (l : Session) (node : ℕ) → node < nodes l.sheet → landed_answer (after_load l) node ≡ Nothing
+  pub landed_at_load : (l : Session) (node : ℕ) → node < nodes l.sheet → landed_answer (after_load l) node ≡ Ok None
   pub landed_kept : (l : Session) (k node : ℕ) → k < length l.calls → node < nodes l.sheet
       → (CycleAt l k → ⊥) → landed_answer (standing l (suc k)) node ≡ landed_answer (standing l k) node
   -- for every circuit what is answered is what is reckoned

@@ -16,16 +16,11 @@ use Rattle.sheet.specs.Sheet.{meant}
 use Rattle.sheet.specs.Rules.{sheet_number}
 use Rattle.octets.specs.Octets.{word_in}
 use Rattle.network.specs.Registers.{sheet_in, state_words}
-use Rattle.session.specs.declared.Answer.{Answer}
-use Rattle.session.specs.Answers.{answer_of, number_of}
 use Rattle.session.specs.Calls.{state_number, memory_number, loaded, Lent, lend, lend_state, Call, load, start, is_load, number, after}
-use Rattle.session.proofs.AnswerLaws.{number_is}
 use Rattle.session.proofs.AloneLaws.{is_alone, after_alone}
 use Rattle.session.proofs.ReadingLaws.{memory_state}
-use Rattle.landings.specs.declared.input.Message.{Message}
-use Rattle.landings.specs.declared.input.Message.TheVariants.{Runs}
 use Rattle.landings.specs.Input.{stated_length, sheet_of, memory_size, memory_of, transfers_place, transfers, transfer_place}
-use Rattle.landings.specs.Messages.{Called, called, input_message, start_at, starts_on, calls_on, calls, refusal_of, message, behind}
+use Rattle.landings.specs.Messages.{Message, Runs, Called, called, input_message, start_at, starts_on, calls_on, calls, refusal_of, message, behind}
 use Rattle.landings.proofs.MessageLaws.{whole}
 use Rattle.session.proofs.ReadyLaws.{ready_loaded, after_has, ready_after, passes_after}
 use Rattle.session.proofs.WritingLaws.{state_written}
@@ -45,10 +40,8 @@ module _ (bytes : List ℕ) (at : ℕ) (s : List ℕ) {a b c d e : ℕ}
   unfolding start_at
   start_is = same_five start p q r t u
 
-  pub start_number_is : {o : Answer} {n : ℕ} → o ≡ answer_of (number (start a b c d e) (lend_state s)) → n ≡ number_of o
-      → n ≡ number (start_at bytes at) (lend_state s)
-  start_number_is v w =
-      number_is (number (start a b c d e) (lend_state s)) v w ∙ ap (λ (x : Call). number x (lend_state s)) start_is
+  pub start_number_is : {n : ℕ} → n ≡ number (start a b c d e) (lend_state s) → n ≡ number (start_at bytes at) (lend_state s)
+  start_number_is v = v ∙ ap (λ (x : Call). number x (lend_state s)) start_is
 
   pub start_state_is : {s' : List ℕ} → s' ≡ (after (start a b c d e) (lend_state s)).state
       → s' ≡ (after (start_at bytes at) (lend_state s)).state
@@ -60,14 +53,12 @@ stands n s = record { refusal = n; state = s }
 
 -- the loop over the transfers
 pub record Starting (bytes : List ℕ) (count : ℕ) (s₀ s : List ℕ) (k : ℕ) : Type 0 where
-  pub within : k ≤ count
   pub so_far : starts_on bytes s₀ k ≡ stands 0 s
-  pub long : length s ≡ length s₀
   pub passes : state_number s ≡ 0
 
 pub start_none : (bytes : List ℕ) (count : ℕ) (s : List ℕ) → state_number s ≡ 0 → Starting bytes count s s 0
 unfolding starts_on
-start_none bytes count s p = record { within = omega arith; so_far = refl; long = refl; passes = p }
+start_none bytes count s p = record { so_far = refl; passes = p }
 
 starts_next : (bytes s₀ s : List ℕ) (k : ℕ) → starts_on bytes s₀ k ≡ stands 0 s
     → starts_on bytes s₀ (suc k) ≡ called (start_at bytes (transfer_place bytes k)) (lend_state s)
@@ -97,11 +88,9 @@ module _ (bytes : List ℕ) (count : ℕ) (s₀ s : List ℕ) (k at : ℕ)
       ∙ ap (λ (a : ℕ). called (start_at bytes a) (lend_state s)) (sym p)
       ∙ ap₂ stands (sym e) (sym f)
 
-  pub start_more : n ≡ 0 → length s' ≡ length s → Starting bytes count s₀ s' (k + 1)
-  start_more z h = record {
-    within = omega arith;
+  pub start_more : n ≡ 0 → Starting bytes count s₀ s' (k + 1)
+  start_more z = record {
     so_far = rw add-one (next_is ∙ ap (λ (x : ℕ). stands x s') z);
-    long = h ∙ i.long;
     passes = ap state_number f ∙ passes_after (start_at bytes at) (lend_state s) i.passes;
   }
 
@@ -114,10 +103,10 @@ module _ (bytes : List ℕ) (count : ℕ) (s₀ s : List ℕ) (k at : ℕ)
   start_refused ne =
       (sym (ap (λ (c : Called). c.refusal) (start_stopped ne)), sym (ap (λ (c : Called). c.state) (start_stopped ne)))
 
-pub start_done_is : (bytes : List ℕ) (count : ℕ) (s₀ s : List ℕ) (k : ℕ) → Starting bytes count s₀ s k → count ≤ k
+pub start_done_is : (bytes : List ℕ) (count : ℕ) (s₀ s : List ℕ) (k : ℕ) → Starting bytes count s₀ s k → k ≤ count → count ≤ k
     → (0 ≡ (starts_on bytes s₀ count).refusal) × (s ≡ (starts_on bytes s₀ count).state)
-start_done_is bytes count s₀ s k i l =
-    let q : k ≡ count = omega (arith, i.within, l) in
+start_done_is bytes count s₀ s k i h l =
+    let q : k ≡ count = omega arith in
     let all : starts_on bytes s₀ count ≡ stands 0 s = ap (starts_on bytes s₀) (sym q) ∙ i.so_far in
     (sym (ap (λ (c : Called). c.refusal) all), sym (ap (λ (c : Called). c.state) all))
 
@@ -144,11 +133,10 @@ pub sheet_good : (bytes : List ℕ) {sheet : List ℕ} → input_message bytes �
 sheet_good bytes e z = ap sheet_number z ∙ (whole bytes e).passes
 
 -- the load, then the starts
-module _ (bytes s m : List ℕ) {sheet : List ℕ} (z : sheet ≡ sheet_of bytes) {o : Answer} {n : ℕ}
-    (v : o ≡ answer_of (number (load sheet) (lend s m))) (w : n ≡ number_of o)
+module _ (bytes s m : List ℕ) {sheet : List ℕ} (z : sheet ≡ sheet_of bytes) {n : ℕ} (v : n ≡ number (load sheet) (lend s m))
     {s' : List ℕ} (f : s' ≡ (after (load sheet) (lend s m)).state) where
   load_number_is : n ≡ number (load (sheet_of bytes)) (lend s m)
-  load_number_is = number_is (number (load sheet) (lend s m)) v w ∙ ap (λ (x : List ℕ). number (load x) (lend s m)) z
+  load_number_is = v ∙ ap (λ (x : List ℕ). number (load x) (lend s m)) z
 
   load_state : s' ≡ (after (load (sheet_of bytes)) (lend s m)).state
   load_state = f ∙ ap (λ (x : List ℕ). (after (load x) (lend s m)).state) z

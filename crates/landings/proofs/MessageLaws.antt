@@ -14,10 +14,8 @@ use Rattle.words.proofs.WordLaws.{length_zeros}
 use Rattle.sheet.specs.Rules.{sheet_number, check_number}
 use Rattle.sheet.proofs.CheckLaws.{check_passes}
 use Rattle.octets.specs.Octets.{word_in}
-use Rattle.landings.specs.declared.input.Message.{Message}
-use Rattle.landings.specs.declared.input.Message.TheVariants.{TooLarge, InputEnds, Refused, Runs}
 use Rattle.landings.specs.Input.{most_memory, most_transfers, most_cycles, stated_length, sheet_of, memory_place, memory_size, transfers_place, transfers, cycles_place, cycles_asked}
-use Rattle.landings.specs.Messages.{cycles_message, transfers_message, memory_message, checked_message, input_message}
+use Rattle.landings.specs.Messages.{Message, TooLarge, InputEnds, Refused, Runs, cycles_message, transfers_message, memory_message, checked_message, input_message}
 
 -- a test applies, or it does not and the rest decides
 stops : {t : Bool} (a b : Message) → t ≡ true → a ≡ pick t a b

@@ -3,25 +3,28 @@
 use Prim.Native.Nat.{ℕ, zero, suc, ◌+◌, ◌*◌, ◌≤◌}
 use mathlib.Core.Bool.{false, false≢true}
 use mathlib.Core.List.{List, [], ◌++◌, append_assoc, append-nil}
-use mathlib.Core.Path.{◌≡◌, refl, sym, ◌∙◌, ap, subst}
+use mathlib.Core.Path.{◌≡◌, refl, sym, ◌∙◌, ap}
 use native.Mathlib.Omega.{arith}
-use native.Mathlib.Nat.{add-zero, zero-add, add-suc}
-use lib.ListN.{length, take, drop, replicate, length-append, take-append-drop}
-use lib.Seq.{take-append_seam, drop_at, length-take-le}
-use Rattle.words.specs.Inner.Puts.{put_all}
-use Rattle.words.proofs.WordLaws.{length_put_all, put_all_front}
+use native.Mathlib.Nat.{add-zero, add-suc}
+use lib.ListN.{length, take, drop, replicate, length-append}
+use lib.Seq.{take-append_seam, drop_at}
 use Rattle.sheet.specs.Sheet.{meant, nodes}
 use Rattle.network.specs.Registers.{sheet_in, state_words}
 use Rattle.soundness.proofs.SheetLaws.{sheet_bounds}
 use Rattle.session.specs.Calls.{memory_number, Lent, cycle, after, lend}
 use Rattle.listing.specs.Text.{line_end, field}
 use Rattle.listing.proofs.TextLaws.{field_short}
-use Rattle.landings.specs.declared.input.Message.{Message}
-use Rattle.landings.specs.declared.input.Message.TheVariants.{TooLarge, InputEnds, Refused, Runs}
+use Rattle.std.specs.Prelude.{Err}
+use Rattle.refusal.specs.declared.Refusal.{Refusal}
+use Rattle.refusal.specs.Numbers.{refusal_number}
+use Rattle.refusal.proofs.AnswerLaws.{is_some}
+use Rattle.listing.specs.declared.complaint.Complaint.{Complaint}
+use Rattle.listing.specs.declared.complaint.Complaint.TheVariants.{TooLarge as TooLargeComplaint, InputEnds as InputEndsComplaint, Refused as RefusedComplaint}
+use Rattle.listing.specs.Complaints.{complaint_line}
 use Rattle.landings.specs.Input.{sheet_of, memory_of, cycles_asked}
-use Rattle.landings.specs.Messages.{input_message, calls, refusal_of, message, behind}
+use Rattle.landings.specs.Messages.{Message, TooLarge, InputEnds, Refused, Runs, said, input_message, calls, refusal_of, message, behind}
 use Rattle.landings.specs.Inner.Ended.{calls_message, cycles_listed, cycles_run, at_end, Halted}
-use Rattle.landings.specs.Lines.{cycle_lines, cycles_lines, cycles_on, carried_out, refused_line, last_line}
+use Rattle.landings.specs.Lines.{cycle_lines, cycles_lines, cycles_on, carried_out, last_line}
 use Rattle.listing.specs.Text.{too_large, input_ends, refused}
 use Rattle.landings.specs.Output.{heading, before_cycles, all_lines, printed, printout, HasAt}
 use Rattle.landings.proofs.MessageLaws.{whole, is_runs}
@@ -51,32 +54,6 @@ has_whole part e p = has_front part [] (e ∙ sym (append-nil part)) p
 
 pub has_back : (before part : List ℕ) {text : List ℕ} {place : ℕ} → text ≡ before ++ part → place ≡ length before → HasAt text place part
 has_back before part e p = has_between before part [] (e ∙ ap (λ (x : List ℕ). before ++ x) (sym (append-nil part))) p
-
--- and where it has two parts one behind the other, it has each
-module _ (a b text : List ℕ) (place : ℕ) (h : HasAt text place (a ++ b)) where
-  behind_both : List ℕ
-  behind_both = drop (length (a ++ b)) (drop place text)
-
-  split : text ≡ take place text ++ (a ++ (b ++ behind_both))
-  unfolding behind_both
-  split =
-      sym (take-append-drop place text)
-      ∙ ap (λ (x : List ℕ). take place text ++ x)
-      (sym (take-append-drop (length (a ++ b)) (drop place text))
-      ∙ ap (λ (x : List ℕ). x ++ drop (length (a ++ b)) (drop place text)) h.1
-      ∙ append_assoc a b (drop (length (a ++ b)) (drop place text)))
-
-  front_long : length (take place text) ≡ place
-  front_long = length-take-le place text (omega (arith, h.0))
-
-  pub has_first : HasAt text place a
-  has_first = has_between (take place text) a (b ++ behind_both) split (sym front_long)
-
-  pub has_second : {next : ℕ} → next ≡ place + length a → HasAt text next b
-  has_second q =
-      has_between (take place text ++ a) b behind_both
-      (split ∙ sym (append_assoc (take place text) a (b ++ behind_both)))
-      (omega (arith, q, front_long, length-append (take place text) a))
 
 -- an input that runs: its words are all there, and no call before the cycles is refused
 both_run : (a b : Message) → behind a b ≡ Runs → (a ≡ Runs) × (b ≡ Runs)
@@ -167,35 +144,27 @@ output_short bytes = go (message bytes) refl
           last_short (cycles_asked bytes) (before_cycles bytes),
         )
 
--- the line of a refusal, in two parts
-module _ (bytes : List ℕ) (n place : ℕ) (h : HasAt (printout bytes) place (refused_line n)) where
-  pub refused_has : HasAt (printout bytes) place refused
-  refused_has = has_first refused (field n line_end) (printout bytes) place h
+-- an input that earns a complaint
+is_no_run : (c : Complaint) → is_runs (said {A = Unit {0}} (Err c)) ≡ false
+is_no_run TooLargeComplaint = refl
+is_no_run InputEndsComplaint = refl
+is_no_run (RefusedComplaint e) = refl
 
-  module _ (start line : List ℕ) (end next : ℕ) (q : next ≡ place + length refused) (l : 12 ≤ length start)
-      (f : end ≡ 0 + length (field n line_end)) (g : line ≡ put_all start 0 (field n line_end)) where
-    pub number_fits : end ≤ length line
-    number_fits = omega (arith, f, l, field_short n line_end, ap length g, length_put_all start (field n line_end) 0)
+complained : (bytes : List ℕ) (c : Complaint) → message bytes ≡ said {A = Unit {0}} (Err c) → printout bytes ≡ complaint_line c
+complained bytes TooLargeComplaint e = output_is bytes e
+complained bytes InputEndsComplaint e = output_is bytes e
+complained bytes (RefusedComplaint r) e = output_is bytes e
 
-    pub number_is : take end line ≡ field n line_end
-    number_is =
-        ap (λ (x : List ℕ). take end x) g
-        ∙ ap (λ k. take k (put_all start 0 (field n line_end))) (f ∙ zero-add (length (field n line_end)))
-        ∙ put_all_front start (field n line_end) (omega (arith, l, field_short n line_end))
-
-    pub number_has : HasAt (printout bytes) next (take end line)
-    number_has = subst (HasAt (printout bytes) next) (sym number_is) (has_second refused (field n line_end) (printout bytes) place h q)
-
-    pub refused_done : {last : ℕ} → last ≡ next + length (take end line) → last ≡ place + length (refused_line n)
-    refused_done r = omega (arith, q, r, ap length number_is, length-append refused (field n line_end))
+pub input_complains : (bytes : List ℕ) (c : Complaint) → said {A = Unit {0}} (Err c) ≡ input_message bytes → printout bytes ≡ complaint_line c
+input_complains bytes c e = complained bytes c (message_stops bytes (said {A = Unit {0}} (Err c)) (is_no_run c) (sym e))
 
 -- the message from the number of the load and the starts
-pub refusal_is : (bytes : List ℕ) (n : ℕ) → (n ≡ 0 → ⊥) → refusal_of n ≡ message bytes → message bytes ≡ Refused n
-refusal_is bytes zero ne e = absurd (ne refl)
-refusal_is bytes (suc n) ne e = sym e
-
-pub no_refusal_is : (bytes : List ℕ) (n : ℕ) → n ≡ 0 → refusal_of n ≡ message bytes → message bytes ≡ Runs
-no_refusal_is bytes n z e = sym e ∙ ap refusal_of z
+pub refusal_is : (bytes : List ℕ) (e : Refusal) → refusal_of (refusal_number e) ≡ message bytes → message bytes ≡ Refused (refusal_number e)
+refusal_is bytes e h = go (refusal_number e) (is_some e) h
+  where
+    go : (n : ℕ) → (n ≡ 0 → ⊥) → refusal_of n ≡ message bytes → message bytes ≡ Refused n
+    go zero ne h = absurd (ne refl)
+    go (suc n) ne h = sym h
 
 -- the lent words before the cycles, and at the end
 pub before_is : (bytes : List ℕ) {s m : List ℕ} → s ≡ (calls bytes).state → m ≡ memory_of bytes → lend s m ≡ before_cycles bytes
@@ -236,19 +205,9 @@ lines_are bytes n last e p q =
 pub few_nodes : (bytes : List ℕ) {n : ℕ} → message bytes ≡ Runs → n ≡ nodes (meant (sheet_of bytes)) → n ≤ 16
 few_nodes bytes e p = omega (arith, p, (sheet_bounds (meant (sheet_of bytes)) (whole bytes (runs_whole bytes e)).passes).few_nodes)
 
--- the heading, and a message of one text
+-- the heading
 pub heading_has : (bytes : List ℕ) {place : ℕ} → message bytes ≡ Runs → place ≡ 0 → HasAt (printout bytes) place heading
 heading_has bytes e p = has_front heading (all_lines bytes) (output_is bytes e) p
-
-pub line_has : (bytes : List ℕ) {v : Message} {place : ℕ} → message bytes ≡ v → place ≡ 0 → HasAt (printout bytes) place (printed v (all_lines bytes))
-line_has bytes {v} e p = has_whole (printed v (all_lines bytes)) (output_is bytes e) p
-
-pub line_done : (bytes : List ℕ) {v : Message} {place next : ℕ}
-    → message bytes ≡ v
-    → place ≡ 0
-    → next ≡ place + length (printed v (all_lines bytes))
-    → next ≡ length (printout bytes)
-line_done bytes e p q = omega (arith, p, q, ap length (output_is bytes e))
 
 -- writing fails before the first cycle
 pub none_listed : (bytes : List ℕ) {place : ℕ} {w : Lent} → place ≤ length (printout bytes) → w ≡ before_cycles bytes → Halted bytes place w

@@ -1,6 +1,7 @@
 -- The lines of a page: a node's, a cycle's, and those of the cycles that a page has, put into the buffer one behind the other.
 -- Assumes nothing.
-use Prim.Native.Nat.{ℕ, zero, suc, ◌+◌, ◌-◌, ◌*◌, ◌≤◌, ◌<◌, min}
+use Prim.Native.Nat.{ℕ, zero, suc, ◌+◌, ◌-◌, ◌*◌, ◌≤◌, ◌<◌}
+use Rattle.std.specs.Prelude.{Some, None}
 use mathlib.Core.List.{List, [], ◌++◌}
 use mathlib.Core.Path.{◌≡◌, refl, sym, ◌∙◌, ap, ap₂, subst}
 use native.Mathlib.Omega.{arith}
@@ -15,50 +16,40 @@ use Rattle.network.specs.View.{Landing, nothing, landed}
 use Rattle.network.specs.Registers.{reg, landing_mark, landing_kind, landing_address, landing_word}
 use Rattle.network.specs.Seen.{seen_landing}
 use Rattle.session.specs.declared.Landed.{Landed}
-use Rattle.session.specs.declared.Landed.TheVariants.{Nothing, Word as LandedWord, Refused as LandedRefused}
-use Rattle.session.specs.Answers.{landed_of}
+use Rattle.occupancy.specs.declared.TakenPlaces.{TakenPlaces}
+use Rattle.session.specs.Answers.{shown}
+use Rattle.occupancy.proofs.WalkLaws.{On, Begun, Gave, Ended, still_on, next_place, none_left}
 use Rattle.session.specs.Calls.{memory_number, last_landing, Lent, lend, cycle, number, after}
-use Rattle.session.proofs.KeptLaws.{state_length_kept, memory_length_kept}
 use Rattle.session.proofs.WritingLaws.{state_kept, memory_kept}
 use Rattle.listing.specs.Text.{landing_line}
 use Rattle.listing.proofs.TextLaws.{line_short}
 use Rattle.landings.specs.Lines.{line_for, cycle_lines, cycles_lines, cycles_on}
 use Rattle.landings.specs.Inner.Pages.{Paged}
-use Rattle.session.proofs.ReadyLaws.{after_has, ready_after}
-
--- the line of an answer
-abbrev pub landing_text : ℕ → ℕ → Landed → List ℕ
-landing_text time node Nothing = []
-landing_text time node (LandedWord kind address payload) = landing_line time node address payload kind
-landing_text time node (LandedRefused n) = []
-
-text_is : (time node : ℕ) (l : Landing) → landing_text time node (landed_of 0 l) ≡ line_for time node l
-text_is time node nothing = refl
-text_is time node (landed kind address payload) = refl
+use Rattle.session.proofs.ReadyLaws.{ready_after}
 
 line_for_short : (time node : ℕ) (l : Landing) → length (line_for time node l) ≤ 60
 line_for_short time node nothing = omega arith
 line_for_short time node (landed kind address payload) = line_short time node address payload kind
 
-module _ (time node : ℕ) (l : Landing) {o : Landed} (p : o ≡ landed_of 0 l) where
-  line_of : landing_text time node o ≡ line_for time node l
-  line_of = ap (landing_text time node) p ∙ text_is time node l
-
-  pub none_put : landing_text time node o ≡ [] → (at : ℕ) (buffer : List ℕ)
+-- where nothing landed the place stays, and a word that landed has its line
+module _ (time node : ℕ) (l : Landing) where
+  pub none_put : None ≡ shown l → (at : ℕ) (buffer : List ℕ)
       → (at ≡ at + length (line_for time node l)) × (buffer ≡ put_all buffer at (line_for time node l))
   unfolding put_all
-  none_put e at buffer =
-      let none : line_for time node l ≡ [] = sym line_of ∙ e in
-      (sym (ap (λ (x : List ℕ). at + length x) none ∙ add-zero at), sym (ap (λ (x : List ℕ). put_all buffer at x) none))
+  none_put e at buffer = go l e
+    where
+      go : (l : Landing) → None ≡ shown l → (at ≡ at + length (line_for time node l)) × (buffer ≡ put_all buffer at (line_for time node l))
+      go nothing e = (sym (add-zero at), refl)
+      go (landed kind address payload) e = absurd (let z : ◌≡◌ {A = ℕ} 0 1 = cc in omega arith)
 
-  pub some_put : (kind address payload at : ℕ) (buffer : List ℕ) {place : ℕ} {written : List ℕ}
-      → o ≡ LandedWord kind address payload
-      → place ≡ at + length (landing_line time node address payload kind)
-      → written ≡ put_all buffer at (landing_line time node address payload kind)
-      → (place ≡ at + length (line_for time node l)) × (written ≡ put_all buffer at (line_for time node l))
-  some_put kind address payload at buffer e f g =
-      let same : landing_line time node address payload kind ≡ line_for time node l = sym (ap (landing_text time node) e) ∙ line_of in
-      (f ∙ ap (λ (x : List ℕ). at + length x) same, g ∙ ap (λ (x : List ℕ). put_all buffer at x) same)
+  pub some_put : (w : Landed) → Some w ≡ shown l → landing_line time node w.address w.word w.kind ≡ line_for time node l
+  some_put w e = go l e
+    where
+      go : (l : Landing) → Some w ≡ shown l → landing_line time node w.address w.word w.kind ≡ line_for time node l
+      go nothing e = absurd (let z : ◌≡◌ {A = ℕ} 0 1 = cc in omega arith)
+      go (landed kind address payload) e =
+          let same : w ≡ record { kind = kind; address = address; word = payload } = cc in
+          ap (λ (x : Landed). landing_line time node x.address x.word x.kind) same
 
 -- the loop over the nodes
 pub record Listing (nodes time : ℕ) (s start buffer : List ℕ) (at place node : ℕ) : Type 0 where
@@ -123,35 +114,6 @@ lines_jump nodes time s start buffer at place node (suc more) i l none =
     (lines_jump nodes time s start buffer at place node more i (omega arith) (λ n a b. none n a (omega arith))) (omega arith)
     (none (node + more) (omega arith) (omega arith)))
 
--- the loop over the nodes of a mask: those passed have no landing, and the last may lie behind all
-module _ (nodes time : ℕ) (s start : List ℕ) (at mask : ℕ)
-    (beside : (node : ℕ) → node < nodes → bit_at mask node ≡ 0 → reg s landing_mark node ≡ 0) where
-  none_landed : (node : ℕ) → node < nodes → bit_at mask node ≡ 0 → last_landing s node ≡ nothing
-  unfolding last_landing
-  none_landed node l none =
-      ap (λ (mark : ℕ). seen_landing mark (reg s landing_kind node) (reg s landing_address node) (reg s landing_word node)) (beside node l none)
-
-  lines_on : (buffer : List ℕ) (place from next : ℕ) → Listing nodes time s start buffer at place from → NextTaken mask from next
-      → Listing nodes time s start buffer at place (min next nodes)
-  lines_on buffer place from next i taken =
-      let more = min next nodes - from in
-      let sum : from + more ≡ min next nodes = omega (arith, taken.onward, i.within) in
-      subst (Listing nodes time s start buffer at place) sum
-      (lines_jump nodes time s start buffer at place from more i (omega (arith, sum))
-      (λ n a b. none_landed n (omega (arith, sum)) (taken.passed n a (omega (arith, sum)))))
-
-  pub lines_begin : (next : ℕ) → NextTaken mask 0 next → Listing nodes time s start start at at (min next nodes)
-  lines_begin next taken = lines_on start at 0 next (lines_start nodes time s start at) taken
-
-  pub lines_turn : (buffer : List ℕ) (place node next : ℕ) {reached : ℕ} {written : List ℕ}
-      → Listing nodes time s start buffer at place (min node nodes) → node < nodes
-      → reached ≡ place + length (line_for time node (last_landing s node)) → written ≡ put_all buffer place (line_for time node (last_landing s node))
-      → NextTaken mask (node + 1) next → Listing nodes time s start written at reached (min next nodes)
-  lines_turn buffer place node next {reached} {written} i l p b taken =
-      let here : min node nodes ≡ node = omega arith in
-      lines_on written reached (node + 1) next
-      (lines_more nodes time s start buffer at place node (subst (Listing nodes time s start buffer at place) here i) l p b) taken
-
 pub lines_done : (nodes time : ℕ) (s start buffer : List ℕ) (at place node : ℕ)
     → Listing nodes time s start buffer at place node
     → nodes ≤ node
@@ -159,6 +121,60 @@ pub lines_done : (nodes time : ℕ) (s start buffer : List ℕ) (at place node :
 lines_done nodes time s start buffer at place node i l =
     let e : node ≡ nodes = omega (arith, i.within, l) in
     (i.placed ∙ ap (λ n. at + length (cycle_lines n time s)) e, i.bytes ∙ ap (λ n. put_all start at (cycle_lines n time s)) e)
+
+-- the loop over the nodes of a mask
+pub record Walking (nodes time : ℕ) (s start buffer : List ℕ) (at place mask : ℕ) (walk : TakenPlaces) : Type 0 where
+  pub on : On mask nodes walk
+  listed : Listing nodes time s start buffer at place walk.from
+
+-- those passed have no landing
+module _ (nodes time : ℕ) (s start : List ℕ) (at mask : ℕ)
+    (beside : (node : ℕ) → node < nodes → bit_at mask node ≡ 0 → reg s landing_mark node ≡ 0) where
+  none_landed : (node : ℕ) → node < nodes → bit_at mask node ≡ 0 → last_landing s node ≡ nothing
+  unfolding last_landing
+  none_landed node l none =
+      ap (λ (mark : ℕ). seen_landing mark (reg s landing_kind node) (reg s landing_address node) (reg s landing_word node)) (beside node l none)
+
+  -- the nodes up to the next of the mask have their lines
+  lines_on : (buffer : List ℕ) (place from next : ℕ) → Listing nodes time s start buffer at place from → NextTaken mask from next → next ≤ nodes
+      → Listing nodes time s start buffer at place next
+  lines_on buffer place from next i taken few =
+      let more = next - from in
+      let sum : from + more ≡ next = omega (arith, taken.onward) in
+      subst (Listing nodes time s start buffer at place) sum
+      (lines_jump nodes time s start buffer at place from more i (omega (arith, sum))
+      (λ n a b. none_landed n (omega (arith, sum)) (taken.passed n a (omega (arith, sum)))))
+
+  pub walk_start : (walk : TakenPlaces) → Begun mask nodes walk → Walking nodes time s start start at at mask walk
+  walk_start walk b = record {
+    on = b.on;
+    listed = subst (Listing nodes time s start start at at) (sym b.at_start) (lines_start nodes time s start at);
+  }
+
+  module _ (buffer : List ℕ) (place : ℕ) (walk : TakenPlaces) (w : Walking nodes time s start buffer at place mask walk) (after : TakenPlaces) where
+    -- a line more fits
+    pub walk_room : (node : ℕ) → Gave walk node after → at + 60 * nodes ≤ length start → place + 60 ≤ length buffer
+    walk_room node g room =
+        let q = next_place mask nodes walk w.on after node g in
+        let i = w.listed in
+        omega (arith, room, i.placed, i.short, i.long, q.next.onward, q.below)
+
+    pub walk_more : (node : ℕ) → Gave walk node after → {reached : ℕ} {written : List ℕ}
+        → reached ≡ place + length (line_for time node (last_landing s node)) → written ≡ put_all buffer place (line_for time node (last_landing s node))
+        → Walking nodes time s start written at reached mask after
+    walk_more node g {reached} {written} p b =
+        let q = next_place mask nodes walk w.on after node g in
+        record {
+          on = still_on mask nodes walk w.on after node g;
+          listed =
+              subst (Listing nodes time s start written at reached) (sym q.onward)
+              (lines_more nodes time s start buffer at place node (lines_on buffer place walk.from node w.listed q.next (omega (arith, q.below))) q.below p b);
+        }
+
+    pub walk_done : Ended walk after → (place ≡ at + length (cycle_lines nodes time s)) × (buffer ≡ put_all start at (cycle_lines nodes time s))
+    walk_done g =
+        lines_done nodes time s start buffer at place nodes
+        (lines_on buffer place walk.from nodes w.listed (none_left mask nodes walk w.on after g) (omega arith)) (omega arith)
 
 -- a cycle's lines are at most sixty bytes a node
 pub lines_short : (nodes time : ℕ) (s : List ℕ) → length (cycle_lines nodes time s) ≤ 60 * nodes
@@ -185,8 +201,6 @@ pub record Filling (nodes first last : ℕ) (w : Lent) (start s m buffer : List 
   pub in_time : time ≤ last
   pub words : lend s m ≡ cycles_on (time - first) w
   pub ready : memory_number s m ≡ 0
-  pub state_long : length s ≡ length w.state
-  pub memory_long : length m ≡ length w.memory
   pub long : length buffer ≡ length start
   pub placed : at ≡ length (cycles_lines nodes first (time - first) w)
   pub bytes : buffer ≡ put_all start 0 (cycles_lines nodes first (time - first) w)
@@ -203,8 +217,6 @@ fill_start nodes first last start s m l r =
       in_time = l;
       words = rw none refl;
       ready = r;
-      state_long = refl;
-      memory_long = refl;
       long = refl;
       placed = rw none refl;
       bytes = rw none refl;
@@ -220,18 +232,6 @@ module _ (nodes first last : ℕ) (w : Lent) (start s m buffer : List ℕ) (at t
   still_ready =
       ap (λ (x : Lent). memory_number x.state x.memory) f
       ∙ ready_after cycle (lend s m) refl i.ready
-
-  pub still_long : length s' ≡ length w.state
-  still_long =
-      ap (λ (x : Lent). length x.state) f
-      ∙ after_has (λ (x : Lent). length x.state ≡ length s) cycle (lend s m) (λ e. state_length_kept cycle (lend s m) e) refl
-      ∙ i.state_long
-
-  pub still_wide : length m' ≡ length w.memory
-  still_wide =
-      ap (λ (x : Lent). length x.memory) f
-      ∙ after_has (λ (x : Lent). length x.memory ≡ length m) cycle (lend s m) (λ e. memory_length_kept cycle (lend s m)) refl
-      ∙ i.memory_long
 
   more_cycles : lend s' m' ≡ cycles_on (suc (time - first)) w
   unfolding cycles_on
@@ -271,8 +271,6 @@ module _ (nodes first last : ℕ) (w : Lent) (start s m buffer : List ℕ) (at t
         in_time = omega arith;
         words = rw next more_cycles;
         ready = still_ready;
-        state_long = still_long;
-        memory_long = still_wide;
         long = ap length b ∙ length_put_all buffer lines at ∙ i.long;
         placed = rw (next, more_lines) (omega (arith, p, i.placed, length-append before lines));
         bytes = rw (next, more_lines) (put_all_behind start before lines 0 at i.bytes behind b);
@@ -281,9 +279,9 @@ module _ (nodes first last : ℕ) (w : Lent) (start s m buffer : List ℕ) (at t
       }
 
 -- what a page has: cycles until the buffer could overflow, one is refused, or all are run
-module _ (nodes first last : ℕ) (w : Lent) (start s m buffer : List ℕ) (at time : ℕ)
-    (i : Filling nodes first last w start s m buffer at time) where
-  page_lines : take at buffer ≡ cycles_lines nodes first (time - first) w
+module _ (nodes first last : ℕ) (w : Lent) (start s m page : List ℕ) (at time : ℕ)
+    (i : Filling nodes first last w start s m page at time) where
+  page_lines : take at page ≡ cycles_lines nodes first (time - first) w
   page_lines =
       let text = cycles_lines nodes first (time - first) w in
       ap (λ (x : List ℕ). take at x) i.bytes
@@ -293,23 +291,31 @@ module _ (nodes first last : ℕ) (w : Lent) (start s m buffer : List ℕ) (at t
   -- the page as it is handed back, with the words that are left and what ended it
   abbrev PageMade : List ℕ → List ℕ → ℕ → Type 0
   PageMade s' m' refusal =
-      (Paged first last w (time - first) refusal)
-      × ((lend s' m' ≡ cycles_on (time - first) w)
-      × ((take at buffer ≡ cycles_lines nodes first (time - first) w)
-      × ((buffer ≡ put_all start 0 (cycles_lines nodes first (time - first) w))
-      × ((at ≤ length buffer) × (memory_number s' m' ≡ 0)))))
+      record {
+        cycles : Paged first last w (time - first) refusal;
+        words : lend s' m' ≡ cycles_on (time - first) w;
+        lines : take at page ≡ cycles_lines nodes first (time - first) w;
+        buffer : page ≡ put_all start 0 (cycles_lines nodes first (time - first) w);
+        fits : at ≤ length page;
+        ready : memory_number s' m' ≡ 0;
+      }
 
   page_made : {s' m' : List ℕ} {refusal : ℕ} → lend s' m' ≡ lend s m → Paged first last w (time - first) refusal → PageMade s' m' refusal
-  page_made f e =
-      let ready = ap (λ (x : Lent). memory_number x.state x.memory) f ∙ i.ready in
-      (e, (f ∙ i.words, (page_lines, (i.bytes, (omega (arith, i.fits, i.long), ready)))))
+  page_made f e = record {
+    cycles = e;
+    words = f ∙ i.words;
+    lines = page_lines;
+    buffer = i.bytes;
+    fits = omega (arith, i.fits, i.long);
+    ready = ap (λ (x : Lent). memory_number x.state x.memory) f ∙ i.ready;
+  }
 
   no_lines : length (cycles_lines nodes first 0 w) ≡ 0
   unfolding cycles_lines
   no_lines = refl
 
   -- the buffer is full: it was not before the first cycle
-  pub fill_stop : {room : ℕ} → length buffer < at + room → length start ≡ 65536 → room ≤ 65536 → PageMade s m 0
+  pub fill_stop : {room : ℕ} → length page < at + room → length start ≡ 65536 → room ≤ 65536 → PageMade s m 0
   fill_stop full all free =
       page_made refl (record {
         in_time = omega (arith, i.begun, i.in_time);

@@ -2,7 +2,10 @@
 -- Assumes nothing.
 use Prim.Native.Nat.{ℕ, ◌+◌, ◌-◌, ◌≤◌, ◌<◌}
 use mathlib.Core.List.{List, ◌++◌, append_assoc, append-nil}
-use mathlib.Core.Path.{◌≡◌, refl, sym, ◌∙◌, ap}
+use mathlib.Core.Path.{◌≡◌, sym, ◌∙◌, ap, subst}
+use Rattle.std.specs.Prelude.{Result, Err}
+use Rattle.refusal.specs.declared.Refusal.{Refusal}
+use Rattle.refusal.specs.Numbers.{refusal_number, number_of}
 use native.Mathlib.Omega.{arith}
 use native.Mathlib.Nat.{add-zero, zero-add}
 use native.Mathlib.Decide.{dec_lt}
@@ -18,38 +21,32 @@ use Rattle.landings.proofs.CarriedLaws.{carried_past, carried_stop, carried_all,
 use Rattle.landings.proofs.OutputLaws.{has_between, has_back, cycles_behind, lines_behind, before_ready, before_sheet, lines_are}
 use Rattle.landings.proofs.RestLaws.{cycles_sheet}
 
-pub record Paging (bytes : List ℕ) (n last : ℕ) (s₀ m₀ buffer₀ s m buffer : List ℕ) (place time : ℕ) : Type 0 where
+pub record Paging (bytes : List ℕ) (n last : ℕ) (s m : List ℕ) (place time : ℕ) : Type 0 where
   pub in_time : time ≤ last
   pub words : lend s m ≡ cycles_on time (before_cycles bytes)
   pub ready : memory_number s m ≡ 0
   pub placed : place ≡ length heading + length (cycles_lines n 0 time (before_cycles bytes))
   pub carried : (j : ℕ) → j < time → number cycle (cycles_on j (before_cycles bytes)) ≡ 0
-  pub state_long : length s ≡ length s₀
-  pub memory_long : length m ≡ length m₀
-  pub long : length buffer ≡ length buffer₀
 
-pub page_start : (bytes : List ℕ) (n last : ℕ) (s m buffer : List ℕ) (place : ℕ)
+pub page_start : (bytes : List ℕ) (n last : ℕ) (s m : List ℕ) (place : ℕ)
     → ReadyToList bytes s m n last
     → place ≡ length heading
-    → Paging bytes n last s m buffer s m buffer place 0
+    → Paging bytes n last s m place 0
 unfolding cycles_on cycles_lines
-page_start bytes n last s m buffer place g p = record {
+page_start bytes n last s m place g p = record {
   in_time = omega arith;
   words = g.words;
   ready = before_ready bytes g.runs g.words;
   placed = p ∙ sym (add-zero (length heading));
   carried = λ j h. absurd (let z : ⊥ = omega (arith, h) in z);
-  state_long = refl;
-  memory_long = refl;
-  long = refl;
 }
 
 -- the state's sheet has the input's nodes
-pub page_nodes : (bytes : List ℕ) (n last : ℕ) (s₀ m₀ buffer₀ s m buffer : List ℕ) (place time : ℕ)
-    → Paging bytes n last s₀ m₀ buffer₀ s m buffer place time
+pub page_nodes : (bytes : List ℕ) (n last : ℕ) (s m : List ℕ) (place time : ℕ) {s₀ m₀ : List ℕ}
+    → Paging bytes n last s m place time
     → ReadyToList bytes s₀ m₀ n last
     → n ≡ nodes (sheet_in s)
-page_nodes bytes n last s₀ m₀ buffer₀ s m buffer place time i g =
+page_nodes bytes n last s m place time i g =
     g.all_nodes
     ∙ sym (ap nodes
     (ap (λ (w : Lent). sheet_in w.state) i.words
@@ -57,8 +54,8 @@ page_nodes bytes n last s₀ m₀ buffer₀ s m buffer place time i g =
     ∙ before_sheet bytes g.runs))
 
 -- a page more
-module _ (bytes : List ℕ) (n last : ℕ) (s₀ m₀ buffer₀ s m buffer : List ℕ) (place time : ℕ)
-    (i : Paging bytes n last s₀ m₀ buffer₀ s m buffer place time)
+module _ (bytes : List ℕ) (n last : ℕ) (s m : List ℕ) (place time : ℕ)
+    (i : Paging bytes n last s m place time)
     {count refusal : ℕ} (d : Paged time last (lend s m) count refusal) where
   abbrev words₀ : Lent
   words₀ = before_cycles bytes
@@ -76,7 +73,7 @@ module _ (bytes : List ℕ) (n last : ℕ) (s₀ m₀ buffer₀ s m buffer : Lis
           ∙ d.is_carried_out (j - time) (omega (arith, p, h))
 
   -- writing fails behind it
-  pub page_halted : ReadyToList bytes s₀ m₀ n last
+  pub page_halted : {s₀ m₀ : List ℕ} → ReadyToList bytes s₀ m₀ n last
       → {s' m' : List ℕ} {reached : ℕ}
       → lend s' m' ≡ cycles_on count (lend s m)
       → reached ≤ length (printout bytes)
@@ -99,7 +96,7 @@ module _ (bytes : List ℕ) (n last : ℕ) (s₀ m₀ buffer₀ s m buffer : Lis
     lines_with =
         lines_behind n 0 time count words₀ ∙ ap (λ (x : List ℕ). cycles_lines n 0 time words₀ ++ x) (sym page_is)
 
-    pub page_has : ReadyToList bytes s₀ m₀ n last → HasAt (printout bytes) place part
+    pub page_has : {s₀ m₀ : List ℕ} → ReadyToList bytes s₀ m₀ n last → HasAt (printout bytes) place part
     page_has g =
         let done = carried_out last words₀ in
         let before = cycles_lines n 0 time words₀ in
@@ -117,28 +114,22 @@ module _ (bytes : List ℕ) (n last : ℕ) (s₀ m₀ buffer₀ s m buffer : Lis
         ∙ sym (append_assoc heading before (part ++ (rest ++ end))))
         (i.placed ∙ sym (length-append heading before))
 
-    pub page_next : {s' m' buffer' : List ℕ} {next : ℕ}
+    pub page_next : {s' m' : List ℕ} {next : ℕ}
         → lend s' m' ≡ cycles_on count (lend s m)
         → memory_number s' m' ≡ 0
         → next ≡ place + length part
-        → length s' ≡ length s
-        → length m' ≡ length m
-        → length buffer' ≡ length buffer
-        → Paging bytes n last s₀ m₀ buffer₀ s' m' buffer' next (time + count)
-    page_next f r p a b e =
+        → Paging bytes n last s' m' next (time + count)
+    page_next f r p =
         record {
           in_time = d.in_time;
           words = f ∙ ap (cycles_on count) i.words ∙ sym (cycles_behind time count words₀);
           ready = r;
           placed = omega (arith, p, i.placed, ap length lines_with, length-append (cycles_lines n 0 time words₀) part);
           carried = still_carried;
-          state_long = a ∙ i.state_long;
-          memory_long = b ∙ i.memory_long;
-          long = e ∙ i.long;
         }
 
     -- it ends in a refusal: then so does the output
-    module _ (g : ReadyToList bytes s₀ m₀ n last) (ne : refusal ≡ 0 → ⊥) {next : ℕ} (p : next ≡ place + length part) where
+    module _ {s₀ m₀ : List ℕ} (g : ReadyToList bytes s₀ m₀ n last) (ne : refusal ≡ 0 → ⊥) {next : ℕ} (p : next ≡ place + length part) where
       refusal_is : refusal ≡ number cycle (cycles_on (time + count) words₀)
       refusal_is =
           (d.stopped ne).1
@@ -185,13 +176,18 @@ module _ (bytes : List ℕ) (n last : ℕ) (s₀ m₀ buffer₀ s m buffer : Lis
             ∙ ap (λ k. cycles_on k words₀) (sym stopped ∙ ap (λ k. carried_out k words₀) g.all_cycles),
       )
 
+-- what ended a page, by its refusal
+pub ended_by : {time last count : ℕ} {w : Lent} (r : Result (Unit {0}) Refusal) (e : Refusal) → r ≡ Err e → Paged time last w count (number_of r)
+    → Paged time last w count (refusal_number e)
+ended_by {time} {last} {count} {w} r e q d = subst (λ (x : Result (Unit {0}) Refusal). Paged time last w count (number_of x)) q d
+
 -- no cycle is left
-pub page_done : (bytes : List ℕ) (n last : ℕ) (s₀ m₀ buffer₀ s m buffer : List ℕ) (place time : ℕ)
-    → Paging bytes n last s₀ m₀ buffer₀ s m buffer place time
+pub page_done : (bytes : List ℕ) (n last : ℕ) (s m : List ℕ) (place time : ℕ) {s₀ m₀ : List ℕ}
+    → Paging bytes n last s m place time
     → last ≤ time
     → ReadyToList bytes s₀ m₀ n last
     → (place ≡ length (printout bytes)) × (lend s m ≡ cycles_on (cycles_listed bytes) (before_cycles bytes))
-page_done bytes n last s₀ m₀ buffer₀ s m buffer place time i l g =
+page_done bytes n last s m place time i l g =
     let w = before_cycles bytes in
     let end : time ≡ last = omega (arith, i.in_time, l) in
     let all : carried_out last w ≡ last = carried_all last w (λ j h. i.carried j (omega (arith, end, h))) in

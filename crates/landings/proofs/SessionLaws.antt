@@ -16,9 +16,8 @@ use Rattle.session.specs.Calls.{loaded, Lent, lend, lend_state, Call, cycle, is_
 use Rattle.session.proofs.AloneLaws.{after_alone}
 use Rattle.isolation.specs.Sessions.{LoadsRefused, Session, standing}
 use Rattle.isolation.proofs.DemandProved.{demand3}
-use Rattle.landings.specs.declared.input.Message.TheVariants.{Runs}
 use Rattle.landings.specs.Input.{sheet_of, memory_of, transfers, transfer_place, cycles_asked}
-use Rattle.landings.specs.Messages.{Called, called, start_at, starts_on, calls_on, calls, message}
+use Rattle.landings.specs.Messages.{Runs, Called, called, start_at, starts_on, calls_on, calls, message}
 use Rattle.landings.specs.Lines.{cycles_on, last_line}
 use Rattle.landings.specs.Output.{before_cycles}
 use Rattle.landings.specs.Inner.Ended.{cycles_listed}

@@ -1,6 +1,6 @@
 -- The one line that `landings` prints instead of a listing, as a function of its input: the first of these that applies. `Runs` means that
 -- the listing is printed.
-use Rattle.std.specs.Prelude.{ℕ, zero, suc, ◌+◌, List, replicate}
+use Rattle.std.specs.Prelude.{ℕ, zero, suc, ◌+◌, List, replicate, Result, Ok, Err}
 use Rattle.words.specs.Tests.{◌<?◌, ◌=?◌}
 use Rattle.words.specs.Words.{pick}
 use Rattle.sheet.specs.Sheet.{sheet_words}
@@ -8,10 +8,25 @@ use Rattle.sheet.specs.Rules.{check_number}
 use Rattle.octets.specs.Octets.{word_in}
 use Rattle.network.specs.Registers.{state_words}
 use Rattle.session.specs.Calls.{Lent, lend, lend_state, Call, load, start, number, after}
-use Rattle.landings.specs.declared.input.Message.{Message}
-use Rattle.landings.specs.declared.input.Message.TheVariants.{TooLarge, InputEnds, Refused, Runs}
+use Rattle.refusal.specs.Numbers.{refusal_number}
+use Rattle.listing.specs.declared.complaint.Complaint.{Complaint}
+use Rattle.listing.specs.declared.complaint.Complaint.TheVariants.{TooLarge as TooLargeComplaint, InputEnds as InputEndsComplaint, Refused as RefusedComplaint}
 use Rattle.landings.specs.Input.{most_memory, most_transfers, most_cycles, ends, stated_length, sheet_of, memory_place, memory_size, memory_of}
 use Rattle.landings.specs.Input.{transfers_place, transfers, transfer_place, cycles_place, cycles_asked}
+
+-- the line to print instead of a listing, or that the listing is printed
+pub data Message : Type 0 where
+  TooLarge : Message
+  InputEnds : Message
+  Refused : ℕ → Message
+  Runs : Message
+
+-- the message that a complaint is, or that there is none
+abbrev pub said : {A : Type 0} → Result A Complaint → Message
+said (Ok x) = Runs
+said (Err TooLargeComplaint) = TooLarge
+said (Err InputEndsComplaint) = InputEnds
+said (Err (RefusedComplaint e)) = Refused (refusal_number e)
 
 unfoldable pub cycles_message : List ℕ → Message
 cycles_message bytes = pick (ends bytes (cycles_place bytes + 1)) InputEnds (pick (most_cycles <? cycles_asked bytes) TooLarge Runs)

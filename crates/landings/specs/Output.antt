@@ -7,10 +7,8 @@ use Rattle.streams.specs.Written.{GotPart}
 use Rattle.sheet.specs.Sheet.{meant, nodes, sheet_words}
 use Rattle.session.specs.Calls.{Lent, lend}
 use Rattle.listing.specs.Text.{too_large, input_ends}
-use Rattle.landings.specs.declared.input.Message.{Message}
-use Rattle.landings.specs.declared.input.Message.TheVariants.{TooLarge, InputEnds, Refused, Runs}
 use Rattle.landings.specs.Input.{most_memory, most_transfers, sheet_of, memory_of, cycles_asked}
-use Rattle.landings.specs.Messages.{calls, message}
+use Rattle.landings.specs.Messages.{Message, TooLarge, InputEnds, Refused, Runs, calls, message}
 use Rattle.landings.specs.Lines.{cycles_lines, carried_out, refused_line, last_line}
 
 -- `cycle node address word kind`, and a line end

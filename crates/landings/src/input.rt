@@ -1,10 +1,11 @@
-// What the input says before anything is run: the one line that it earns, or that its words are all there.
+// What the input says before anything is run: what the program complains of, or that its words are all there.
 ghost use Rattle.std.specs.Prelude.{◌≡◌, ◌+◌, ◌*◌, ◌<◌, ◌≤◌, length};
 ghost use Rattle.sheet.specs.Sheet.{meant, nodes, memory_words, sheet_words};
 ghost use Rattle.sheet.specs.Rules.{sheet_number};
 ghost use Rattle.landings.specs.Input.{most_memory, most_transfers, stated_length, memory_place, memory_size, transfers_place, cycles_place, cycles_asked};
-ghost use Rattle.landings.specs.declared.input.Message.TheVariants.{Runs};
-ghost use Rattle.landings.specs.Messages.{cycles_message, transfers_message, memory_message, checked_message, input_message};
+ghost use Rattle.landings.specs.Messages.{Runs, said, cycles_message, transfers_message, memory_message, checked_message, input_message};
+
+use listing::Complaint;
 
 const MOST_MEMORY: u32 = 4096;
 
@@ -16,53 +17,44 @@ const MOST_CYCLES: u32 = 65536;
 pub const MOST_BYTES: usize = 4
     * (3 + (sheet::SHEET_WORDS + MOST_MEMORY + 5 * MOST_TRANSFERS) as usize);
 
-// The line to print instead of a listing, or Runs.
-#[derive(Clone, Copy)]
-pub enum Message {
-    TooLarge,
-    InputEnds,
-    Refused(u32),
-    Runs,
-}
-
-// The cycles' word, at its place, which transfers_message has reckoned.
-fn cycles_message(bytes: &[u8], at: usize) -> Message
+// The cycles' word, at its place, which check_transfers has reckoned.
+fn check_cycles(bytes: &[u8], at: usize) -> Result<(), Complaint>
     requires { (at ≡ cycles_place bytes.now) × (at ≤ 2 + sheet_words + most_memory + 5 * most_transfers) }
-    ensures { result ≡ cycles_message bytes.now }
+    ensures { said result ≡ cycles_message bytes.now }
 {
     if bytes.len() < 4 * (at + 1) {
-        return Message::InputEnds;
+        return Err(Complaint::InputEnds);
     }
     if octets::word_in(bytes, at) > MOST_CYCLES {
-        return Message::TooLarge;
+        return Err(Complaint::TooLarge);
     }
-    Message::Runs
+    Ok(())
 }
 
-// The number of transfers, at its place, which memory_message has reckoned.
-fn transfers_message(bytes: &[u8], at: usize) -> Message
+// The number of transfers, at its place, which check_memory has reckoned.
+fn check_transfers(bytes: &[u8], at: usize) -> Result<(), Complaint>
     requires { (at ≡ transfers_place bytes.now) × (at ≤ 1 + sheet_words + most_memory) }
-    ensures { result ≡ transfers_message bytes.now }
+    ensures { said result ≡ transfers_message bytes.now }
 {
     if bytes.len() < 4 * (at + 1) {
-        return Message::InputEnds;
+        return Err(Complaint::InputEnds);
     }
     let count = octets::word_in(bytes, at);
     if count > MOST_TRANSFERS {
-        return Message::TooLarge;
+        return Err(Complaint::TooLarge);
     }
-    cycles_message(bytes, at + 1 + 5 * (count as usize))
+    check_cycles(bytes, at + 1 + 5 * (count as usize))
 }
 
-// The memories' size, worked out by checked_message from a sheet that passes.
-fn memory_message(bytes: &[u8], at: usize, size: u32) -> Message
+// The memories' size, worked out by check_sheet from a sheet that passes.
+fn check_memory(bytes: &[u8], at: usize, size: u32) -> Result<(), Complaint>
     requires { (at ≡ memory_place bytes.now) × (at ≤ 1 + sheet_words) × (size ≡ memory_size bytes.now) }
-    ensures { result ≡ memory_message bytes.now }
+    ensures { said result ≡ memory_message bytes.now }
 {
     if size > MOST_MEMORY {
-        return Message::TooLarge;
+        return Err(Complaint::TooLarge);
     }
-    transfers_message(bytes, at + size as usize)
+    check_transfers(bytes, at + size as usize)
 }
 
 // Memory words of all nodes; the callers' sheet has passed the checker, and so keeps 1 to 11.
@@ -70,43 +62,41 @@ pub fn memory_size(sheet: &[u32]) -> u32
     requires { sheet_number sheet.now ≡ 0 }
     ensures { result ≡ nodes (meant sheet.now) * memory_words (meant sheet.now) }
 {
-    if sheet.len() == 0 {
+    if sheet.is_empty() {
         return 4;
     }
     sheet::whole_memory_of(sheet)
 }
 
-// The checker's number for a sheet whose words are all there, and what follows; input_message lends room for the sheet.
-fn checked_message(bytes: &[u8], sheet: &mut [u32]) -> Message
+// The checker's verdict upon a sheet whose words are all there, and what follows; check_input lends room for the sheet.
+fn check_sheet(bytes: &[u8], sheet: &mut [u32]) -> Result<(), Complaint>
     requires { (4 * (1 + length sheet.old) ≤ length bytes.now) × (length sheet.old ≡ stated_length bytes.now) × (length sheet.old ≤ sheet_words) }
-    ensures { result ≡ checked_message bytes.now }
+    ensures { said result ≡ checked_message bytes.now }
 {
     octets::read_words(bytes, 1, sheet);
-    let number = checker::verdict_number(sheet);
-    if number != 0 {
-        return Message::Refused(number);
-    }
+    checker::verdict(sheet)?;
     let size = memory_size(sheet);
-    memory_message(bytes, 1 + sheet.len(), size)
+    check_memory(bytes, 1 + sheet.len(), size)
 }
 
-// The message of an input, as far as it is read before the load.
-pub fn input_message(bytes: &[u8]) -> Message
-    ensures { result ≡ input_message bytes.now }
+// What an input earns instead of a listing, as far as it is read before the load.
+// What passes is no struct that keeps the fact: each clause about the input's bytes, which most are, would read them through it.
+pub fn check_input(bytes: &[u8]) -> Result<(), Complaint>
+    ensures { said result ≡ input_message bytes.now }
 {
     if bytes.len() < 4 {
-        return Message::InputEnds;
+        return Err(Complaint::InputEnds);
     }
     let count = octets::word_in(bytes, 0);
     if count > sheet::SHEET_WORDS {
-        return Message::TooLarge;
+        return Err(Complaint::TooLarge);
     }
     let n = count as usize;
     if bytes.len() < 4 * (1 + n) {
-        return Message::InputEnds;
+        return Err(Complaint::InputEnds);
     }
     let mut sheet = [0u32; sheet::SHEET_WORDS as usize];
-    checked_message(bytes, &mut sheet[..n])
+    check_sheet(bytes, &mut sheet[..n])
 }
 
 // How many nodes a sheet has that keeps 1 to 11, as the callers' does.
@@ -114,7 +104,7 @@ pub fn nodes_of(sheet: &[u32]) -> u32
     requires { sheet_number sheet.now ≡ 0 }
     ensures { (result ≡ nodes (meant sheet.now)) × (result ≤ 16) }
 {
-    if sheet.len() == 0 {
+    if sheet.is_empty() {
         return 4;
     }
     sheet::nodes_of(sheet)

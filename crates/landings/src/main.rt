@@ -9,39 +9,34 @@ mod pages;
 ghost use Rattle.std.specs.Prelude.{◌≡◌, ◌+◌, ◌≤◌, length, drop, OnOk, OnErr};
 ghost use Rattle.std.specs.Io.KnownBytes.{Appends};
 ghost use Rattle.session.specs.Calls.{lend};
-ghost use Rattle.landings.specs.declared.input.Message.TheVariants.{Runs};
+ghost use Rattle.listing.specs.Complaints.{complaint_line};
 ghost use Rattle.landings.specs.Input.{stated_length, sheet_of};
-ghost use Rattle.landings.specs.Messages.{input_message};
-ghost use Rattle.landings.specs.Lines.{cycles_on, refused_line};
+ghost use Rattle.landings.specs.Messages.{Runs, input_message};
+ghost use Rattle.landings.specs.Lines.{cycles_on};
 ghost use Rattle.landings.specs.Output.{heading, before_cycles, printout, HasAt, Answered, BrokenOff};
 ghost use Rattle.streams.specs.Written.{GotPart};
 ghost use Rattle.landings.specs.Inner.Ended.{cycles_listed, at_end, Halted};
 ghost use Rattle.landings.specs.Inner.Pages.{ReadyToList, Lendable};
 
-use input::Message;
+use listing::Complaint;
 use output::write_part;
 use std::io;
 use std::io::{Read, Write};
 
-const LINE_END: u8 = 10;
-
-// Prints the line of a refusal, where the output has it.
-fn print_refused<W: Write>(
+// Prints the line of a complaint, where the output has it.
+fn print_complaint<W: Write>(
     writer: &mut W,
     bytes: &[u8],
     place: &mut usize,
-    number: u32,
+    complaint: Complaint,
 ) -> io::Result<()>
-    requires { HasAt (printout bytes.now) place.old (refused_line number) }
-    ensures place { OnOk result (place.new ≡ place.old + length (refused_line number)) }
-    ensures written { OnOk result (Appends (W.contents writer.old) (W.contents writer.new) (refused_line number)) }
-    ensures err { OnErr result (place.new ≤ length (printout bytes.now)) }
-    ensures stopped { OnErr result (GotPart (W.contents writer.old) (W.contents writer.new) (refused_line number)) }
+    requires { HasAt (printout bytes.now) place.old (complaint_line complaint) }
+    ensures place { place.new ≡ place.old + length (complaint_line complaint) }
+    ensures written { OnOk result (Appends (W.contents writer.old) (W.contents writer.new) (complaint_line complaint)) }
+    ensures err { OnErr result (GotPart (W.contents writer.old) (W.contents writer.new) (complaint_line complaint)) }
 {
-    write_part(writer, bytes, place, b"refused ")?;
-    let mut line = [0u8; 12];
-    let end = listing::put_field(&mut line, 0, number, LINE_END);
-    write_part(writer, bytes, place, &line[..end])
+    let mut room = [0u8; 20];
+    write_part(writer, bytes, place, complaint.line(&mut room))
 }
 
 // Runs the cycles and writes their lines, page by page, behind the heading, which `list` has written; a refusal ends them.
@@ -63,11 +58,12 @@ fn write_pages<W: Write>(
     ensures stopped { OnErr result (GotPart (W.contents writer.old) (W.contents writer.new) (drop (length heading) (printout bytes.now))) }
 {
     let mut time: u32 = 0;
+    // A page has as many cycles as fit, so no range counts them.
     while time < last {
         let page = pages::fill(s, m, nodes, time, last, buffer);
         write_part(writer, bytes, place, &buffer[..page.place])?;
-        if page.refusal != 0 {
-            return print_refused(writer, bytes, place, page.refusal);
+        if let Err(refusal) = page.end {
+            return print_complaint(writer, bytes, place, Complaint::Refused(refusal));
         }
         time += page.cycles;
     }
@@ -112,9 +108,8 @@ fn run_session<W: Write>(
     ensures err { OnErr result (Halted bytes.now place.new (lend s.new m.new)) }
     ensures stopped { OnErr result (GotPart (W.contents writer.old) (W.contents writer.new) (printout bytes.now)) }
 {
-    let number = calls::prepare(bytes, sheet, s, m);
-    if number != 0 {
-        return print_refused(writer, bytes, place, number);
+    if let Err(refusal) = calls::prepare(bytes, sheet, s, m) {
+        return print_complaint(writer, bytes, place, Complaint::Refused(refusal));
     }
     let nodes = input::nodes_of(sheet);
     let last = input::cycles_in(bytes, 1 + sheet.len() + m.len());
@@ -163,11 +158,9 @@ fn answer<W: Write>(writer: &mut W, bytes: &[u8], place: &mut usize) -> io::Resu
     ensures err { OnErr result (place.new ≤ length (printout bytes.now)) }
     ensures stopped { OnErr result (GotPart (W.contents writer.old) (W.contents writer.new) (printout bytes.now)) }
 {
-    match input::input_message(bytes) {
-        Message::TooLarge => write_part(writer, bytes, place, b"too large\n"),
-        Message::InputEnds => write_part(writer, bytes, place, b"input ends\n"),
-        Message::Refused(n) => print_refused(writer, bytes, place, n),
-        Message::Runs => run_input(writer, bytes, place),
+    match input::check_input(bytes) {
+        Ok(()) => run_input(writer, bytes, place),
+        Err(complaint) => print_complaint(writer, bytes, place, complaint),
     }
 }
 

@@ -8,7 +8,8 @@ use std::io;
 use std::io::Write;
 
 // Writes the part of the input's output that stands at the place reached, and moves the place behind it: its callers hand over the output
-// part by part, from 0 to its end. Where a write fails, they end with its error, so that nothing is written behind a gap.
+// part by part, from 0 to its end. Where a write fails, they end with its error, so that nothing is written behind a gap. Writer, input and
+// place are no struct: each contract would have to say besides that the input stays the same.
 pub fn write_part<W: Write>(
     writer: &mut W,
     bytes: &[u8],

@@ -1,5 +1,6 @@
 // The listing, page by page: cycles are run, and their lines put into a buffer, until it could overflow.
 ghost use Rattle.std.specs.Prelude.{◌≡◌, ◌+◌, ◌*◌, ◌<◌, ◌≤◌, length, take};
+ghost use Rattle.refusal.specs.Numbers.{number_of};
 ghost use Rattle.words.specs.Inner.Puts.{put_all};
 ghost use Rattle.sheet.specs.Sheet.{nodes as node_count};
 ghost use Rattle.occupancy.specs.Inner.Occupancy.{bit_at};
@@ -12,17 +13,17 @@ ghost use Rattle.landings.specs.Lines.{line_for, cycle_lines, cycles_lines, cycl
 ghost use Rattle.landings.specs.Inner.Pages.{Paged};
 
 use network::Live;
-use session::Landed;
+use refusal::Refusal;
 
 // Room for a cycle's lines, 16 of at most 60 bytes, and some more.
 const CYCLE_BYTES: usize = 1024;
 
-// How far a page's lines reach in the buffer, how many cycles they are of, and the number of the cycle that was refused behind them, or 0.
+// How far a page's lines reach in the buffer, how many cycles they are of, and why the cycle behind them was refused, if it was.
 #[derive(Clone, Copy)]
 pub struct Page {
     pub place: usize,
     pub cycles: u32,
-    pub refusal: u32,
+    pub end: Result<(), Refusal>,
 }
 
 // Puts a node's line for a cycle, where something landed; put_cycle has seen that it fits.
@@ -32,13 +33,16 @@ fn put_landing(s: &[u32], node: u32, time: u32, buffer: &mut [u8], at: usize) ->
     ensures bytes { buffer.new ≡ put_all buffer.old at (line_for time node (last_landing s.now node)) }
 {
     match session::landing_at(s, node) {
-        Landed::Nothing => at,
-        Landed::Word {
-            kind,
-            address,
-            word,
-        } => listing::put_line(buffer, at, time, node, address, word, kind),
-        Landed::Refused(_) => at,
+        None => at,
+        Some(landed) => listing::put_line(
+            buffer,
+            at,
+            time,
+            node,
+            landed.address,
+            landed.word,
+            landed.kind,
+        ),
     }
 }
 
@@ -49,10 +53,8 @@ fn put_cycle(s: &[u32], nodes: u32, landed: u64, time: u32, buffer: &mut [u8], a
     ensures bytes { buffer.new ≡ put_all buffer.old at (cycle_lines nodes time s.now) }
 {
     let mut place = at;
-    let mut node = occupancy::next_taken(landed, 0);
-    while node < nodes {
+    for node in occupancy::places(landed, nodes) {
         place = put_landing(s, node, time, buffer, place);
-        node = occupancy::next_taken(landed, node + 1);
     }
     place
 }
@@ -80,7 +82,7 @@ pub fn fill(
     buffer: &mut [u8],
 ) -> Page
     requires { (memory_number s.old m.old ≡ 0) × (nodes ≤ 16) × (first ≤ last) × (length buffer.old ≡ 65536) × (nodes ≡ node_count (sheet_in s.old)) }
-    ensures cycles { Paged first last (lend s.old m.old) result.cycles result.refusal }
+    ensures cycles { Paged first last (lend s.old m.old) result.cycles (number_of result.end) }
     ensures words { lend s.new m.new ≡ cycles_on result.cycles (lend s.old m.old) }
     ensures lines { take result.place buffer.new ≡ cycles_lines nodes first result.cycles (lend s.old m.old) }
     ensures buffer { buffer.new ≡ put_all buffer.old 0 (cycles_lines nodes first result.cycles (lend s.old m.old)) }
@@ -90,12 +92,13 @@ pub fn fill(
     let mut at = 0;
     let mut time = first;
     let mut live = session::live_now(s);
+    // A turn crosses as many cycles as it can, so no range counts them.
     while time < last {
         if buffer.len() < at + CYCLE_BYTES {
             return Page {
                 place: at,
                 cycles: time - first,
-                refusal: 0,
+                end: Ok(()),
             };
         }
         let crossed = cross(s, live, last - time);
@@ -103,23 +106,22 @@ pub fn fill(
             time += crossed;
             continue;
         }
-        let stepped = session::cycle_live(s, m, live);
-        let refused = stepped.number != 0;
-        if refused {
-            return Page {
-                place: at,
-                cycles: time - first,
-                refusal: stepped.number,
-            };
-        }
-        let next = stepped.live;
-        live = next;
-        at = put_cycle(s, nodes, next.landed, time, buffer, at);
+        live = match session::cycle_live(s, m, live) {
+            Ok(next) => next,
+            Err(refusal) => {
+                return Page {
+                    place: at,
+                    cycles: time - first,
+                    end: Err(refusal),
+                };
+            }
+        };
+        at = put_cycle(s, nodes, live.landed, time, buffer, at);
         time += 1;
     }
     Page {
         place: at,
         cycles: time - first,
-        refusal: 0,
+        end: Ok(()),
     }
 }

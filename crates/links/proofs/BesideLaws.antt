@@ -46,10 +46,3 @@ beside_more s between after a b f g = record {
       let both = union_free a b (k / 5) free in
       g.kept row k rl kl both.1 ∙ f.kept row k rl kl both.0;
 }
-
--- the four links of a node
-pub beside_four : (s s₁ s₂ s₃ s₄ : List ℕ) (north east south west : ℕ) → KeptBeside north s s₁ → KeptBeside east s₁ s₂ → KeptBeside south s₂ s₃
-    → KeptBeside west s₃ s₄ → KeptBeside (bit_or (bit_or (bit_or north east) south) west) s s₄
-beside_four s s₁ s₂ s₃ s₄ north east south west a b c d =
-    beside_more s s₃ s₄ (bit_or (bit_or north east) south) west
-    (beside_more s s₂ s₃ (bit_or north east) south (beside_more s s₁ s₂ north east a b) c) d

@@ -18,9 +18,9 @@ use Rattle.network.specs.Registers.{reg, put, sheet_in, moving_words, out_mark, 
 use Rattle.network.specs.Inner.Machine.{next_extra_mark, next_extra_word, row_in, next_rows, next_in_row}
 use Rattle.network.specs.Inner.Stages.{stage}
 use Rattle.network.proofs.ExtraLaws.{extra_long, extra_short}
-use Rattle.network.proofs.FillLaws.{Staged, stage_start, stage_more, staged_is, wrote_nothing, still, beside}
+use Rattle.network.proofs.FillLaws.{Staged, stage_more, staged_is, wrote_nothing, still, beside}
 use Rattle.links.specs.Inner.Linking.{extended}
-use Rattle.links.proofs.PairLaws.{pair_wrote, filled}
+use Rattle.links.proofs.PairLaws.{pair_wrote}
 
 -- an extra register is set, its mark and then its word
 pub extended_is : (s s₁ s₂ : List ℕ) (k mark w : ℕ) → mark ≡ reg s out_mark k → w ≡ reg s out_word k
@@ -82,19 +82,13 @@ module _ (s now : List ℕ) (n : ℕ) (small : n < row_words) (long : moving_wor
       (wrote_nothing extra_mark extra_word n (λ row. next_in_row s [] row n) now
       (λ row a b. stays s n none row a b ∙ sym (still extra_mark extra_word n (next_in_row s []) s now g row n (omega arith) small (omega arith))))
 
--- the loop over the nodes of a grid with long links: those before node are done
-pub record Extending (s : List ℕ) (nodes node : ℕ) (now : List ℕ) : Type 0 where
-  pub inside : node ≤ nodes
-  pub so_far : Staged extra_mark extra_word (node * 5) (next_in_row s []) s now
-
-pub extending_start : (s : List ℕ) (nodes : ℕ) → Extending s nodes 0 s
-extending_start s nodes = record { inside = omega arith; so_far = stage_start extra_mark extra_word (next_in_row s []) s }
-
+-- the loop over the nodes of a grid with long links
 module _ (s : List ℕ) (nodes : ℕ) (few : nodes ≤ 16) (long : moving_words ≤ length s) where
   -- the five outputs of one node
-  pub extending_more : is_long (sheet_in s) ≡ true → (node : ℕ) (now s₁ s₂ : List ℕ) → node < nodes → Extending s nodes node now
-      → s₁ ≡ extended now (node * 5) → s₂ ≡ extended s₁ (node * 5 + 2) → Extending s nodes (node + 1) s₂
-  extending_more kind node now s₁ s₂ l g a b = record { inside = omega arith; so_far = subst at_place five g₅ }
+  pub extending_more : is_long (sheet_in s) ≡ true → (node : ℕ) (now s₁ s₂ : List ℕ) → node < nodes
+      → Staged extra_mark extra_word (node * 5) (next_in_row s []) s now → s₁ ≡ extended now (node * 5) → s₂ ≡ extended s₁ (node * 5 + 2)
+      → Staged extra_mark extra_word ((node + 1) * 5) (next_in_row s []) s s₂
+  extending_more kind node now s₁ s₂ l g a b = subst at_place five g₅
     where
       at_place : ℕ → Type 0
       at_place n = Staged extra_mark extra_word n (next_in_row s []) s s₂
@@ -109,7 +103,7 @@ module _ (s : List ℕ) (nodes : ℕ) (few : nodes ≤ 16) (long : moving_words 
       level output = vertical_none output
 
       g₁ : Staged extra_mark extra_word (node * 5 + 1) (next_in_row s []) s s₁
-      g₁ = set_more s now (node * 5) (omega arith) long g.so_far s₁
+      g₁ = set_more s now (node * 5) (omega arith) long g s₁
           (by_kind (node * 5) 0 true (omega arith) (vertical_north 0 refl)) a
 
       g₂ : Staged extra_mark extra_word (node * 5 + 1 + 1) (next_in_row s []) s s₁
@@ -128,10 +122,6 @@ module _ (s : List ℕ) (nodes : ℕ) (few : nodes ≤ 16) (long : moving_words 
       g₅ : Staged extra_mark extra_word (node * 5 + 1 + 1 + 1 + 1 + 1) (next_in_row s []) s s₂
       g₅ = pass_more s s₂ (node * 5 + 1 + 1 + 1 + 1) (omega arith) long g₄
           (by_kind (node * 5 + 1 + 1 + 1 + 1) 4 false (omega arith) (level 4 (λ q. omega arith) (λ q. omega arith)))
-
-  pub extending_done : (node : ℕ) (now : List ℕ) → Extending s nodes node now → nodes ≤ node
-      → now ≡ stage extra_mark extra_word (nodes * 5) (next_in_row s []) s
-  extending_done node now g l = filled extra_mark extra_word (nodes * 5) (node * 5) (next_in_row s []) s now long g.so_far (omega (arith, g.inside)) (omega arith)
 
   -- without long links every place stays
   pub none_extended : is_long (sheet_in s) ≡ false → s ≡ stage extra_mark extra_word (nodes * 5) (next_in_row s []) s

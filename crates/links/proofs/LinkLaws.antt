@@ -1,17 +1,19 @@
 -- The link registers: emptied, then filled side by side with what comes out of the links; those of the source inputs stay empty here.
 -- Assumes nothing.
-use Prim.Native.Nat.{ℕ, ◌+◌, ◌*◌, ◌/◌, ◌%◌, ◌<◌, ◌≤◌}
+use Prim.Native.Nat.{ℕ, zero, suc, ◌+◌, ◌*◌, ◌/◌, ◌%◌, ◌<◌, ◌≤◌}
 use mathlib.Core.Bool.{Bool, true, false}
 use mathlib.Core.List.{List, []}
 use mathlib.Core.Path.{◌≡◌, refl, sym, subst, ◌∙◌, ap, ap₂}
 use native.Mathlib.Omega.{arith}
+use native.Mathlib.Numerals.{add-one}
 use native.Mathlib.Decide.{ℕ_discrete, dec_lt}
 use lib.Bits.{bit_or}
 use lib.ListN.{length}
 use Rattle.words.specs.Tests.{◌=?◌, ◌<?◌}
 use Rattle.words.specs.Words.{word, pick}
 use Rattle.words.proofs.TestLaws.{is=, yes=, no=, yes<, no<}
-use Rattle.torus.specs.Torus.{neighbour_of, opposite_of}
+use Rattle.torus.specs.Torus.{neighbour_of, opposite_of, is_vertical}
+use Rattle.torus.proofs.RouteLaws.{vertical_north, vertical_south, vertical_none}
 use Rattle.torus.specs.Inner.Grid.{InGrid}
 use Rattle.torus.proofs.NeighbourLaws.{neighbour_inside, opposite_back, neighbour_back}
 use Rattle.sheet.specs.Sheet.{columns, rows, nodes}
@@ -22,8 +24,9 @@ use Rattle.network.specs.View.{source_input}
 use Rattle.network.specs.Inner.Machine.{end_mark, end_word, neighbour_place}
 use Rattle.network.specs.Inner.Stages.{stage, link_from}
 use Rattle.network.proofs.ExtraLaws.{end_low, end_high, end_behind}
+use Rattle.network.proofs.ChoiceLaws.{same_pick}
 use Rattle.network.proofs.FillLaws.{Wrote, wrote_nothing, Staged, stage_more, beside, off, stage_length, stage_sheet}
-use Rattle.links.specs.Inner.Linking.{linked, place_by, pushed_by, NoneAt, SidesEmpty, pushed_all}
+use Rattle.links.specs.Inner.Linking.{linked, place_by, pushed_by, NoneAt, SidesEmpty, side_row, pushed_sides}
 use Rattle.links.proofs.PairLaws.{pair_wrote}
 use Rattle.links.proofs.PairLaws.{or_left, or_right}
 
@@ -32,58 +35,67 @@ pub link_is : (s s₁ s₂ : List ℕ) (k mark w : ℕ) → s₁ ≡ put s link_
 unfolding linked
 link_is s s₁ s₂ k mark w p q = q ∙ ap (λ x. put x link_word k w) p
 
--- a link's mark and word, by the places in the words at which they were read
-none_at : (s : List ℕ) (row k i j : ℕ) → i ≡ row * row_words + k → j ≡ (row + 1) * row_words + k → word s i ≡ 0 → word s j ≡ 0 → NoneAt s row k
-unfolding reg
-none_at s row k i j a b m w = record { no_mark = sym (ap (word s) a) ∙ m; no_word = sym (ap (word s) b) ∙ w }
+-- the row of a side's marks, by whether the side is a vertical one
+module _ (vertical side : ℕ) where
+  pub row_vertical : is_vertical side ≡ true → vertical ≡ side_row vertical side
+  unfolding side_row
+  row_vertical e = sym (ap (λ (t : Bool). pick t vertical out_mark) e)
 
--- what was joined of a node's four links is 0
-pub joined_empty : (s : List ℕ) (node vertical : ℕ)
-    → bit_or
-    (bit_or
-    (bit_or
-    (bit_or
-    (bit_or
-    (bit_or
-    (bit_or (word s (vertical * row_words + node * 5)) (word s (vertical * row_words + node * 5 + row_words)))
-    (word s (out_mark * row_words + node * 5 + 1)))
-    (word s (out_word * row_words + node * 5 + 1)))
-    (word s (vertical * row_words + node * 5 + 2)))
-    (word s (vertical * row_words + node * 5 + row_words + 2)))
-    (word s (out_mark * row_words + node * 5 + 3)))
-    (word s (out_word * row_words + node * 5 + 3))
-    ≡ 0
-    → SidesEmpty s node vertical
-joined_empty s node vertical e₈ =
-    let m : ℕ = vertical * row_words + node * 5 in
-    let l : ℕ = out_mark * row_words + node * 5 in
-    let w : ℕ = out_word * row_words + node * 5 in
-    let o₂ : ℕ = bit_or (word s m) (word s (m + row_words)) in
-    let o₃ : ℕ = bit_or o₂ (word s (l + 1)) in
-    let o₄ : ℕ = bit_or o₃ (word s (w + 1)) in
-    let o₅ : ℕ = bit_or o₄ (word s (m + 2)) in
-    let o₆ : ℕ = bit_or o₅ (word s (m + row_words + 2)) in
-    let o₇ : ℕ = bit_or o₆ (word s (l + 3)) in
-    let e₇ = or_left o₇ (word s (w + 3)) e₈ in
-    let e₆ = or_left o₆ (word s (l + 3)) e₇ in
-    let e₅ = or_left o₅ (word s (m + row_words + 2)) e₆ in
-    let e₄ = or_left o₄ (word s (m + 2)) e₅ in
-    let e₃ = or_left o₃ (word s (w + 1)) e₄ in
-    let e₂ = or_left o₂ (word s (l + 1)) e₃ in
-    record {
-      north =
-          none_at s vertical (at node 0) m (m + row_words) (omega arith) (omega arith) (or_left (word s m) (word s (m + row_words)) e₂)
-          (or_right (word s m) (word s (m + row_words)) e₂);
-      east =
-          none_at s out_mark (at node 1) (l + 1) (w + 1) (omega arith) (omega arith) (or_right o₂ (word s (l + 1)) e₃)
-          (or_right o₃ (word s (w + 1)) e₄);
-      south =
-          none_at s vertical (at node 2) (m + 2) (m + row_words + 2) (omega arith) (omega arith) (or_right o₄ (word s (m + 2)) e₅)
-          (or_right o₅ (word s (m + row_words + 2)) e₆);
-      west =
-          none_at s out_mark (at node 3) (l + 3) (w + 3) (omega arith) (omega arith) (or_right o₆ (word s (l + 3)) e₇)
-          (or_right o₇ (word s (w + 3)) e₈);
+  pub row_level : is_vertical side ≡ false → out_mark ≡ side_row vertical side
+  unfolding side_row
+  row_level e = sym (ap (λ (t : Bool). pick t vertical out_mark) e)
+
+  pub row_small : vertical ≤ extra_mark → side_row vertical side ≤ extra_mark
+  row_small l = go (is_vertical side) refl
+    where
+      go : (b : Bool) → is_vertical side ≡ b → side_row vertical side ≤ extra_mark
+      go true e = omega (arith, row_vertical e)
+      go false e = omega (arith, row_level e)
+
+-- nothing comes out of the sides before one
+abbrev pub NoneTo : List ℕ → ℕ → ℕ → ℕ → Type 0
+NoneTo s node vertical end = (side : ℕ) → side < end → NoneAt s (side_row vertical side) (at node side)
+
+-- a side's mark and word, joined to those of the sides before it, are 0
+pub none_more : (s : List ℕ) (node vertical side joined from : ℕ) → (joined ≡ 0 → NoneTo s node vertical side)
+    → from ≡ side_row vertical side * row_words + (node * 5 + side) → bit_or joined (bit_or (word s from) (word s (from + row_words))) ≡ 0
+    → NoneTo s node vertical (side + 1)
+unfolding reg
+none_more s node vertical side joined from before f e other l = go (ℕ_discrete other side)
+  where
+    both : bit_or (word s from) (word s (from + row_words)) ≡ 0
+    both = or_right joined _ e
+
+    behind : from + row_words ≡ (side_row vertical side + 1) * row_words + (node * 5 + side)
+    behind = omega arith
+
+    here : NoneAt s (side_row vertical side) (at node side)
+    here = record {
+      no_mark = sym (ap (word s) f) ∙ or_left (word s from) (word s (from + row_words)) both;
+      no_word = sym (ap (word s) behind) ∙ or_right (word s from) (word s (from + row_words)) both;
     }
+
+    go : Dec (other ≡ side) → NoneAt s (side_row vertical other) (at node other)
+    go (yes q) = subst (λ (i : ℕ). NoneAt s (side_row vertical i) (at node i)) (sym q) here
+    go (no ne) = before (or_left joined _ e) other (omega (arith, ne))
+
+-- all four sides, by their names
+pub sides_named : (s : List ℕ) (node vertical end : ℕ) → 4 ≤ end → NoneTo s node vertical end → SidesEmpty s node vertical
+sides_named s node vertical end all none = record {
+  north = subst (λ (row : ℕ). NoneAt s row (at node 0)) (sym (row_vertical vertical 0 (vertical_north 0 refl))) (none 0 (omega arith));
+  east = subst (λ (row : ℕ). NoneAt s row (at node 1)) (sym (row_level vertical 1 (vertical_none 1 (λ q. omega arith) (λ q. omega arith)))) (none 1 (omega arith));
+  south = subst (λ (row : ℕ). NoneAt s row (at node 2)) (sym (row_vertical vertical 2 (vertical_south 2 refl))) (none 2 (omega arith));
+  west = subst (λ (row : ℕ). NoneAt s row (at node 3)) (sym (row_level vertical 3 (vertical_none 3 (λ q. omega arith) (λ q. omega arith)))) (none 3 (omega arith));
+}
+
+sides_each : (s : List ℕ) (node vertical : ℕ) → SidesEmpty s node vertical → NoneTo s node vertical 4
+sides_each s node vertical g zero l = subst (λ (row : ℕ). NoneAt s row (at node 0)) (row_vertical vertical 0 (vertical_north 0 refl)) g.north
+sides_each s node vertical g (suc zero) l =
+    subst (λ (row : ℕ). NoneAt s row (at node 1)) (row_level vertical 1 (vertical_none 1 (λ q. omega arith) (λ q. omega arith))) g.east
+sides_each s node vertical g (suc (suc zero)) l = subst (λ (row : ℕ). NoneAt s row (at node 2)) (row_vertical vertical 2 (vertical_south 2 refl)) g.south
+sides_each s node vertical g (suc (suc (suc zero))) l =
+    subst (λ (row : ℕ). NoneAt s row (at node 3)) (row_level vertical 3 (vertical_none 3 (λ q. omega arith) (λ q. omega arith))) g.west
+sides_each s node vertical g (suc (suc (suc (suc side)))) l = absurd (omega arith)
 
 -- what comes out of one link
 module _ (s : List ℕ) (cols count node side row : ℕ) where
@@ -105,14 +117,26 @@ module _ (s : List ℕ) (cols count node side row : ℕ) where
   push_idle g = push_none 0 0 (sym g.no_mark) (sym g.no_word) refl
 
 -- nothing comes out of a node's links
-pub pushed_none : (s : List ℕ) (cols count node vertical : ℕ) → SidesEmpty s node vertical → s ≡ pushed_all s cols count node vertical
-pushed_none s cols count node vertical g =
-    push_idle s cols count node 3 out_mark g.west
-    ∙ ap (λ x. pushed_by x cols count node 3 out_mark)
-    (push_idle s cols count node 2 vertical g.south
-    ∙ ap (λ x. pushed_by x cols count node 2 vertical)
-    (push_idle s cols count node 1 out_mark g.east
-    ∙ ap (λ x. pushed_by x cols count node 1 out_mark) (push_idle s cols count node 0 vertical g.north)))
+pub pushed_none : (s : List ℕ) (cols count node vertical : ℕ) → SidesEmpty s node vertical → s ≡ pushed_sides 4 s cols count node vertical
+unfolding pushed_sides
+pushed_none s cols count node vertical g = go 4 (omega arith)
+  where
+    go : (n : ℕ) → n ≤ 4 → s ≡ pushed_sides n s cols count node vertical
+    go zero l = refl
+    go (suc n) l =
+        push_idle s cols count node n (side_row vertical n) (sides_each s node vertical g n (omega arith))
+        ∙ ap (λ (x : List ℕ). pushed_by x cols count node n (side_row vertical n)) (go n (omega arith))
+
+-- one link more
+module _ (s : List ℕ) (cols count node vertical : ℕ) where
+  pub pushed_start : s ≡ pushed_sides 0 s cols count node vertical
+  unfolding pushed_sides
+  pushed_start = refl
+
+  pub pushed_on : (n row : ℕ) (now next : List ℕ) → now ≡ pushed_sides n s cols count node vertical → row ≡ side_row vertical n
+      → next ≡ pushed_by now cols count node n row → next ≡ pushed_sides (n + 1) s cols count node vertical
+  unfolding pushed_sides
+  pushed_on n row now next a b e = rw add-one (e ∙ ap₂ (λ (x : List ℕ) (r : ℕ). pushed_by x cols count node n r) a b)
 
 -- nothing comes out of them where the outputs and the extra registers are as they were
 none_kept : (s t : List ℕ) (row k : ℕ) → out_mark ≤ row → row ≤ extra_mark → k < row_words
@@ -131,23 +155,9 @@ sides_kept s t node vertical l a b same g = record {
   west = none_kept s t out_mark (at node 3) (omega arith) (omega arith) (omega arith) same g.west;
 }
 
--- what comes out of the four, one after the other
-pub pushed_all_is : (s s₁ s₂ s₃ s₄ : List ℕ) (cols count node vertical : ℕ) → s₁ ≡ pushed_by s cols count node 0 vertical
-    → s₂ ≡ pushed_by s₁ cols count node 1 out_mark → s₃ ≡ pushed_by s₂ cols count node 2 vertical
-    → s₄ ≡ pushed_by s₃ cols count node 3 out_mark → s₄ ≡ pushed_all s cols count node vertical
-pushed_all_is s s₁ s₂ s₃ s₄ cols count node vertical a b c d =
-    d
-    ∙ ap (λ x. pushed_by x cols count node 3 out_mark)
-    (c ∙ ap (λ x. pushed_by x cols count node 2 vertical) (b ∙ ap (λ x. pushed_by x cols count node 1 out_mark) a))
-
 -- the link registers as the sides alone fill them: on the source wires is nothing
 abbrev pub from_sides : List ℕ → ℕ → ℕ → ℕ
 from_sides s = link_from [] [] s
-
--- the same either way
-pub pick_same : (b : Bool) (v : ℕ) → pick b v v ≡ v
-pick_same true v = refl
-pick_same false v = refl
 
 -- what the definition has at a side's place and at a source's
 module _ (s : List ℕ) (n node : ℕ) where
@@ -194,7 +204,7 @@ module _ (s : List ℕ) (n node : ℕ) where
         yes= input
 
     pub source_none : (row : ℕ) → 0 ≡ from_sides s row n
-    source_none row = sym (pick_same (row =? link_mark) 0) ∙ by_tests row true (row =? link_mark) is_source_is refl
+    source_none row = sym (same_pick (row =? link_mark) 0) ∙ by_tests row true (row =? link_mark) is_source_is refl
 
 -- the place from which an input is filled: its neighbour's output, or, of a source, its own
 unfoldable pub origin : List ℕ → ℕ → ℕ

@@ -1,6 +1,6 @@
 -- The loop over the nodes whose links have something, and the whole stage: the link registers are emptied before it, and the sources come behind it.
 -- Assumes nothing.
-use Prim.Native.Nat.{ℕ, zero, suc, ◌+◌, ◌-◌, ◌*◌, ◌/◌, ◌%◌, ◌<◌, ◌≤◌, min}
+use Prim.Native.Nat.{ℕ, zero, suc, ◌+◌, ◌-◌, ◌*◌, ◌/◌, ◌%◌, ◌<◌, ◌≤◌}
 use mathlib.Core.Bool.{Bool, true, false}
 use mathlib.Core.List.{List}
 use mathlib.Core.Path.{◌≡◌, refl, sym, subst, ◌∙◌, ap, ap₂}
@@ -11,10 +11,12 @@ use Rattle.words.specs.Tests.{◌=?◌}
 use Rattle.words.specs.Words.{word, pick}
 use Rattle.words.proofs.TestLaws.{yes<, no<}
 use Rattle.occupancy.specs.Inner.Occupancy.{bit_at, NextTaken}
+use Rattle.occupancy.specs.declared.TakenPlaces.{TakenPlaces}
 use Rattle.occupancy.proofs.MaskLaws.{union_free}
-use Rattle.torus.specs.Torus.{opposite_of}
+use Rattle.occupancy.proofs.WalkLaws.{On, Begun, Gave, Ended, still_on, next_place, none_left}
+use Rattle.torus.specs.Torus.{opposite_of, is_vertical}
 use Rattle.torus.specs.Inner.Grid.{InGrid}
-use Rattle.torus.proofs.RouteLaws.{vertical_north, vertical_south, vertical_none}
+use Rattle.torus.proofs.RouteLaws.{vertical_north}
 use Rattle.sheet.specs.Sheet.{columns, rows, is_long, nodes}
 use Rattle.sheet.specs.Inner.Passed.{Headed}
 use Rattle.network.specs.Registers.{reg, sheet_in, moving_words, link_mark, link_word, out_mark, extra_mark, at}
@@ -23,9 +25,10 @@ use Rattle.network.specs.Inner.Machine.{end_mark, end_word, neighbour_place}
 use Rattle.network.specs.Inner.Live.{EmptyBeside}
 use Rattle.network.specs.Inner.Stages.{stage, link_from}
 use Rattle.network.proofs.ExtraLaws.{end_low, end_high, end_vertical, end_level}
+use Rattle.network.proofs.ChoiceLaws.{same_pick}
 use Rattle.network.proofs.FillLaws.{Staged, beside, here, off, stage_length, stage_rest, stage_sheet, staged_is}
-use Rattle.links.specs.Inner.Linking.{pushed_by, SidesEmpty, pushed_all, KeptBeside, sourced, SourcesBeside}
-use Rattle.links.proofs.LinkLaws.{pick_same, from_sides, source_none, origin, pushed_to, in_grid, origin_inside, sides_kept, pushed_none}
+use Rattle.links.specs.Inner.Linking.{SidesEmpty, side_row, pushed_sides, KeptBeside, sourced, SourcesBeside}
+use Rattle.links.proofs.LinkLaws.{from_sides, source_none, origin, pushed_to, in_grid, origin_inside, sides_kept, pushed_none, row_vertical, row_level}
 use Rattle.links.proofs.LinkLaws.{cleared_sheet, cleared_length, cleared_link, side_more, source_more}
 use Rattle.links.proofs.BesideLaws.{beside_none, beside_more}
 use Rattle.links.proofs.SourceLaws.{sourced_here, stays_beside}
@@ -52,12 +55,13 @@ wired_read s z e cols count all a b n vertical v h long = record {
   long = long;
 }
 
--- the loop over the nodes of a mask, beside which nothing comes out: what comes out of those before node is where it goes, and nothing is written
--- beside the mask of the nodes that it went to
-pub record Linking (s : List ℕ) (ends cols count all vertical live node : ℕ) (now : List ℕ) : Type 0 where
+-- the loop over the nodes of a mask, beside which nothing comes out: what comes out of those that the walk has left behind is where it goes, and
+-- nothing is written beside the mask of the nodes that it went to
+pub record Linking (s : List ℕ) (ends cols count all vertical live : ℕ) (walk : TakenPlaces) (now : List ℕ) : Type 0 where
+  pub on : On ends all walk
   pub wired : Wired s cols count all vertical
   pub idle : (other : ℕ) → other < all → bit_at ends other ≡ 0 → SidesEmpty s other vertical
-  pub so_far : Staged link_mark link_word (all * 5) (pushed_to s (min node all * 5)) s now
+  pub so_far : Staged link_mark link_word (all * 5) (pushed_to s (walk.from * 5)) s now
   pub beside_live : KeptBeside live s now
 
 -- the sources over what the sides have filled
@@ -86,31 +90,31 @@ module _ (s : List ℕ) (cols count all vertical : ℕ) (w : Wired s cols count 
   row_low : out_mark ≤ vertical
   row_low = omega (arith, end_vertical s 0 (vertical_north 0 refl) vertical w.own_vertical, end_low s 0)
 
+  -- a side's marks are where its link ends
+  row_end : (side : ℕ) → side_row vertical side ≡ end_mark s side
+  row_end side = go (is_vertical side) refl
+    where
+      go : (b : Bool) → is_vertical side ≡ b → side_row vertical side ≡ end_mark s side
+      go true e = sym (row_vertical vertical side e) ∙ end_vertical s side e vertical w.own_vertical
+      go false e = sym (row_level vertical side e) ∙ end_level s side e
+
+  -- so many sides of one node
+  sides_more : (node : ℕ) (now : List ℕ) → node < all → Staged link_mark link_word (all * 5) (pushed_to s (node * 5)) s now → (n : ℕ) → n ≤ 4
+      → Staged link_mark link_word (all * 5) (pushed_to s (node * 5 + n)) s (pushed_sides n now cols count node vertical)
+  unfolding pushed_sides
+  sides_more node now l g zero h =
+      let none : node * 5 ≡ node * 5 + 0 = omega arith in
+      subst (λ (i : ℕ). Staged link_mark link_word (all * 5) (pushed_to s i) s now) none g
+  sides_more node now l g (suc n) h =
+      side_more s (pushed_sides n now cols count node vertical) _ all (node * 5 + n) (node * 5 + suc n) w.head w.own_nodes w.few (omega arith) (omega arith)
+      w.long (sides_more node now l g n (omega arith)) cols count node n refl (omega arith) w.own_cols w.own_rows (side_row vertical n) (row_end n) refl
+
   -- the five places of one node, of which the source's stays empty
-  pushed_more : (node : ℕ) (now s₄ : List ℕ) → node < all → Staged link_mark link_word (all * 5) (pushed_to s (node * 5)) s now
-      → s₄ ≡ pushed_all now cols count node vertical → Staged link_mark link_word (all * 5) (pushed_to s ((node + 1) * 5)) s s₄
-  pushed_more node now s₄ l g d =
-      let s₁ : List ℕ = pushed_by now cols count node 0 vertical in
-      let s₂ : List ℕ = pushed_by s₁ cols count node 1 out_mark in
-      let s₃ : List ℕ = pushed_by s₂ cols count node 2 vertical in
-      let g₁ : Staged link_mark link_word (all * 5) (pushed_to s (node * 5 + 1)) s s₁ =
-      side_more s now s₁ all (node * 5) (node * 5 + 1) w.head w.own_nodes w.few (omega arith) refl w.long g
-      cols count node 0 (omega arith) (omega arith) w.own_cols w.own_rows vertical
-      (end_vertical s 0 (vertical_north 0 refl) vertical w.own_vertical) refl in
-      let g₂ : Staged link_mark link_word (all * 5) (pushed_to s (node * 5 + 2)) s s₂ =
-      side_more s s₁ s₂ all (node * 5 + 1) (node * 5 + 2) w.head w.own_nodes w.few (omega arith) (omega arith) w.long g₁
-      cols count node 1 refl (omega arith) w.own_cols w.own_rows out_mark
-      (end_level s 1 (vertical_none 1 (λ q. omega arith) (λ q. omega arith))) refl in
-      let g₃ : Staged link_mark link_word (all * 5) (pushed_to s (node * 5 + 3)) s s₃ =
-      side_more s s₂ s₃ all (node * 5 + 2) (node * 5 + 3) w.head w.own_nodes w.few (omega arith) (omega arith) w.long g₂
-      cols count node 2 refl (omega arith) w.own_cols w.own_rows vertical
-      (end_vertical s 2 (vertical_south 2 refl) vertical w.own_vertical) refl in
-      let g₄ : Staged link_mark link_word (all * 5) (pushed_to s (node * 5 + 4)) s s₄ =
-      side_more s s₃ s₄ all (node * 5 + 3) (node * 5 + 4) w.head w.own_nodes w.few (omega arith) (omega arith) w.long g₃
-      cols count node 3 refl (omega arith) w.own_cols w.own_rows out_mark
-      (end_level s 3 (vertical_none 3 (λ q. omega arith) (λ q. omega arith))) d in
-      source_more s s₄ s₄ all (node * 5 + 4) ((node + 1) * 5) w.head w.own_nodes w.few (omega arith) (omega arith) w.long g₄ node
-      refl refl
+  pushed_more : (node : ℕ) (now next : List ℕ) → node < all → Staged link_mark link_word (all * 5) (pushed_to s (node * 5)) s now
+      → next ≡ pushed_sides 4 now cols count node vertical → Staged link_mark link_word (all * 5) (pushed_to s ((node + 1) * 5)) s next
+  pushed_more node now next l g d =
+      source_more s next next all (node * 5 + 4) ((node + 1) * 5) w.head w.own_nodes w.few (omega arith) (omega arith) w.long
+      (subst (Staged link_mark link_word (all * 5) (pushed_to s (node * 5 + 4)) s) (sym d) (sides_more node now l g 4 (omega arith))) node refl refl
 
   -- a node of whose links nothing comes out is passed over
   passed_one : (node : ℕ) (now : List ℕ) → node < all → SidesEmpty s node vertical → Staged link_mark link_word (all * 5) (pushed_to s (node * 5)) s now
@@ -136,14 +140,13 @@ module _ (s : List ℕ) (cols count all vertical : ℕ) (w : Wired s cols count 
 
   -- from a node to the next of a mask beside which nothing comes out
   module _ (ends : ℕ) (idle : (node : ℕ) → node < all → bit_at ends node ≡ 0 → SidesEmpty s node vertical) where
-    passed_to : (node next : ℕ) (now : List ℕ) → node ≤ all → NextTaken ends node next
+    passed_to : (node next : ℕ) (now : List ℕ) → next ≤ all → NextTaken ends node next
         → Staged link_mark link_word (all * 5) (pushed_to s (node * 5)) s now
-        → Staged link_mark link_word (all * 5) (pushed_to s (min next all * 5)) s now
+        → Staged link_mark link_word (all * 5) (pushed_to s (next * 5)) s now
     passed_to node next now l t g =
-        let onward : node ≤ min next all = omega (arith, t.onward) in
-        let there : node + (min next all - node) ≡ min next all = omega arith in
+        let there : node + (next - node) ≡ next = omega (arith, t.onward) in
         subst (λ (n : ℕ). Staged link_mark link_word (all * 5) (pushed_to s (n * 5)) s now) there
-        (passed_on (min next all - node) node now (omega arith) (λ k a b. idle k (omega arith) (t.passed k a (omega arith))) g)
+        (passed_on (next - node) node now (omega arith) (λ k a b. idle k (omega arith) (t.passed k a (omega arith))) g)
 
 -- the registers are emptied: what was read, and what comes out, is as it was
 module _ (before s : List ℕ) (cols count all vertical : ℕ) (w : Wired before cols count all vertical)
@@ -183,53 +186,58 @@ module _ (before s : List ℕ) (cols count all vertical : ℕ) (w : Wired before
 
   pub linking_start : (ends : ℕ)
       → ((node : ℕ) → node < nodes (sheet_in before) → bit_at ends node ≡ 0 → SidesEmpty before node (pick (is_long (sheet_in before)) extra_mark out_mark))
-      → (next : ℕ) → NextTaken ends 0 next → Linking s ends cols count all vertical 0 next s
-  linking_start ends idle next t =
-      let quiet : (node : ℕ) → node < all → bit_at ends node ≡ 0 → SidesEmpty s node vertical = λ node l free.
-      idle_cleared node l (idle node (omega (arith, w.own_nodes)) free) in
-      record {
-        wired = wired_cleared;
-        idle = quiet;
-        so_far = passed_to s cols count all vertical wired_cleared ends quiet 0 next s (omega arith) t none_yet;
-        beside_live = beside_none s 0;
-      }
+      → (walk : TakenPlaces) → Begun ends all walk → Linking s ends cols count all vertical 0 walk s
+  linking_start ends idle walk b = record {
+    on = b.on;
+    wired = wired_cleared;
+    idle = λ node l free. idle_cleared node l (idle node (omega (arith, w.own_nodes)) free);
+    so_far = subst (λ (n : ℕ). Staged link_mark link_word (all * 5) (pushed_to s (n * 5)) s s) (sym b.at_start) none_yet;
+    beside_live = beside_none s 0;
+  }
 
-module _ (s : List ℕ) (ends cols count all vertical live node : ℕ) (now : List ℕ) (g : Linking s ends cols count all vertical live node now) where
+module _ (s : List ℕ) (ends cols count all vertical live : ℕ) (walk : TakenPlaces) (now : List ℕ)
+    (g : Linking s ends cols count all vertical live walk now) where
   -- one turn
   pub linking_row : vertical ≤ extra_mark
   linking_row = row_high s cols count all vertical g.wired
 
-  pub linking_grid : node < all → InGrid cols count node
-  linking_grid l =
+  pub linking_grid : (node : ℕ) (after : TakenPlaces) → Gave walk node after → InGrid cols count node
+  linking_grid node after t =
       let w = g.wired in
+      let l = (next_place ends all walk g.on after node t).below in
       let grid = in_grid s w.head node (omega (arith, w.own_nodes)) in
       subst (λ c. InGrid c count node) (sym w.own_cols) (subst (λ r. InGrid (columns (sheet_in s)) r node) (sym w.own_rows) grid)
 
   pub linking_long : moving_words ≤ length now
   linking_long = omega (arith, g.wired.long, g.so_far.same_length)
 
-  pub linking_more : node < all → (added next : ℕ) (after : List ℕ) → after ≡ pushed_all now cols count node vertical → KeptBeside added now after
-      → NextTaken ends (node + 1) next → Linking s ends cols count all vertical (bit_or live added) next after
-  linking_more l added next after e kept t =
-      let here-now : min node all ≡ node = omega arith in
+  pub linking_more : (node : ℕ) (after : TakenPlaces) → Gave walk node after → (added : ℕ) (next : List ℕ) → next ≡ pushed_sides 4 now cols count node vertical
+      → KeptBeside added now next → Linking s ends cols count all vertical (bit_or live added) after next
+  linking_more node after t added next e kept =
+      let q = next_place ends all walk g.on after node t in
+      let here-now = passed_to s cols count all vertical g.wired ends g.idle walk.from node now (omega (arith, q.below)) q.next g.so_far in
       record {
+        on = still_on ends all walk g.on after node t;
         wired = g.wired;
         idle = g.idle;
         so_far =
-            passed_to s cols count all vertical g.wired ends g.idle (node + 1) next after (omega arith) t
-            (pushed_more s cols count all vertical g.wired node now after l
-            (subst (λ (n : ℕ). Staged link_mark link_word (all * 5) (pushed_to s (n * 5)) s now) here-now g.so_far) e);
-        beside_live = beside_more s now after live added g.beside_live kept;
+            subst (λ (n : ℕ). Staged link_mark link_word (all * 5) (pushed_to s (n * 5)) s next) (sym q.onward)
+            (pushed_more s cols count all vertical g.wired node now next q.below here-now e);
+        beside_live = beside_more s now next live added g.beside_live kept;
       }
 
   -- all nodes are done
-  module _ (end : all ≤ node) where
+  module _ (over : TakenPlaces) (end : Ended walk over) where
+    all_pushed : Staged link_mark link_word (all * 5) (pushed_to s (all * 5)) s now
+    all_pushed =
+        passed_to s cols count all vertical g.wired ends g.idle walk.from all now (omega arith) (none_left ends all walk g.on over end) g.so_far
+
     sides_done : (row k : ℕ) → link_mark ≤ row → row ≤ link_word → k < all * 5 → reg now row k ≡ from_sides s row k
     sides_done row k a b l =
         let w = g.wired in
         let inside : k < nodes (sheet_in s) * 5 = omega (arith, w.own_nodes) in
-        let gone : origin s k < min node all * 5 = omega (arith, w.own_nodes, origin_inside s w.head k inside) in
-        g.so_far.done row k a b l ∙ ap (λ (t : Bool). pick t (from_sides s row k) 0) (yes< gone)
+        let gone : origin s k < all * 5 = omega (arith, w.own_nodes, origin_inside s w.head k inside) in
+        all_pushed.done row k a b l ∙ ap (λ (t : Bool). pick t (from_sides s row k) 0) (yes< gone)
 
     module _ (before : List ℕ) (c : s ≡ stage link_mark link_word (all * 5) (λ row k. 0) before) (wide : moving_words ≤ length before) where
       before_nodes : all ≡ nodes (sheet_in before)
@@ -244,7 +252,7 @@ module _ (s : List ℕ) (ends cols count all vertical live node : ℕ) (now : Li
               let empty = none other (omega (arith, before_nodes)) free in
               sym (sourced_here marks cells now other row)
               ∙ ap₂ (pick (row =? link_mark)) empty.0 empty.1
-              ∙ pick_same (row =? link_mark) 0
+              ∙ same_pick (row =? link_mark) 0
               ∙ source_none s (at other source_input) other refl row
               ∙ sym (sides_done row (at other source_input) a b (omega arith));
         }

@@ -11,22 +11,12 @@ ghost use Rattle.network.specs.Registers.{sheet_in, moving_words, row_words, lin
 ghost use Rattle.network.specs.Inner.Machine.{next_in_row};
 ghost use Rattle.network.specs.Inner.Stages.{stage, link_from};
 ghost use Rattle.network.specs.Inner.Live.{EmptyBeside};
-ghost use Rattle.links.specs.Inner.Linking.{linked, pushed_by, KeptBeside, sourced, SourcesBeside, SidesEmpty, pushed_all, extended};
+ghost use Rattle.links.specs.Inner.Linking.{linked, pushed_by, KeptBeside, sourced, SourcesBeside, SidesEmpty, side_row, pushed_sides, extended};
 
-use network::{ROW_WORDS, put_reg, reg};
+use network::{LINK_MARKS, LINK_WORDS, MOST_NODES, ROW_WORDS, put_reg, reg};
 
-// The nodes of the largest grid. No sheet has more, and no state has fewer words than its rows; each loop below returns at once where that
+// No sheet has more nodes than the largest grid, and no state has fewer words than its rows; each loop below returns at once where that
 // were not so, so that a compiler can know every place to be in its row, and every row in the state, and leave out the test at each access.
-const MOST_NODES: u32 = 16;
-
-// Where the rows begin that are read or written by proved indices.
-const LINK_MARKS: usize = network::LINK_MARK as usize * ROW_WORDS;
-
-const LINK_WORDS: usize = network::LINK_WORD as usize * ROW_WORDS;
-
-const OUT_MARKS: usize = network::OUT_MARK as usize * ROW_WORDS;
-
-const OUT_WORDS: usize = network::OUT_WORD as usize * ROW_WORDS;
 
 // Puts a mark and a word into link register k.
 fn put_link(s: &mut [u32], k: u32, mark: u32, word: u32)
@@ -42,9 +32,10 @@ fn vertical_row(z: &[u32]) -> u32
     ensures { result ≡ pick (is_long z.now) extra_mark out_mark }
 {
     if sheet::is_long(z) {
-        return network::EXTRA_MARK;
+        network::EXTRA_MARK
+    } else {
+        network::OUT_MARK
     }
-    network::OUT_MARK
 }
 
 // Empties the link registers of so many inputs.
@@ -52,12 +43,9 @@ fn clear_links(s: &mut [u32], count: u32)
     requires { (count ≤ row_words) × (moving_words ≤ length s.old) }
     ensures { s.new ≡ stage link_mark link_word count (λ row k. 0) s.old }
 {
-    let end = count as usize;
-    let mut k: usize = 0;
-    while k < end {
+    for k in 0..count as usize {
         s[LINK_MARKS + k] = 0;
         s[LINK_WORDS + k] = 0;
-        k += 1;
     }
 }
 
@@ -79,41 +67,46 @@ fn push_side(s: &mut [u32], cols: u32, rows: u32, node: u32, side: u32, row: u32
     occupancy::only(near)
 }
 
+// The row of the marks that come out of a side's link, of which that of the vertical sides is given.
+fn side_row(vertical: u32, side: u32) -> u32
+    ensures { result ≡ side_row vertical side }
+{
+    if torus::is_vertical(side) {
+        vertical
+    } else {
+        network::OUT_MARK
+    }
+}
+
 // The marks and the words that come out of a node's links, joined by or: 0 where all of them are 0. They are read by proved indices, so that
 // nothing is tested on the way.
 fn sides_joined(s: &[u32], node: u32, vertical: u32) -> u32
     requires { (node < 16) × (vertical ≤ extra_mark) × (moving_words ≤ length s.now) }
     ensures { result ≡ 0 → SidesEmpty s.now node vertical }
 {
-    let marks = (vertical as usize) * ROW_WORDS + (node as usize) * 5;
-    let cells = marks + ROW_WORDS;
-    let level_marks = OUT_MARKS + (node as usize) * 5;
-    let level_cells = OUT_WORDS + (node as usize) * 5;
-    s[marks]
-        | s[cells]
-        | s[level_marks + 1]
-        | s[level_cells + 1]
-        | s[marks + 2]
-        | s[cells + 2]
-        | s[level_marks + 3]
-        | s[level_cells + 3]
+    let mut joined: u32 = 0;
+    for side in 0..4 {
+        let from = (side_row(vertical, side) as usize) * ROW_WORDS + (node * 5 + side) as usize;
+        joined |= s[from] | s[from + ROW_WORDS];
+    }
+    joined
 }
 
 // What comes out of a node's four links; of most nodes nothing does, and then no neighbour is looked for. The answer is the mask of the
 // neighbours that it goes to.
 fn push_sides(s: &mut [u32], cols: u32, rows: u32, node: u32, vertical: u32) -> u64
     requires { (InGrid cols rows node) × (vertical ≤ extra_mark) × (moving_words ≤ length s.old) }
-    ensures state { s.new ≡ pushed_all s.old cols rows node vertical }
+    ensures state { s.new ≡ pushed_sides 4 s.old cols rows node vertical }
     ensures live { KeptBeside result s.old s.new }
 {
     if sides_joined(s, node, vertical) == 0 {
         return 0;
     }
-    let north = push_side(s, cols, rows, node, 0, vertical);
-    let east = push_side(s, cols, rows, node, 1, network::OUT_MARK);
-    let south = push_side(s, cols, rows, node, 2, vertical);
-    let west = push_side(s, cols, rows, node, 3, network::OUT_MARK);
-    north | east | south | west
+    let mut live: u64 = 0;
+    for side in 0..4 {
+        live |= push_side(s, cols, rows, node, side, side_row(vertical, side));
+    }
+    live
 }
 
 // What is on the source wires goes into the link registers of their nodes. Those beside the mask are empty, since they were emptied before, and so
@@ -122,18 +115,17 @@ fn push_sources(s: &mut [u32], nodes: u32, sources: u64, marks: &[u32], cells: &
     requires { (nodes ≤ 16) × (moving_words ≤ length s.old) × (SourcesBeside nodes sources marks.now cells.now s.old) }
     ensures { s.new ≡ stage link_mark link_word (nodes * 5) (sourced marks.now cells.now s.old) s.old }
 {
-    let mut node = occupancy::next_taken(sources, 0);
-    while node < nodes {
+    for node in occupancy::places(sources, nodes) {
         let mark = words::get(marks, node as usize);
         let word = words::get(cells, node as usize);
         put_link(s, node * 5 + network::SOURCE_INPUT, mark, word);
-        node = occupancy::next_taken(sources, node + 1);
     }
 }
 
 // The link registers of all inputs: what comes out of the links of the nodes that have something there, and what is on the source wires
 // of those that have, a mark and a word a node. They are emptied first, since few words are under way in most cycles. The answer is the
-// mask of the nodes whose link registers may hold something now.
+// mask of the nodes whose link registers may hold something now. The cycle calls it on a sound state, with masks that have every node at
+// which something is, and so meets the requires, here and above.
 pub fn step_links_among(s: &mut [u32], ends: u64, sources: u64, marks: &[u32], cells: &[u32]) -> u64
     requires { (Headed (sheet_in s.old)) × (moving_words ≤ length s.old) × ((node : _) → node < node_count (sheet_in s.old) → bit_at ends node ≡ 0 → SidesEmpty s.old node (pick (is_long (sheet_in s.old)) extra_mark out_mark)) × ((node : _) → node < node_count (sheet_in s.old) → bit_at sources node ≡ 0 → (word_at marks.now node ≡ 0) × (word_at cells.now node ≡ 0)) }
     ensures state { s.new ≡ stage link_mark link_word (node_count (sheet_in s.old) * 5) (link_from marks.now cells.now s.old) s.old }
@@ -152,17 +144,16 @@ pub fn step_links_among(s: &mut [u32], ends: u64, sources: u64, marks: &[u32], c
     }
     clear_links(s, nodes * 5);
     let mut live: u64 = 0;
-    let mut node = occupancy::next_taken(ends, 0);
-    while node < nodes {
-        live = live | push_sides(s, cols, rows, node, vertical);
-        node = occupancy::next_taken(ends, node + 1);
+    for node in occupancy::places(ends, nodes) {
+        live |= push_sides(s, cols, rows, node, vertical);
     }
     push_sources(s, nodes, sources, marks, cells);
     live | sources
 }
 
 // The link registers of all inputs, whatever there is at the nodes: what comes out of the neighbours' links, and what is on the source wires, a
-// mark and a word a node.
+// mark and a word a node. No crate calls it now: the cycle calls step_links_among. Whoever does so on a sound state, whose sheet passes, meets
+// the requires.
 pub fn step_links(s: &mut [u32], marks: &[u32], cells: &[u32])
     requires { (Headed (sheet_in s.old)) × (moving_words ≤ length s.old) }
     ensures { s.new ≡ stage link_mark link_word (node_count (sheet_in s.old) * 5) (link_from marks.now cells.now s.old) s.old }
@@ -181,7 +172,7 @@ fn step_extra(s: &mut [u32], k: u32)
 }
 
 // The extra registers of long vertical links, after the links have taken what was in them and before the outputs change; a grid without
-// such links has none.
+// such links has none. The cycle calls it on a sound state with its sheet's own numbers.
 pub fn step_extras(s: &mut [u32], nodes: u32, long: bool)
     requires { (moving_words ≤ length s.old) × (nodes ≡ node_count (sheet_in s.old)) × (nodes ≤ 16) × (long ≡ is_long (sheet_in s.old)) }
     ensures { s.new ≡ stage extra_mark extra_word (nodes * 5) (next_in_row s.old []) s.old }
@@ -189,15 +180,14 @@ pub fn step_extras(s: &mut [u32], nodes: u32, long: bool)
     if s.len() < network::MOVING_WORDS {
         return;
     }
-    if long {
-        if MOST_NODES < nodes {
-            return;
-        }
-        let mut node: u32 = 0;
-        while node < nodes {
-            step_extra(s, node * 5);
-            step_extra(s, node * 5 + 2);
-            node += 1;
-        }
+    if !long {
+        return;
+    }
+    if MOST_NODES < nodes {
+        return;
+    }
+    for node in 0..nodes {
+        step_extra(s, node * 5);
+        step_extra(s, node * 5 + 2);
     }
 }

@@ -1,44 +1,20 @@
--- The fewest digits of a word, and digits put one before the other.
-use Prim.Native.Nat.{ℕ, zero, suc, ◌+◌, ◌-◌, ◌*◌, ◌/◌, ◌%◌, ◌^◌, ◌≤◌, ◌<◌}
-use mathlib.Core.List.{List, [], ◌∷◌, ◌++◌}
-use mathlib.Core.Path.{◌≡◌, refl, sym, ap, subst, ◌∙◌}
-use native.Mathlib.Nat.{le_of_suc-le-suc, not-suc-le-zero, one-mul, pow-zero, pow-suc, one-le-pow, pow-le-pow_right, div-div-eq-div-mul, le-div_iff_mul-le, div-lt_iff_lt-mul}
-use native.Mathlib.Numerals.{add-one, sub-one}
+-- The digits that std writes of a word are the fewest that hold it.
+use Rattle.std.proofs.Common.{◌≡◌, ℕ, suc, ◌+◌, ◌-◌, ◌/◌, ◌%◌, ◌^◌, ◌≤◌, ◌<◌, List, [], ◌∷◌, ◌++◌, length, sym, ap, subst, ◌∙◌, arith, add-one, length-append}
+use Rattle.std.specs.Fmt.{decimal}
+use Rattle.std.proofs.lemmas.Fmt.{decimal_by_steps}
+use native.Mathlib.Nat.{pow-suc, pow-le-pow_right}
 use native.Mathlib.Decide.{dec_le}
-use native.Mathlib.Omega.{arith}
-use lib.ListN.{length, take, drop, set}
-use lib.Seq.{slice, length-take-le, take-set-lt, append_snoc}
 use Rattle.words.specs.Tests.{◌<?◌}
 use Rattle.words.proofs.TestLaws.{yes<, no<}
 use Rattle.words.proofs.WordLaws.{least_from_is}
 use Rattle.listing.specs.Text.{digit_count, last_digits}
-
--- what is left of a word after one digit, and after one digit more
-pub left_one : (n : ℕ) → n / 10 ≡ n / 10 ^ 1
-left_one n = ap (λ (d : ℕ). n / d) (sym (pow-suc 10 0 ∙ ap (λ (p : ℕ). p * 10) (pow-zero 10) ∙ one-mul 10))
-
-pub left_more : (n k : ℕ) → n / 10 ^ k / 10 ≡ n / 10 ^ (k + 1)
-left_more n k = div-div-eq-div-mul n (10 ^ k) 10 ∙ ap (λ (d : ℕ). n / d) (sym (pow-suc 10 k) ∙ ap (λ (j : ℕ). 10 ^ j) (sym (add-one k)))
-
--- something is left of a word after so many digits, so one more is wanted
-pub more_wanted : (n k : ℕ) → 0 < n / 10 ^ k → 10 ^ (k + 1 - 1) ≤ n
-more_wanted n k some =
-    let e : k ≡ k + 1 - 1 = omega arith in
-    let p : 1 * 10 ^ k ≤ n = (le-div_iff_mul-le (one-le-pow k 10 (omega arith))).0 some in
-    subst (λ (j : ℕ). 10 ^ j ≤ n) e (omega arith)
-
--- nothing is left, so these digits hold it
-pub none_wanted : (n k : ℕ) → n / 10 ^ k < 1 → n < 10 ^ k
-none_wanted n k none =
-    let p : n < 1 * 10 ^ k = (div-lt_iff_lt-mul (one-le-pow k 10 (omega arith))).0 none in
-    omega arith
 
 -- a power of ten with a larger exponent is no less
 tens : (i j : ℕ) → i ≤ j → 10 ^ i ≤ 10 ^ j
 tens i j l = pow-le-pow_right {n = 10} (omega arith) {i = i} {j = j} l
 
 -- a word takes at most ten digits
-pub at_most_ten : (n k : ℕ) → n < 4294967296 → (1 < k → 10 ^ (k - 1) ≤ n) → k ≤ 10
+at_most_ten : (n k : ℕ) → n < 4294967296 → (1 < k → 10 ^ (k - 1) ≤ n) → k ≤ 10
 at_most_ten n k l f = go (dec_le k 10)
   where
     go : Dec (k ≤ 10) → k ≤ 10
@@ -49,7 +25,7 @@ at_most_ten n k l f = go (dec_le k 10)
         absurd (omega arith)
 
 -- the digits that are counted are the fewest
-pub count_is : (n k : ℕ) → n < 4294967296 → 0 < k → n < 10 ^ k → (1 < k → 10 ^ (k - 1) ≤ n) → k ≡ digit_count n
+count_is : (n k : ℕ) → n < 4294967296 → 0 < k → n < 10 ^ k → (1 < k → 10 ^ (k - 1) ≤ n) → k ≡ digit_count n
 unfolding digit_count
 count_is n k l some holds f =
     sym (least_from_is (λ j. n <? 10 ^ j) 10 1 k some (omega (arith, at_most_ten n k l f)) (yes< holds)
@@ -58,31 +34,45 @@ count_is n k l some holds f =
     let least : 10 ^ (k - 1) ≤ n = f (omega arith) in
     no< (omega arith)))
 
--- after a store at j, the list from j on begins with what was stored
-drop_set : (t : List ℕ) (j g : ℕ) → j < length t → drop j (set t j g) ≡ g ∷ drop (suc j) t
-drop_set [] j g h = absurd (not-suc-le-zero h)
-drop_set (x ∷ xs) zero g h = refl
-drop_set (x ∷ xs) (suc j) g h = drop_set xs j g (le_of_suc-le-suc h)
+-- std's digits of a word are the last of it, and the fewest
+record Digits (n : ℕ) (ds : List ℕ) : Type 0 where
+  last : ds ≡ last_digits (length ds) n
+  some : 0 < length ds
+  holds : n < 10 ^ length ds
+  fewest : 1 < length ds → 10 ^ (length ds - 1) ≤ n
 
--- a turn moves the last of the digits that are still to write to the front of those that are written
-pub digits_step : (k count rest g : ℕ) (text : List ℕ) → 0 < k → k ≤ count → count ≤ length text → g ≡ 48 + rest % 10
-    → last_digits (k - 1) (rest / 10) ++ slice (k - 1) count (set text (k - 1) g) ≡ last_digits k rest ++ slice k count text
+digits_one : (n : ℕ) → n < 10 → Digits n ((48 + n) ∷ [])
 unfolding last_digits
-digits_step zero count rest g text some h room e = absurd (not-suc-le-zero some)
-digits_step (suc j) count rest g text some h room e =
-    let todo = last_digits j (rest / 10) in
-    let done = slice (suc j) count text in
-    let within : j < length (take count text) = subst (λ (n : ℕ). j < n) (sym (length-take-le count text room)) h in
-    ap (λ (m : ℕ). last_digits m (rest / 10) ++ slice m count (set text m g)) (sub-one (suc j))
-    ∙ ap (λ (l : List ℕ). todo ++ drop j l) (take-set-lt count text j g h)
-    ∙ ap (λ (l : List ℕ). todo ++ l) (drop_set (take count text) j g within)
-    ∙ ap (λ (x : ℕ). todo ++ x ∷ done) e
-    ∙ sym (append_snoc todo (48 + rest % 10) done)
+digits_one n l =
+    let e : n ≡ n % 10 = omega arith in
+    record { last = ap (λ m. (48 + m) ∷ []) e; some = omega arith; holds = omega arith; fewest = λ h. absurd (let z : ⊥ = omega arith in z) }
 
--- and once none is still to write, all are written
-pub digits_done : (k count n rest : ℕ) (text : List ℕ) → k ≤ 0
-    → last_digits k rest ++ slice k count text ≡ last_digits count n
-    → take count text ≡ last_digits count n
+tens_more : (n k : ℕ) → 10 ≤ n → 0 < k → (1 < k → 10 ^ (k - 1) ≤ n / 10) → 10 ^ k ≤ n
+tens_more n k l some f = go (dec_le k 1)
+  where
+    go : Dec (k ≤ 1) → 10 ^ k ≤ n
+    go (yes one) =
+        let e : 1 ≡ k = omega arith in
+        subst (λ j. 10 ^ j ≤ n) e l
+    go (no more) =
+        let e : suc (k - 1) ≡ k = omega arith in
+        subst (λ j. 10 ^ j ≤ n) e (omega (arith, pow-suc 10 (k - 1), f (omega arith)))
+
+digits_more : (n : ℕ) (ds : List ℕ) → 10 ≤ n → Digits (n / 10) ds → Digits n (ds ++ ((48 + n % 10) ∷ []))
 unfolding last_digits
-digits_done zero count n rest text l e = e
-digits_done (suc k) count n rest text l e = absurd (not-suc-le-zero l)
+digits_more n ds l d =
+    let k = length ds in
+    let long : length (ds ++ ((48 + n % 10) ∷ [])) ≡ suc k = length-append ds ((48 + n % 10) ∷ []) ∙ add-one k in
+    let back : suc k - 1 ≡ k = omega arith in
+    record {
+      last = sym (ap (λ m. last_digits m n) long ∙ ap (λ (x : List ℕ). x ++ ((48 + n % 10) ∷ [])) (sym d.last));
+      some = omega (arith, long);
+      holds = subst (λ m. n < 10 ^ m) (sym long) (omega (arith, pow-suc 10 k, d.holds));
+      fewest = λ h. subst (λ m. 10 ^ (m - 1) ≤ n) (sym long) (subst (λ m. 10 ^ m ≤ n) (sym back) (tens_more n k l d.some d.fewest));
+    }
+
+-- a word in decimal, as std has it
+pub decimal_is : (n : ℕ) → n < 4294967296 → decimal n ≡ last_digits (digit_count n) n
+decimal_is n l =
+    let d : Digits n (decimal n) = decimal_by_steps Digits digits_one digits_more n (omega arith) in
+    d.last ∙ ap (λ k. last_digits k n) (count_is n (length (decimal n)) l d.some d.holds d.fewest)

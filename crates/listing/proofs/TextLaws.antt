@@ -1,54 +1,28 @@
 -- Texts put into a buffer one behind the other, how long a field is, and its bytes from its digits.
 -- Assumes nothing.
-use Prim.Native.Nat.{ℕ, zero, suc, ◌+◌, ◌^◌, ◌≤◌, ◌<◌}
-use mathlib.Core.List.{List, [], ◌∷◌, ◌++◌}
-use mathlib.Core.Path.{◌≡◌, refl, sym, ◌∙◌, ap}
-use native.Mathlib.Omega.{arith}
-use native.Mathlib.Numerals.{add-one}
-use lib.ListN.{length, take, set, length-append, length-set}
-use lib.Seq.{take-suc, length-take-le}
+use Rattle.std.proofs.Common.{◌≡◌, ℕ, zero, suc, ◌+◌, ◌-◌, ◌^◌, ◌≤◌, ◌<◌, List, [], ◌∷◌, ◌++◌, length, take, drop, set, refl, sym, ap, ◌∙◌, arith, add-zero, append_assoc, length-append, length-set}
+use Rattle.std.specs.Fmt.{decimal}
+use Rattle.std.proofs.lemmas.List.{take-append-drop, take_more_set, drop-set-lt, drop-drop}
+use Rattle.std.proofs.Math.Seq.{take-append_seam}
+use borrow.Rule.Slice.PartMut.{put_mid}
 use Rattle.words.specs.Tests.{◌<?◌}
-use Rattle.words.specs.Words.{word}
 use Rattle.words.specs.Inner.Puts.{put_all}
 use Rattle.words.proofs.WordLaws.{least_from_most, put_all_one, put_all_behind}
-use Rattle.listing.specs.Text.{digit_count, last_digits, field, landing_line, space, line_end}
+use Rattle.listing.proofs.DigitLaws.{decimal_is}
+use Rattle.listing.specs.Text.{digit_count, last_digits, field, landing_line, space, line_end, refused}
 
--- the loop that copies a text
-pub record Copying (text : List ℕ) (count : ℕ) (start buffer : List ℕ) (at k : ℕ) : Type 0 where
-  pub within : k ≤ count
-  pub long : length buffer ≡ length start
-  pub bytes : buffer ≡ put_all start at (take k text)
-
-pub copying_start : (text : List ℕ) (count : ℕ) (start : List ℕ) (at : ℕ) → Copying text count start start at 0
+-- a list put in where it fits: what stood before it and behind it stays
+put_all_is : (s xs : List ℕ) (at : ℕ) → at + length xs ≤ length s → put_all s at xs ≡ take at s ++ (xs ++ drop (at + length xs) s)
 unfolding put_all
-copying_start text count start at = record { within = omega arith; long = refl; bytes = refl }
-
-pub copying_more : (text : List ℕ) (count : ℕ) (start buffer : List ℕ) (at k : ℕ)
-    → Copying text count start buffer at k
-    → count ≤ length text
-    → k < count
-    → Copying text count start (set buffer (at + k) (word text k)) at (k + 1)
-copying_more text count start buffer at k c l h =
-    let inside : k < length text = omega arith in
-    let so_far : length (take k text) ≡ k = length-take-le k text (omega arith) in
-    let next : at + k ≡ at + length (take k text) = omega arith in
-    record {
-      within = omega arith;
-      long = length-set buffer (at + k) (word text k) ∙ c.long;
-      bytes =
-          ap (λ (b : List ℕ). set b (at + k) (word text k)) c.bytes
-          ∙ put_all_one start (take k text) at (word text k) (at + k) next
-          ∙ ap (λ (x : List ℕ). put_all start at x) (sym (take-suc text k 0 inside))
-          ∙ ap (λ j. put_all start at (take j text)) (sym (add-one k));
-    }
-
-pub copying_done : (text : List ℕ) (count : ℕ) (start buffer : List ℕ) (at k : ℕ)
-    → Copying text count start buffer at k
-    → count ≤ k
-    → buffer ≡ put_all start at (take count text)
-copying_done text count start buffer at k c l =
-    let e : k ≡ count = omega (arith, c.within) in
-    c.bytes ∙ ap (λ j. put_all start at (take j text)) e
+put_all_is s [] at h = sym (ap (λ k. take at s ++ drop k s) (add-zero at) ∙ take-append-drop at s)
+put_all_is s (x ∷ xs) at h =
+    let room : at < length s = omega arith in
+    let e : at + 1 + length xs ≡ at + suc (length xs) = omega arith in
+    put_all_is (set s at x) xs (at + 1) (omega (arith, length-set s at x))
+    ∙ ap (λ (f : List ℕ). f ++ (xs ++ drop (at + 1 + length xs) (set s at x))) (take_more_set s at x room)
+    ∙ append_assoc (take at s) (x ∷ []) (xs ++ drop (at + 1 + length xs) (set s at x))
+    ∙ ap (λ (d : List ℕ). take at s ++ (x ∷ xs ++ d)) (drop-set-lt (at + 1 + length xs) s at x (omega arith))
+    ∙ ap (λ k. take at s ++ (x ∷ xs ++ drop k s)) e
 
 -- a field takes at most twelve bytes
 length_digits : (k n : ℕ) → length (last_digits k n) ≡ k
@@ -64,24 +38,43 @@ pub field_short : (n end : ℕ) → length (field n end) ≤ 12
 unfolding digit_count
 field_short n end = omega (arith, field_length n end, least_from_most (λ k. n <? 10 ^ k) 10 1)
 
--- a field, from the digits of the word
-module _ (n end r : ℕ) (text : List ℕ) (fewest : r ≡ digit_count n) (e : take r text ≡ last_digits r n) where
-  pub field_is : take r text ++ (end ∷ []) ≡ field n end
+-- a field, from what std says of a word in decimal
+module _ (n end : ℕ) (w : n < 4294967296) (text : List ℕ) (e : text ≡ decimal n) where
+  field_is : text ++ (end ∷ []) ≡ field n end
   unfolding field
-  field_is = ap (λ (x : List ℕ). x ++ (end ∷ [])) (e ∙ ap (λ k. last_digits k n) fewest)
+  field_is = ap (λ (x : List ℕ). x ++ (end ∷ [])) (e ∙ decimal_is n w)
 
-  pub field_place : (at : ℕ) → at + r + 1 ≡ at + length (field n end)
-  field_place at = omega (arith, field_length n end, fewest)
+  pub field_place : (at : ℕ) → at + length text + 1 ≡ at + length (field n end)
+  field_place at = omega (arith, ap length field_is, length-append text (end ∷ []))
 
-  pub field_bytes : (start copied : List ℕ) (at : ℕ)
-      → copied ≡ put_all start at (take r text)
-      → r ≤ length text
-      → set copied (at + r) end ≡ put_all start at (field n end)
-  field_bytes start copied at q h =
-      let there : at + r ≡ at + length (take r text) = omega (arith, length-take-le r text h) in
-      ap (λ (b : List ℕ). set b (at + r) end) q
-      ∙ put_all_one start (take r text) at end (at + r) there
-      ∙ ap (λ (x : List ℕ). put_all start at x) field_is
+  pub field_bytes : (s : List ℕ) (at : ℕ) → at + length text ≤ length s
+      → set (put_mid at (at + length text - at) s text) (at + length text) end ≡ put_all s at (field n end)
+  field_bytes s at h =
+      let same : at + length text - at ≡ length text = omega arith in
+      ap (λ k. set (put_mid at k s text) (at + length text) end) same
+      ∙ ap (λ (b : List ℕ). set (take at s ++ (text ++ b)) (at + length text) end) (drop-drop (length text) at s)
+      ∙ ap (λ (b : List ℕ). set b (at + length text) end) (sym (put_all_is s text at h))
+      ∙ put_all_one s text at end (at + length text) refl
+      ∙ ap (put_all s at) field_is
+
+-- `refused ` at the start of a text, and a number put behind it
+pub refused_put : (n : ℕ) {number : ℕ} → number ≡ n → (front rest : List ℕ) (count : ℕ) {after : List ℕ}
+    → front ≡ refused
+    → 20 ≤ length (front ++ rest)
+    → count ≡ 8 + length (field number line_end)
+    → after ≡ put_all (front ++ rest) 8 (field number line_end)
+    → take count after ≡ refused ++ field n line_end
+unfolding refused
+refused_put n {number} e front rest count same room place bytes =
+    let f : List ℕ = field number line_end in
+    let s : List ℕ = refused ++ rest in
+    let begun : front ++ rest ≡ s = ap (λ (x : List ℕ). x ++ rest) same in
+    let fits : 8 + length f ≤ length s = omega (arith, room, ap length begun, field_short number line_end) in
+    let long : length (refused ++ f) ≡ count = length-append refused f ∙ sym place in
+    ap (take count) (bytes ∙ ap (λ (x : List ℕ). put_all x 8 f) begun ∙ put_all_is s f 8 fits ∙ sym (append_assoc refused f (drop (8 + length f) s)))
+    ∙ ap (λ k. take k ((refused ++ f) ++ drop (8 + length f) s)) (sym long)
+    ∙ take-append_seam (refused ++ f) (drop (8 + length f) s)
+    ∙ ap (λ k. refused ++ field k line_end) e
 
 -- a landing's line is as long as its fields, at most sixty bytes
 line_length : (cycle node address payload kind : ℕ)

@@ -1,27 +1,17 @@
 // The text of a listing of landings, put into a buffer of bytes from a place on.
 #![tactic(auto)]
 
-mod digits;
+mod complaint;
 
 ghost use Rattle.std.specs.Prelude.{◌≡◌, ◌+◌, ◌≤◌, length, take};
 ghost use Rattle.words.specs.Inner.Puts.{put_all};
 ghost use Rattle.listing.specs.Text.{field, landing_line};
 
-const SPACE: u8 = 32;
+pub use complaint::Complaint;
 
-const LINE_END: u8 = 10;
+const SPACE: u8 = b' ';
 
-// Copies the first bytes of a text into the buffer; put_field has seen that they are there and that they fit.
-fn copy(text: &[u8; 20], count: usize, buffer: &mut [u8], at: usize)
-    requires { (count ≤ 10) × (count ≤ length text.now) × (at + count ≤ length buffer.old) }
-    ensures { buffer.new ≡ put_all buffer.old at (take count text.now) }
-{
-    let mut k = 0;
-    while k < count {
-        buffer[at + k] = text[k];
-        k += 1;
-    }
-}
+const LINE_END: u8 = b'\n';
 
 // Puts a word in decimal with what ends it, and answers the place behind; put_line has seen that the longest fits.
 pub fn put_field(buffer: &mut [u8], at: usize, n: u32, end: u8) -> usize
@@ -29,14 +19,16 @@ pub fn put_field(buffer: &mut [u8], at: usize, n: u32, end: u8) -> usize
     ensures place { result ≡ at + length (field n end) }
     ensures bytes { buffer.new ≡ put_all buffer.old at (field n end) }
 {
-    let mut digits = [0u8; 20];
-    let count = digits::decimal(n, &mut digits);
-    copy(&digits, count, buffer, at);
-    buffer[at + count] = end;
-    at + count + 1
+    let mut digits = itoa::Buffer::new();
+    let text = digits.format(n).as_bytes();
+    let end_at = at + text.len();
+    buffer[at..end_at].copy_from_slice(text);
+    buffer[end_at] = end;
+    end_at + 1
 }
 
 // Puts a landing's line, and answers the place behind; a program that leaves 60 bytes for each line meets the requires.
+#[tactic(auto, using(crate::proofs::TextLaws::field_short))]
 pub fn put_line(
     buffer: &mut [u8],
     at: usize,

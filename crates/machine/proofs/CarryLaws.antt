@@ -23,22 +23,53 @@ use Rattle.network.specs.Inner.Stages.{stage, link_from, out_from}
 use Rattle.network.specs.Inner.Live.{EmptyBeside, Stays, Covered}
 use Rattle.network.proofs.RowCases.{in_rows, ◌besides◌, no_more}
 use Rattle.network.proofs.RowLaws.{sheet_kept}
-use Rattle.network.proofs.StepLaws.{state_length}
 use Rattle.network.proofs.LiveLaws.{heads_stay, out_mark_none, out_word_none, memory_mark_none, memory_word_none, covered_next}
 use Rattle.links.specs.Inner.Linking.{NoneAt, SidesEmpty}
 use Rattle.sources.specs.Inner.Slots.{slot_table}
 use Rattle.sources.specs.Inner.Steps.{Steppable}
 use Rattle.sources.specs.Inner.Acting.{Acting}
-use Rattle.receivers.specs.Inner.Required.{Receivable, Clocked}
+use Rattle.receivers.specs.Inner.Required.{Receivable, Clocked, Counted}
 use Rattle.tables.specs.Inner.Ready.{Ready}
 use Rattle.tables.specs.Inner.Tables.{Tables}
 use Rattle.tables.specs.Inner.Moving.{Moving}
 use Rattle.machine.proofs.JoinLaws.{few_circuits, headed_ready, headed_off, headed_sheet, linked_ready, linked_sheet, memory_mark_is, memory_word_is, memory_is, received_ready}
 use Rattle.machine.proofs.JoinLaws.{extended_long, extended_off, out_mark_is, out_word_is, crossed_ready, crossed_sheet, crossed_sender, slot_is, sent_ready, received_same, clocked_same, state_is}
 
-module _ {s m slots marks cells out_marks out_words : List ℕ} (T : Tables s m slots marks cells out_marks out_words) (R : Ready s m)
-    {live : Live} (C : Covered s live) {acting wires : ℕ} (M : Moving s m acting wires) {count size : ℕ} (e : count ≡ nodes (sheet_in s)) (few : count ≤ 16)
-    (f : size ≡ room s) {kind : Bool} (k : kind ≡ is_long (sheet_in s)) where
+-- a cycle that is carried out: its words, tables and masks, and what was read off its sheet
+pub record Carrying (s m slots marks cells out_marks out_words : List ℕ) (live : Live) (acting wires count size : ℕ) (kind : Bool) : Type 0 where
+  pub tables : Tables s m slots marks cells out_marks out_words
+  pub ready : Ready s m
+  pub covered : Covered s live
+  pub moving : Moving s m acting wires
+  pub counted : Counted s count size
+  pub long_links : kind ≡ is_long (sheet_in s)
+
+module _ {s m slots marks cells out_marks out_words : List ℕ} {live : Live} {acting wires count size : ℕ} {kind : Bool}
+    (P : Carrying s m slots marks cells out_marks out_words live acting wires count size kind) where
+  T : Tables s m slots marks cells out_marks out_words
+  T = P.tables
+
+  R : Ready s m
+  R = P.ready
+
+  C : Covered s live
+  C = P.covered
+
+  M : Moving s m acting wires
+  M = P.moving
+
+  e : count ≡ nodes (sheet_in s)
+  e = P.counted.all_nodes
+
+  few : count ≤ 16
+  few = P.counted.few_nodes
+
+  f : size ≡ room s
+  f = P.counted.own_room
+
+  k : kind ≡ is_long (sheet_in s)
+  k = P.long_links
+
   own_few : nodes (sheet_in s) ≤ 16
   own_few = omega (arith, e, few)
 
@@ -208,9 +239,6 @@ module _ {s m slots marks cells out_marks out_words : List ℕ} (T : Tables s m 
                 own_state =
                     state_is s m slots marks cells out_marks out_words T R headed by_heads linked links received units extended by_extras crossed by_outs sent senders
                     clocked clock
-
-                pub carried_length : length clocked ≡ length s
-                carried_length = ap length own_state ∙ state_length s m R.steppable.long
 
                 pub is_carried_out : (clocked ≡ next_state s m) × (after ≡ next_memory s m)
                 is_carried_out = (own_state, stores ∙ memory_is s m slots marks cells out_marks out_words T R headed by_heads linked links)

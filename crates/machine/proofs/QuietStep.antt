@@ -10,12 +10,8 @@ use Rattle.network.specs.Inner.Machine.{next_state, next_memory}
 use Rattle.network.specs.Inner.Quiet.{is_quiet, quiet_next}
 use Rattle.network.specs.OneMachine.{cycle_fault}
 use Rattle.network.proofs.QuietLaws.{quiet_is, quiet_state, quiet_memory, quiet_calm}
-use Rattle.quiet.specs.Inner.Settled.{Settled}
 use Rattle.tables.specs.Inner.Ready.{Ready}
 use Rattle.tables.proofs.PrepareLaws.{no_fault, changed}
-
-pub settled : {s m : List ℕ} → Ready s m → Settled s
-settled R = record { paired = R.sendable.paired; ranged = R.sendable.ranged; clocked = R.clocked; ascending = R.ascending }
 
 -- the cycle: no fault, and the words afterwards
 pub quiet_step : {s m : List ℕ} → Ready s m → {r : Bool} → r ≡ is_quiet s → r ≡ true → {after : List ℕ} → after ≡ quiet_next s

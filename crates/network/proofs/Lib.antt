@@ -15,3 +15,4 @@ pub mod OneMachineProved
 pub mod QuietLaws
 pub mod RestLaws
 pub mod LiveLaws
+pub mod ChoiceLaws

@@ -1,12 +1,13 @@
 -- The sheet as a part of the state's words, over any number k of words before its length.
 -- Assumes nothing.
-use Prim.Native.Nat.{ℕ, ◌+◌, ◌-◌, ◌≤◌}
+use Prim.Native.Nat.{ℕ, ◌+◌, ◌-◌, ◌≤◌, min}
 use mathlib.Core.List.{List, []}
 use mathlib.Core.Path.{◌≡◌, sym, ◌∙◌, ap}
 use native.Mathlib.Omega.{arith}
-use native.Mathlib.Nat.{add-zero, add-sub_cancel_left}
+use native.Mathlib.Nat.{add-zero}
 use lib.ListN.{length, take, drop, drop_of_length-le, length-drop}
-use lib.Seq.{take_all, get_or-drop, drop-drop}
+use lib.Seq.{get_or-drop, drop-drop}
+use Rattle.std.proofs.lemmas.List.{take_min}
 use Rattle.words.specs.Words.{word}
 use Rattle.network.specs.Registers.{moving_words, sheet_in}
 
@@ -25,13 +26,11 @@ module _ (k : ℕ) (s : List ℕ) where
         ap (λ (i : ℕ). take i (drop (k + 1) s)) q ∙ ap (take (word (drop k s) 0)) (sym (drop-drop 1 k s))
 
     -- all that the length says is there, or less
-    part_whole : take (k + 1 + n - (k + 1)) (drop (k + 1) s) ≡ part k s
-    part_whole = ap (λ (i : ℕ). take i (drop (k + 1) s)) (add-sub_cancel_left (k + 1) n) ∙ part_from
-
-    part_cut : length s - (k + 1) ≤ n → take (length s - (k + 1)) (drop (k + 1) s) ≡ part k s
-    part_cut h =
+    part_up_to : (e : ℕ) → e ≡ min (k + 1 + n) (length s) → take (e - (k + 1)) (drop (k + 1) s) ≡ part k s
+    part_up_to e h =
         let d : length (drop (k + 1) s) ≡ length s - (k + 1) = length-drop (k + 1) s in
-        take_all (length s - (k + 1)) (drop (k + 1) s) (omega arith) ∙ sym (take_all n (drop (k + 1) s) (omega arith)) ∙ part_from
+        let f : e - (k + 1) ≡ min n (length (drop (k + 1) s)) = omega arith in
+        ap (λ (i : ℕ). take i (drop (k + 1) s)) f ∙ take_min n (drop (k + 1) s) ∙ part_from
 
 -- so it is for the words before a state's sheet
 module _ (s : List ℕ) where
@@ -39,10 +38,7 @@ module _ (s : List ℕ) where
   unfolding sheet_in
   sheet_short h = part_short moving_words s h
 
-  pub sheet_whole : (n : ℕ) → n ≡ word s moving_words → take (moving_words + 1 + n - (moving_words + 1)) (drop (moving_words + 1) s) ≡ sheet_in s
+  pub sheet_up_to : (n e : ℕ) → n ≡ word s moving_words → e ≡ min (moving_words + 1 + n) (length s)
+      → take (e - (moving_words + 1)) (drop (moving_words + 1) s) ≡ sheet_in s
   unfolding sheet_in
-  sheet_whole n e = part_whole moving_words s n e
-
-  pub sheet_cut : (n : ℕ) → n ≡ word s moving_words → length s - (moving_words + 1) ≤ n → take (length s - (moving_words + 1)) (drop (moving_words + 1) s) ≡ sheet_in s
-  unfolding sheet_in
-  sheet_cut n e h = part_cut moving_words s n e h
+  sheet_up_to n e d h = part_up_to moving_words s n d e h

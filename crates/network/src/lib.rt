@@ -82,6 +82,40 @@ pub const EXTRA_MARK: u32 = 21;
 
 pub const EXTRA_WORD: u32 = 22;
 
+// Where rows begin, for code that reads or writes them by proved indices.
+pub const LINK_MARKS: usize = LINK_MARK as usize * ROW_WORDS;
+
+pub const LINK_WORDS: usize = LINK_WORD as usize * ROW_WORDS;
+
+pub const HEAD_MARKS: usize = HEAD_MARK as usize * ROW_WORDS;
+
+pub const HEAD_WORDS: usize = HEAD_WORD as usize * ROW_WORDS;
+
+pub const CHOICES: usize = CHOICE_ROW as usize * ROW_WORDS;
+
+pub const OUT_MARKS: usize = OUT_MARK as usize * ROW_WORDS;
+
+pub const OUT_WORDS: usize = OUT_WORD as usize * ROW_WORDS;
+
+pub const RECEIVE_KINDS: usize = RECEIVE_KIND as usize * ROW_WORDS;
+
+pub const RECEIVE_ADDRESSES: usize = RECEIVE_ADDRESS as usize * ROW_WORDS;
+
+pub const LANDING_MARKS: usize = LANDING_MARK as usize * ROW_WORDS;
+
+pub const LANDING_KINDS: usize = LANDING_KIND as usize * ROW_WORDS;
+
+pub const LANDING_ADDRESSES: usize = LANDING_ADDRESS as usize * ROW_WORDS;
+
+pub const LANDING_WORDS: usize = LANDING_WORD as usize * ROW_WORDS;
+
+pub const EXTRA_MARKS: usize = EXTRA_MARK as usize * ROW_WORDS;
+
+pub const EXTRA_WORDS: usize = EXTRA_WORD as usize * ROW_WORDS;
+
+// The nodes of the largest grid; no sheet has more. Their registers fill a row.
+pub const MOST_NODES: u32 = 16;
+
 // A router has five inputs and five outputs; the fifth are its node's source and its node's memory.
 pub const OUTPUTS: u32 = 5;
 
@@ -130,20 +164,14 @@ pub fn sheet_of(s: &[u32]) -> &[u32]
     }
     let from = MOVING_WORDS + 1;
     let size = words::get(s, MOVING_WORDS) as usize;
-    if s.len() - from < size {
-        return &s[from..s.len()];
-    }
-    &s[from..from + size]
+    &s[from..(from + size).min(s.len())]
 }
 
 // The link of an output has an extra register: north and south, where the vertical links are long.
 pub fn has_extra(z: &[u32], output: u32) -> bool
     ensures { result ≡ has_extra z.now output }
 {
-    if sheet::is_long(z) {
-        return torus::is_vertical(output);
-    }
-    false
+    sheet::is_long(z) && torus::is_vertical(output)
 }
 
 // The output that a header asks for, by its route's first code.
@@ -154,14 +182,11 @@ pub fn output_for(input: u32, word: u32) -> u32
 }
 
 // A word as it leaves the header stage: a header without its first code, any other word as it is.
+#[tactic(auto, using(crate::proofs::StageLaws::head_shifted, crate::proofs::StageLaws::head_same))]
 pub fn next_head_word(mark: u32, w: u32) -> u32
     ensures { result ≡ next_head_word mark w }
 {
-    let shifted = Header(w).shifted();
-    if mark != 1 {
-        return w;
-    }
-    shifted.0
+    if mark == 1 { Header(w).shifted().0 } else { w }
 }
 
 // The latch after a cycle: a header sets it, a packet's last word drops it.
@@ -169,12 +194,9 @@ pub fn next_head_word(mark: u32, w: u32) -> u32
 pub fn next_latch(s: &[u32], k: u32) -> u32
     ensures { result ≡ next_latch (k % 5) (reg_of s.now latch_row k) (reg_of s.now link_mark k) (reg_of s.now link_word k) }
 {
-    let mark = reg(s, LINK_MARK, k);
-    if mark == 1 {
-        return output_for(k % 5, reg(s, LINK_WORD, k)) + 1;
+    match reg(s, LINK_MARK, k) {
+        1 => output_for(k % 5, reg(s, LINK_WORD, k)) + 1,
+        3.. => 0,
+        _ => reg(s, LATCH_ROW, k),
     }
-    if mark >= 3 {
-        return 0;
-    }
-    reg(s, LATCH_ROW, k)
 }

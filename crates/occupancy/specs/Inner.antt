@@ -1,1 +1,2 @@
 pub mod Occupancy
+pub mod Places

@@ -2,8 +2,10 @@
 // in the two words that can hold them, together.
 #![tactic(auto)]
 
-ghost use Rattle.std.specs.Prelude.{◌≡◌, ◌+◌, ◌*◌, ◌/◌, ◌%◌, ◌<◌, ◌≤◌, length};
+ghost use Rattle.std.specs.Prelude.{◌≡◌, ◌+◌, ◌-◌, ◌*◌, ◌/◌, ◌%◌, ◌<◌, ◌≤◌, length};
+ghost use Rattle.std.specs.Iterator.{at_most};
 ghost use Rattle.occupancy.specs.Inner.Occupancy.{bit_at, run, any_taken, window as window_of, slot_mask, take_run, TakenIfFree, NextTaken};
+ghost use Rattle.occupancy.specs.Inner.Places.{PlaceGiven};
 
 // The sixty-four places from word q on.
 fn window(table: &[u32], q: usize) -> u64
@@ -67,6 +69,42 @@ pub fn next_taken(mask: u64, from: u32) -> u32
 {
     let rest = mask >> (from % 64);
     from + u64::trailing_zeros(rest)
+}
+
+// A walk through the taken places of a mask below an end, in order; those before `from` are behind it.
+#[derive(Clone, Copy)]
+pub struct TakenPlaces {
+    pub mask: u64,
+    pub from: u32,
+    pub end: u32,
+    ghost inside: { (from ≤ end) × (end ≤ 64) },
+}
+
+// The taken places of a mask below an end. Whoever counts nodes or circuits meets the requires: there are at most 16 and 64 of them.
+pub fn places(mask: u64, end: u32) -> TakenPlaces
+    requires { end ≤ 64 }
+    ensures mask { result.mask ≡ mask }
+    ensures from { result.from ≡ 0 }
+    ensures end { result.end ≡ end }
+{
+    TakenPlaces { mask, from: 0, end }
+}
+
+impl Iterator for TakenPlaces {
+    type Item = u32;
+
+    ghost next_gives = { λ s r t. (t.mask ≡ s.mask) × (t.end ≡ s.end) × PlaceGiven s.mask s.from s.end r t.from };
+
+    ghost remaining = { λ s. at_most (s.end - s.from) };
+
+    fn next(&mut self) -> Option<u32> {
+        let place = next_taken(self.mask, self.from);
+        if self.end <= place {
+            return None;
+        }
+        self.from = place + 1;
+        Some(place)
+    }
 }
 
 // The mask with the one place.

@@ -5,22 +5,13 @@ ghost use Rattle.std.specs.Prelude.{◌≡◌, ◌+◌, ◌*◌, ◌<◌, ◌≤
 ghost use Rattle.words.specs.Words.{tab};
 ghost use Rattle.octets.specs.Octets.{word_in};
 
-fn wide(x: u8) -> u32
-    ensures { (result ≡ x) × (result < 256) }
-{
-    x as u32
-}
-
 // Word k. A program that has read so many bytes meets the requires, here and below.
 pub fn word_in(bytes: &[u8], k: usize) -> u32
     requires { 4 * k + 3 < length bytes.now }
     ensures { result ≡ word_in bytes.now k }
 {
     let at = 4 * k;
-    wide(bytes[at])
-        + 256 * wide(bytes[at + 1])
-        + 65536 * wide(bytes[at + 2])
-        + 16777216 * wide(bytes[at + 3])
+    u32::from_le_bytes([bytes[at], bytes[at + 1], bytes[at + 2], bytes[at + 3]])
 }
 
 // Fills a slice with the words from word `first` on.
@@ -28,9 +19,7 @@ pub fn read_words(bytes: &[u8], first: usize, into: &mut [u32])
     requires { 4 * (first + length into.old) ≤ length bytes.now }
     ensures { into.new ≡ tab (length into.old) (λ k. word_in bytes.now (first + k)) }
 {
-    let mut k = 0;
-    while k < into.len() {
-        into[k] = word_in(bytes, first + k);
-        k += 1;
+    for (k, word) in into.iter_mut().enumerate() {
+        *word = word_in(bytes, first + k);
     }
 }

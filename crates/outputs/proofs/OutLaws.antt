@@ -1,21 +1,24 @@
 -- The out registers: the five of a node, place by place and row by row, and those of all nodes of a mask, one node after the other.
 -- Assumes nothing.
-use Prim.Native.Nat.{ℕ, ◌+◌, ◌*◌, ◌<◌, ◌≤◌}
-use mathlib.Core.Bool.{Bool}
+use Prim.Native.Nat.{ℕ, zero, suc, ◌+◌, ◌*◌, ◌<◌, ◌≤◌}
 use mathlib.Core.List.{List}
 use mathlib.Core.Path.{◌≡◌, refl, sym, subst, ◌∙◌, ap}
 use native.Mathlib.Omega.{arith}
 use native.Mathlib.Decide.{ℕ_discrete, dec_lt}
-use lib.ListN.{length, drop, set}
-use Rattle.words.specs.Words.{word, pick}
-use Rattle.words.proofs.TestLaws.{yes=, no=}
-use Rattle.occupancy.specs.Inner.Occupancy.{NextTaken}
+use lib.ListN.{length, take, drop, set, length-drop}
+use lib.Seq.{paste, paste-zero, paste-suc, length-take-le, get_or-take, get_or-drop}
+use borrow.Rule.Slice.PartMut.{put_mid}
+use Rattle.std.proofs.lemmas.Slice.{put_mid-paste}
+use Rattle.words.specs.Words.{word}
+use Rattle.occupancy.specs.declared.TakenPlaces.{TakenPlaces}
+use Rattle.occupancy.proofs.WalkLaws.{Gave}
 use Rattle.network.specs.Registers.{reg, put, row_count, row_words, moving_words, out_mark, out_word}
 use Rattle.network.specs.Inner.Stages.{out_from}
 use Rattle.network.proofs.PutLaws.{put_same, put_other, put_length, put_rest}
+use Rattle.network.proofs.ChoiceLaws.{out_mark_is, out_word_is}
 use Rattle.network.proofs.FillLaws.{Staged}
 use Rattle.outputs.specs.Inner.Written.{NodeOuts}
-use Rattle.links.proofs.WalkLaws.{reached, StaysBeside, walk_on, walk_at}
+use Rattle.links.proofs.WalkLaws.{StaysBeside, Walked, walk_inside, walk_at, walk_more}
 
 -- the places of a row from place k to the one before end have what the table has there, and nothing else changed
 record Copied (row k end : ℕ) (table s now : List ℕ) : Type 0 where
@@ -60,30 +63,46 @@ module _ (row k : ℕ) (table s : List ℕ) (rl : row < row_count) (long : movin
       subst (λ (i : ℕ). Copied row k i table s (set now place (word table end))) e
       (subst (λ (i : ℕ). Copied row k (end + 1) table s (set now i (word table end))) p (copied_put end now kl el g))
 
--- five places of a row
-abbrev five_set : ℕ → ℕ → List ℕ → List ℕ → List ℕ
-five_set from k table s =
-    set
-    (set
-    (set (set (set s (from + k) (word table k)) (from + k + 1) (word table (k + 1))) (from + k + 2) (word table (k + 2)))
-    (from + k + 3) (word table (k + 3)))
-    (from + k + 4) (word table (k + 4))
+-- as many places as are pasted
+module _ (row k : ℕ) (table s part : List ℕ) (rl : row < row_count) (kl : k + 4 < row_words) (long : moving_words ≤ length s) (five : length part ≡ 5)
+    (same : (i : ℕ) → i < 5 → word part i ≡ word table (k + i)) where
+  copied_paste : (i : ℕ) → i ≤ 5 → Copied row k (k + i) table s (paste s (row * row_words + k) part i)
+  copied_paste zero l =
+      let none : k ≡ k + 0 = omega arith in
+      subst (λ (n : ℕ). Copied row k n table s (paste s (row * row_words + k) part 0)) none
+      (subst (Copied row k k table s) (paste-zero s (row * row_words + k) part) (copied_none row k table s))
+  copied_paste (suc i) l =
+      let before = copied_paste i (omega arith) in
+      subst (Copied row k (k + suc i) table s)
+      (ap (set (paste s (row * row_words + k) part i) (row * row_words + k + i)) (sym (same i (omega arith)))
+      ∙ paste-suc s (row * row_words + k) part i 0 (omega arith) (omega arith))
+      (copied_more row k table s rl long (k + i) (k + suc i) (row * row_words + k + i) _ (omega arith) (omega arith) (omega arith) (omega arith) before)
 
-copied_five : (row k : ℕ) (table s : List ℕ) → row < row_count → k + 4 < row_words → moving_words ≤ length s
-    → Copied row k (k + 5) table s (five_set (row * row_words) k table s)
-copied_five row k table s rl kl long =
-    copied_more row k table s rl long (k + 4) (k + 5) _ _ (omega arith) (omega arith) (omega arith) (omega arith)
-    (copied_more row k table s rl long (k + 3) (k + 4) _ _ (omega arith) (omega arith) (omega arith) (omega arith)
-    (copied_more row k table s rl long (k + 2) (k + 3) _ _ (omega arith) (omega arith) (omega arith) (omega arith)
-    (copied_more row k table s rl long (k + 1) (k + 2) _ _ (omega arith) (omega arith) (omega arith) (omega arith)
-    (copied_more row k table s rl long k (k + 1) _ _ (omega arith) (omega arith) refl refl (copied_none row k table s)))))
+-- five places of a row, as a part of the words that was set to a part of the table
+copied_five : (row k : ℕ) (table s : List ℕ) (at size count : ℕ) (part : List ℕ) → row < row_count → k + 4 < row_words → moving_words ≤ length s
+    → length table ≡ row_words → at ≡ row * row_words + k → size ≡ 5 → count ≡ 5 → part ≡ take count (drop k table)
+    → Copied row k (k + 5) table s (put_mid at size s part)
+copied_five row k table s at size count part rl kl long whole a n c e =
+    let cut : part ≡ take 5 (drop k table) = e ∙ ap (λ (i : ℕ). take i (drop k table)) c in
+    let enough : 5 ≤ length (drop k table) = omega (arith, length-drop k table) in
+    let five : length (take 5 (drop k table)) ≡ 5 = length-take-le 5 (drop k table) enough in
+    let place : row * row_words + k ≡ at = omega arith in
+    subst (λ (i : ℕ). Copied row k (k + 5) table s (put_mid i size s part)) place
+    (subst (Copied row k (k + 5) table s)
+    (sym (put_mid-paste (row * row_words + k) size s part (take 5 (drop k table)) 5 cut (sym n) (sym five)))
+    (copied_paste row k table s (take 5 (drop k table)) rl kl long five
+    (λ i l. get_or-take 5 (drop k table) i 0 l ∙ get_or-drop k table i 0) 5 (omega arith)))
 
 -- the marks, then the words
-pub outs_set : (k : ℕ) (marks cells s : List ℕ) → k + 4 < row_words → moving_words ≤ length s
-    → NodeOuts k marks cells s (five_set (out_word * row_words) k cells (five_set (out_mark * row_words) k marks s))
-outs_set k marks cells s kl long =
-    let first = copied_five out_mark k marks s (omega arith) kl long in
-    let second = copied_five out_word k cells (five_set (out_mark * row_words) k marks s) (omega arith) kl (omega (arith, first.same_length)) in
+pub outs_set : (k : ℕ) (marks cells s : List ℕ) (at₁ size₁ count₁ at₂ size₂ count₂ : ℕ) (part₁ part₂ : List ℕ) → k + 4 < row_words → moving_words ≤ length s
+    → length marks ≡ row_words → length cells ≡ row_words
+    → at₁ ≡ out_mark * row_words + k → size₁ ≡ 5 → count₁ ≡ 5 → part₁ ≡ take count₁ (drop k marks)
+    → at₂ ≡ out_word * row_words + k → size₂ ≡ 5 → count₂ ≡ 5 → part₂ ≡ take count₂ (drop k cells)
+    → NodeOuts k marks cells s (put_mid at₂ size₂ (put_mid at₁ size₁ s part₁) part₂)
+outs_set k marks cells s at₁ size₁ count₁ at₂ size₂ count₂ part₁ part₂ kl long ml cl a₁ n₁ c₁ e₁ a₂ n₂ c₂ e₂ =
+    let first = copied_five out_mark k marks s at₁ size₁ count₁ part₁ (omega arith) kl long ml a₁ n₁ c₁ e₁ in
+    let second =
+    copied_five out_word k cells (put_mid at₁ size₁ s part₁) at₂ size₂ count₂ part₂ (omega arith) kl (omega (arith, first.same_length)) cl a₂ n₂ c₂ e₂ in
     record {
       same_length = second.same_length ∙ first.same_length;
       same_rest = second.same_rest ∙ first.same_rest;
@@ -93,17 +112,6 @@ outs_set k marks cells s kl long =
           second.beside row j rl jl (λ e a b. no (omega arith) (omega arith) a b)
           ∙ first.beside row j rl jl (λ e a b. no (omega arith) (omega arith) a b);
     }
-
--- what the tables say of the two rows
-out_mark_is : (marks cells : List ℕ) (k : ℕ) → word marks k ≡ out_from marks cells out_mark k
-unfolding out_from
-out_mark_is marks cells k = sym (ap (λ (t : Bool). pick t (word marks k) (word cells k)) (yes= refl))
-
-out_word_is : (marks cells : List ℕ) (k : ℕ) → word cells k ≡ out_from marks cells out_word k
-unfolding out_from
-out_word_is marks cells k =
-    let other : out_word ≡ out_mark → ⊥ = λ e. (let z : ⊥ = omega (arith, e) in z) in
-    sym (ap (λ (t : Bool). pick t (word marks k) (word cells k)) (no= other))
 
 -- the five outputs of one node more
 outs_node : (marks cells s now next : List ℕ) (node : ℕ) → node < 16 → Staged out_mark out_word (node * 5) (out_from marks cells) s now
@@ -128,12 +136,16 @@ outs_node marks cells s now next node l g x = record {
         ap (λ (r : ℕ). reg next r k) e ∙ x.worded k (omega (arith, h)) (omega arith) ∙ out_word_is marks cells k
         ∙ sym (ap (λ (r : ℕ). out_from marks cells r k) e)
 
--- one turn: a node's out registers, and the nodes up to the next of the mask
-pub outs_turn : (marks cells s now next : List ℕ) (nodes mask node to : ℕ) → nodes ≤ 16
-    → StaysBeside out_mark out_word (out_from marks cells) s nodes mask → Staged out_mark out_word (reached node nodes) (out_from marks cells) s now
-    → node < nodes → NodeOuts (node * 5) marks cells now next → NextTaken mask (node + 1) to
-    → Staged out_mark out_word (reached to nodes) (out_from marks cells) s next
-outs_turn marks cells s now next nodes mask node to few stays g l x t =
-    let here = walk_at out_mark out_word nodes node (out_from marks cells) s now g l in
-    walk_on out_mark out_word nodes mask (out_from marks cells) s (omega arith) few stays (node + 1) to next (omega arith) t
-    (outs_node marks cells s now next node (omega arith) here x)
+-- one turn
+module _ (marks cells s : List ℕ) (nodes mask : ℕ) (few : nodes ≤ 16) (stays : StaysBeside out_mark out_word (out_from marks cells) s nodes mask)
+    (walk : TakenPlaces) (now : List ℕ) (g : Walked out_mark out_word nodes mask (out_from marks cells) s walk now) (after : TakenPlaces) where
+  module _ (node : ℕ) (t : Gave walk node after) where
+    pub outs_inside : node < 16
+    outs_inside = omega (arith, walk_inside out_mark out_word nodes mask (out_from marks cells) s (omega arith) few stays walk now g after node t)
+
+    pub outs_turn : (next : List ℕ) → NodeOuts (node * 5) marks cells now next
+        → Walked out_mark out_word nodes mask (out_from marks cells) s after next
+    outs_turn next x =
+        walk_more out_mark out_word nodes mask (out_from marks cells) s (omega arith) few stays walk now g after node t next
+        (outs_node marks cells s now next node outs_inside
+        (walk_at out_mark out_word nodes mask (out_from marks cells) s (omega arith) few stays walk now g after node t) x)

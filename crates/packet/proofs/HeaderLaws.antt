@@ -4,14 +4,15 @@ use Prim.Native.Nat.{ℕ, ◌+◌, ◌*◌, ◌/◌, ◌%◌, ◌<◌, ◌≤◌
 use mathlib.Core.Bool.{Bool, true, false}
 use mathlib.Core.Path.{◌≡◌, refl, sym, ◌∙◌, ap}
 use native.Mathlib.Omega.{arith}
+use Rattle.std.specs.Prelude.{Result}
+use Rattle.std.specs.declared.result.Result.TheVariants.{Ok, Err}
 use Rattle.words.specs.Words.{pick, tab}
 use Rattle.words.proofs.TestLaws.{and_no, and_skip, and_both, and_left, and_right, yes<, no<, is<}
 use Rattle.words.specs.Numbers.{unless}
 use Rattle.words.proofs.NumberLaws.{unless_zero}
 use Rattle.packet.specs.Header.{FourKinds, kind_bits, address_bits, route_bits, header_word, kind_of}
 use Rattle.packet.specs.Header.{address_of, route_of, kinds, addresses, routes, parts_fit, header_number, built_of, shifted_word}
-use Rattle.packet.specs.declared.Built.{Built}
-use Rattle.packet.specs.declared.Built.TheVariants.{Made, Refused}
+use Rattle.packet.specs.declared.Header.{Header}
 
 -- the four kinds are what the kind field can hold, in order
 pub four_kinds : FourKinds
@@ -51,26 +52,26 @@ built_gives_back kind address route e = given_back kind address route (built_fit
 
 -- the answer where a part is too wide, and where none is
 module _ (kind address route : ℕ) where
-  abbrev Answer : Built → Type 0
+  abbrev Answer : Result Header ℕ → Type 0
   Answer r = r ≡ built_of (header_number kind address route) (header_word kind address route)
 
   answer : (b : Bool) → parts_fit kind address route ≡ b → Answer (built_of (pick b 0 15) (header_word kind address route))
   unfolding header_number unless
   answer b e = ap (λ (t : Bool). built_of (pick t 0 15) (header_word kind address route)) (sym e)
 
-  pub kind_wide : kinds ≤ kind → Answer (Refused 15)
+  pub kind_wide : kinds ≤ kind → Answer (Err 15)
   unfolding parts_fit
   kind_wide h = answer false (sym (and_no _ (no< h)))
 
-  pub address_wide : addresses ≤ address → Answer (Refused 15)
+  pub address_wide : addresses ≤ address → Answer (Err 15)
   unfolding parts_fit
   address_wide h = answer false (sym (and_skip _ (and_no _ (no< h))))
 
-  pub route_wide : routes ≤ route → Answer (Refused 15)
+  pub route_wide : routes ≤ route → Answer (Err 15)
   unfolding parts_fit
   route_wide h = answer false (sym (and_skip _ (and_skip _ (sym (no< h)))))
 
-  pub all_fit : Fits kind address route → Answer (Made (record { 0 = header_word kind address route }))
+  pub all_fit : Fits kind address route → Answer (Ok (record { 0 = header_word kind address route }))
   unfolding parts_fit
   all_fit f = answer true (and_both (yes< f.kind_fits) (and_both (yes< f.address_fits) (yes< f.route_fits)))
 

@@ -1,10 +1,10 @@
 -- The header word (document 01, "The packet"): kind (2 bits), write address (14 bits), route (16 bits), top bit first.
-use Rattle.std.specs.Prelude.{ℕ, zero, suc, ◌+◌, ◌*◌, ◌/◌, ◌%◌, ◌^◌, Bool, [], ◌∷◌, ◌≡◌}
+use Rattle.std.specs.Prelude.{ℕ, zero, suc, ◌+◌, ◌*◌, ◌/◌, ◌%◌, ◌^◌, Bool, Result, [], ◌∷◌, ◌≡◌}
+use Rattle.std.specs.declared.result.Result.TheVariants.{Ok, Err}
 use Rattle.words.specs.Tests.{◌and◌, ◌<?◌}
 use Rattle.words.specs.Words.{tab}
 use Rattle.words.specs.Numbers.{unless}
-use Rattle.packet.specs.declared.Built.{Built}
-use Rattle.packet.specs.declared.Built.TheVariants.{Made, Refused}
+use Rattle.packet.specs.declared.Header.{Header}
 
 -- the kinds
 abbrev pub data_kind : ℕ
@@ -77,6 +77,6 @@ unfoldable pub header_number : ℕ → ℕ → ℕ → ℕ
 header_number kind address route = unless 15 (parts_fit kind address route)
 
 -- the answer, from its number and the word
-abbrev pub built_of : ℕ → ℕ → Built
-built_of zero word = Made (record { 0 = word })
-built_of (suc n) word = Refused (suc n)
+abbrev pub built_of : ℕ → ℕ → Result Header ℕ
+built_of zero word = Ok (record { 0 = word })
+built_of (suc n) word = Err (suc n)

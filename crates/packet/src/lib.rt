@@ -2,18 +2,14 @@
 #![tactic(auto)]
 
 ghost use Rattle.std.specs.Prelude.{◌≡◌};
+ghost use Rattle.refusal.specs.Numbers.{numbered};
 ghost use Rattle.packet.specs.Header.{kind_of, address_of, route_of, shifted_word, header_word, header_number, built_of};
 
-// A header word. Any word is one: each part of it can be read.
-#[derive(Clone, Copy)]
-pub struct Header(pub u32);
+use refusal::Refusal;
 
-// What building a header answers.
-#[derive(Clone, Copy)]
-pub enum Built {
-    Made(Header),
-    Refused(u32),
-}
+// A header word. Any word is one: each part of it can be read.
+#[derive(Clone, Copy, Debug, PartialEq, Eq)]
+pub struct Header(pub u32);
 
 impl Header {
     // The kinds.
@@ -38,21 +34,15 @@ impl Header {
 
     pub const ROUTES: u32 = 1 << Header::ROUTE_BITS;
 
-    // The header of the three parts; 15 where one is too wide for its field.
+    // The header of the three parts, unless one is too wide for its field.
     #[tactic(auto, using(crate::proofs::HeaderLaws::kind_wide, crate::proofs::HeaderLaws::address_wide, crate::proofs::HeaderLaws::route_wide, crate::proofs::HeaderLaws::all_fit))]
-    pub fn new(kind: u32, address: u32, route: u32) -> Built
-        ensures { result ≡ built_of (header_number kind address route) (header_word kind address route) }
+    pub fn new(kind: u32, address: u32, route: u32) -> Result<Header, Refusal>
+        ensures { numbered result ≡ built_of (header_number kind address route) (header_word kind address route) }
     {
-        if kind >= Header::KINDS {
-            return Built::Refused(15);
+        if kind >= Header::KINDS || address >= Header::ADDRESSES || route >= Header::ROUTES {
+            return Err(Refusal::DoesNotExist);
         }
-        if address >= Header::ADDRESSES {
-            return Built::Refused(15);
-        }
-        if route >= Header::ROUTES {
-            return Built::Refused(15);
-        }
-        Built::Made(Header((kind * Header::ADDRESSES + address) * Header::ROUTES + route))
+        Ok(Header((kind * Header::ADDRESSES + address) * Header::ROUTES + route))
     }
 
     // The kind that the top bits name.

@@ -69,14 +69,13 @@ none_on w = refl
 
 -- 12 to 14 apply: nothing is run
 pub none_run : (n : ℕ) (s m : List ℕ) {r : ℕ} → r ≡ memory_number s m → (r ≡ 0 → ⊥)
-    → (r * 4294967296 ≡ cycles_answer n (lend s m)) × (lend s m ≡ cycles_on n (lend s m))
+    → (r * 4294967296 + 0 ≡ cycles_answer n (lend s m)) × (lend s m ≡ cycles_on n (lend s m))
 none_run n s m {r} e some =
     let first : r ≡ number cycle (lend s m) = cycle_early s m e some in
     let at_once : number cycle (cycles_on 0 (lend s m)) ≡ 0 → ⊥ = λ z. some (first ∙ ap (number cycle) (none_on (lend s m)) ∙ z) in
     let before : (j : ℕ) → j < 0 → number cycle (cycles_on j (lend s m)) ≡ 0 = λ j l. absurd (let z : ⊥ = omega arith in z) in
     let answer = answer_is n 0 (lend s m) (omega arith) before (λ l. at_once) (then_first (cycles_number n (lend s m)) e some) in
-    let none : r * 4294967296 ≡ r * 4294967296 + 0 = omega arith in
-    (none ∙ answer, none_on (lend s m) ∙ words_stay n 0 (lend s m) (omega arith) before (λ l. at_once))
+    (answer, none_on (lend s m) ∙ words_stay n 0 (lend s m) (omega arith) before (λ l. at_once))
 
 -- the loop over the cycles
 pub record Running (n : ℕ) (w : Lent) (s m : List ℕ) (k : ℕ) : Type 0 where

@@ -1,6 +1,6 @@
 -- A quiet cycle: whether the next one is, and that crossing it is the cycle.
 -- Assumes nothing.
-use Prim.Native.Nat.{ℕ, ◌+◌, ◌*◌, ◌≤◌, ◌<◌}
+use Prim.Native.Nat.{ℕ, ◌+◌, ◌*◌, ◌<◌}
 use mathlib.Core.Bool.{Bool, true, false}
 use mathlib.Core.List.{List, []}
 use mathlib.Core.Path.{◌≡◌, sym, ◌∙◌, ap, subst}
@@ -9,12 +9,10 @@ use native.Mathlib.Decide.{dec_lt}
 use Rattle.words.specs.Tests.{◌and◌, ◌<?◌}
 use Rattle.words.proofs.TestLaws.{and_no, and_both, and_no_right, yes<, no<}
 use Rattle.sheet.specs.Sheet.{circuits, schedules, nodes, period}
-use Rattle.sheet.specs.Rules.{rule8}
-use Rattle.sheet.specs.Inner.Passed.{Framed, Ranged}
+use Rattle.sheet.specs.Inner.Passed.{Framed}
 use Rattle.sheet.proofs.PassedLaws.{period_range}
 use Rattle.network.specs.Registers.{reg, sheet_in, row_words, clock_row, clock_words, cycle_place, in_force_place}
 use Rattle.network.specs.Registers.{landing_mark, landing_word}
-use Rattle.network.specs.Inner.Paired.{Paired}
 use Rattle.network.specs.Inner.Machine.{next_in_row}
 use Rattle.network.specs.Inner.Stages.{stage}
 use Rattle.network.specs.Inner.Quiet.{is_still, none_begins, is_quiet, unlanded, no_landings, quiet_next}
@@ -33,15 +31,6 @@ module _ (s : List ℕ) {z : List ℕ} (own : z ≡ sheet_in s) where
 
   pub own_circuits : {count : ℕ} → count ≡ circuits z → count ≡ circuits (sheet_in s)
   own_circuits e = e ∙ ap circuits own
-
-  pub opening_asked : Settled s → {cycle : ℕ} → cycle ≡ reg s clock_row cycle_place
-      → (Paired s z) × (Ranged z) × (rule8 z ≡ true) × (reg s clock_row cycle_place ≤ cycle + 1)
-  opening_asked g e = (
-    subst (λ (x : List ℕ). Paired s x) (sym own) g.paired,
-    subst Ranged (sym own) g.ranged,
-    ap rule8 own ∙ g.ascending,
-    omega arith,
-  )
 
 -- a period is short, so that the cycle behind this one fits a word
 pub cycle_few : (s : List ℕ) → Settled s → reg s clock_row cycle_place < 1024

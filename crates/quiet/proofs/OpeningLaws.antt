@@ -127,11 +127,6 @@ module _ (s z : List ℕ) where
         }
 
     module _ (cycle : ℕ) (entries : List ℕ) (size i : ℕ) (f : Seeking cycle entries size i) where
-      pub seeking_inside : i < size → i < entry_count entries
-      seeking_inside l =
-          let q : entry_count entries ≡ count = ap entry_count f.same in
-          omega (arith, f.whole)
-
       module _ (e : Entry) (read : e ≡ entry_at entries i) where
         read_own : e ≡ entry i
         read_own = read ∙ ap (λ (x : List ℕ). entry_at x i) f.same

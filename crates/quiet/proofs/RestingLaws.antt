@@ -11,55 +11,15 @@ use Rattle.sheet.specs.Rules.{rule8}
 use Rattle.sheet.specs.Inner.Passed.{Framed, Ranged}
 use Rattle.sheet.proofs.PassedLaws.{period_range}
 use Rattle.network.specs.Registers.{reg, put, sheet_in, clock_row, cycle_place, in_force_place}
-use Rattle.network.specs.Inner.Paired.{Paired}
 use Rattle.network.specs.Inner.Quiet.{is_still, quiet_next, clock_on}
 use Rattle.network.proofs.PutLaws.{put_same, put_other, put_length, put_sheet}
-use Rattle.quiet.specs.Inner.Openings.{NextOpening}
 use Rattle.quiet.specs.Inner.Settled.{Settled}
 use Rattle.quiet.specs.Inner.Crossed.{Stretch, Crossed}
-
-abbrev period_now : List ℕ → ℕ
-period_now s = period (sheet_in s) (reg s clock_row in_force_place)
-
--- how many: from the next slot that begins, at the latest at the period's end
-module _ (s : List ℕ) (g : Settled s) {cycle size : ℕ} (c : cycle ≡ reg s clock_row cycle_place) (p : size ≡ period_now s) where
-  pub time_left : cycle ≤ size
-  time_left = omega (arith, g.clocked.in_time)
-
-  module _ (span : ℕ) (inside : cycle + span ≤ size) where
-    pub until_asked : {z : List ℕ} → z ≡ sheet_in s
-        → (Paired s z) × (Ranged z) × (rule8 z ≡ true) × (reg s clock_row cycle_place ≤ cycle + span)
-    until_asked own = (
-      subst (λ (x : List ℕ). Paired s x) (sym own) g.paired,
-      subst Ranged (sym own) g.ranged,
-      ap rule8 own ∙ g.ascending,
-      omega arith,
-    )
-
-    pub stretch_is : {most next : ℕ} → span ≤ most → NextOpening s (cycle + span) next → Stretch s most (next - cycle)
-    stretch_is few n = record {
-      few = omega (arith, n.not_behind, few);
-      in_period = omega (arith, n.not_before, n.not_behind, inside, p);
-      none_begins_before = λ t a b. n.none_begins_before t a (omega (arith, n.not_before));
-    }
 
 -- the sum of the cycle and so many fits a word
 pub stretch_small : (s : List ℕ) → Settled s → (most n cycle : ℕ) → Stretch s most n → cycle ≡ reg s clock_row cycle_place → cycle + n ≤ 1024
 stretch_small s g most n cycle f c =
     omega (arith, f.in_period, (period_range (sheet_in s) g.ranged (reg s clock_row in_force_place) g.clocked.in_force).1)
-
--- none is crossed
-pub crossed_none : (most : ℕ) (s : List ℕ) → Settled s → Crossed most s s 0
-crossed_none most s g = record {
-  stretch = record {
-    few = omega arith;
-    in_period = omega (arith, g.clocked.in_time);
-    none_begins_before = λ cycle a b. absurd (omega arith);
-  };
-  still = λ l. absurd (omega arith);
-  moved = λ l. absurd (omega arith);
-  stayed = λ e. refl;
-}
 
 -- the cycle before the last is put in
 module _ (s : List ℕ) (g : Settled s) (most n : ℕ) (f : Stretch s most n) (some : n ≡ 0 → ⊥) (cycle : ℕ) (c : cycle ≡ reg s clock_row cycle_place)

@@ -1,6 +1,6 @@
 -- Whether a state is still: words joined by or are 0 where all of them are, row by row and place by place.
 -- Assumes nothing.
-use Prim.Native.Nat.{ℕ, ◌+◌, ◌*◌, ◌≤◌, ◌<◌}
+use Prim.Native.Nat.{ℕ, ◌+◌, ◌-◌, ◌*◌, ◌<◌}
 use mathlib.Core.Bool.{Bool, true, false, false≢true}
 use mathlib.Core.List.{List}
 use mathlib.Core.Path.{◌≡◌, refl, sym, ◌∙◌, ap}
@@ -8,6 +8,8 @@ use native.Mathlib.Omega.{arith}
 use native.Mathlib.Numerals.{add-one}
 use native.Mathlib.Decide.{ℕ_discrete}
 use lib.Bits.{bit_or, or_zero_l, or_add_and, and_le_r}
+use lib.ListN.{take, drop}
+use Rattle.std.proofs.lemmas.List.{get_or-take, get_or-drop}
 use Rattle.words.specs.Tests.{all, ◌and◌, ◌=?◌}
 use Rattle.words.specs.Words.{word}
 use Rattle.words.proofs.TestLaws.{and_no, and_on, and_left, yes=, no=}
@@ -41,28 +43,19 @@ unfolding all
 all_next p k = rw add-one refl
 
 -- the loops: what is joined is 0 where the test holds of every place so far
-pub record Joined (p : ℕ → Bool) (end joined k : ℕ) : Type 0 where
-  pub inside : k ≤ end
-  pub tells : (joined =? 0) ≡ all k p
+pub joined_start : (p : ℕ → Bool) → (0 =? 0) ≡ all 0 p
+unfolding all
+joined_start p = yes= refl
 
-module _ (p : ℕ → Bool) (end : ℕ) where
-  pub joined_start : Joined p end 0 0
-  unfolding all
-  joined_start = record { inside = omega arith; tells = yes= refl }
+pub joined_more : (p : ℕ → Bool) (joined here k : ℕ) → (joined =? 0) ≡ all k p → (here =? 0) ≡ p k → (bit_or joined here =? 0) ≡ all (k + 1) p
+joined_more p joined here k e h = or_next _ joined here e ∙ ap (λ (t : Bool). all k p and t) h ∙ all_next p k
 
-  pub joined_more : (joined next k : ℕ) → Joined p end joined k → k < end → (next =? 0) ≡ (all k p and p k) → Joined p end next (k + 1)
-  joined_more joined next k g l e = record { inside = omega arith; tells = e ∙ all_next p k }
-
-  pub joined_done : (joined k : ℕ) → Joined p end joined k → end ≤ k → (joined =? 0) ≡ all end p
-  joined_done joined k g l =
-      let e : k ≡ end = omega (arith, g.inside) in
-      g.tells ∙ ap (λ (n : ℕ). all n p) e
-
--- a word of a row
-pub row_more : (s : List ℕ) (row end joined k : ℕ) → Joined (λ i. reg s row i =? 0) end joined k → k < end
-    → Joined (λ i. reg s row i =? 0) end (bit_or joined (word s (row * row_words + k))) (k + 1)
+-- a word of a row, among its first words
+pub row_word : (s : List ℕ) (row count k : ℕ) → k < count
+    → (word (take (row * row_words + count - row * row_words) (drop (row * row_words) s)) k =? 0) ≡ (reg s row k =? 0)
 unfolding reg
-row_more s row end joined k g l = joined_more _ end joined _ k g l (or_next _ _ _ g.tells)
+row_word s row count k l =
+    ap (λ (w : ℕ). w =? 0) (get_or-take _ (drop (row * row_words) s) k 0 (omega arith) ∙ get_or-drop (row * row_words) s k 0)
 
 -- the words of the routers' rows at a place
 pub place_is : (s : List ℕ) (k : ℕ)
@@ -84,11 +77,6 @@ unfolding reg empty_at
 place_is s k =
     or_next _ _ _ (or_next _ _ _ (or_next _ _ _ (or_next _ _ _ (or_next _ _ _ (or_next _ _ _ (or_next _ _ _ (or_next _ _ _ refl)))))))
     ∙ and_assoc _ _ _ ∙ and_assoc _ _ _ ∙ and_assoc _ _ _ ∙ and_assoc _ _ _ ∙ and_assoc _ _ _ ∙ and_assoc _ _ _ ∙ and_assoc _ _ _
-
-pub place_more : (s : List ℕ) (end joined here k : ℕ) → Joined (empty_at s) end joined k → k < end → (here =? 0) ≡ empty_at s k
-    → Joined (empty_at s) end (bit_or joined here) (k + 1)
-place_more s end joined here k g l e =
-    joined_more (empty_at s) end joined _ k g l (or_next _ _ _ g.tells ∙ ap (λ (t : Bool). all k (empty_at s) and t) e)
 
 -- the tests in turn: the link registers' marks, all of the routers' rows, the words to go
 module _ (s : List ℕ) {places : ℕ} (e : places ≡ nodes (sheet_in s) * 5) where

@@ -12,39 +12,20 @@ ghost use Rattle.network.specs.Inner.Quiet.{empty_at, is_still, is_quiet, quiet_
 ghost use Rattle.quiet.specs.Inner.Settled.{Settled};
 ghost use Rattle.quiet.specs.Inner.Crossed.{Stretch, Crossed};
 
-use network::{ROW_WORDS, reg};
-
-// Where the rows begin.
-const LINK_MARKS: usize = network::LINK_MARK as usize * ROW_WORDS;
-
-const LINK_WORDS: usize = network::LINK_WORD as usize * ROW_WORDS;
-
-const HEAD_MARKS: usize = network::HEAD_MARK as usize * ROW_WORDS;
-
-const HEAD_WORDS: usize = network::HEAD_WORD as usize * ROW_WORDS;
-
-const CHOICES: usize = network::CHOICE_ROW as usize * ROW_WORDS;
-
-const OUT_MARKS: usize = network::OUT_MARK as usize * ROW_WORDS;
-
-const OUT_WORDS: usize = network::OUT_WORD as usize * ROW_WORDS;
-
-const EXTRA_MARKS: usize = network::EXTRA_MARK as usize * ROW_WORDS;
-
-const EXTRA_WORDS: usize = network::EXTRA_WORD as usize * ROW_WORDS;
+use network::{
+    CHOICES, EXTRA_MARKS, EXTRA_WORDS, HEAD_MARKS, HEAD_WORDS, LINK_MARKS, LINK_WORDS, OUT_MARKS,
+    OUT_WORDS, ROW_WORDS, reg,
+};
 
 // The first words of a row joined by or: 0 where all of them are 0. A sound state has the rows, here and below.
 fn row_joined(s: &[u32], row: u32, count: u32) -> u32
     requires { (row < row_count) × (count ≤ row_words) × (moving_words ≤ length s.now) }
     ensures { (result =? 0) ≡ all count (λ k. reg_of s.now row k =? 0) }
 {
-    let from = (row as usize) * ROW_WORDS;
-    let end = count as usize;
+    let from = row as usize * ROW_WORDS;
     let mut joined: u32 = 0;
-    let mut k: usize = 0;
-    while k < end {
-        joined = joined | s[from + k];
-        k += 1;
+    for word in &s[from..from + count as usize] {
+        joined |= *word;
     }
     joined
 }
@@ -70,12 +51,9 @@ fn routers_joined(s: &[u32], places: u32) -> u32
     requires { (places ≤ row_words) × (moving_words ≤ length s.now) }
     ensures { (result =? 0) ≡ all places (empty_at s.now) }
 {
-    let end = places as usize;
     let mut joined: u32 = 0;
-    let mut k: usize = 0;
-    while k < end {
-        joined = joined | place_joined(s, k);
-        k += 1;
+    for k in 0..places as usize {
+        joined |= place_joined(s, k);
     }
     joined
 }
@@ -87,13 +65,9 @@ fn is_still(s: &[u32]) -> bool
 {
     let z = network::sheet_of(s);
     let places = sheet::nodes_of(z) * 5;
-    if row_joined(s, network::LINK_MARK, places) != 0 {
-        return false;
-    }
-    if routers_joined(s, places) != 0 {
-        return false;
-    }
-    row_joined(s, network::TO_GO_ROW, sheet::circuits_of(z)) == 0
+    row_joined(s, network::LINK_MARK, places) == 0
+        && routers_joined(s, places) == 0
+        && row_joined(s, network::TO_GO_ROW, sheet::circuits_of(z)) == 0
 }
 
 // The next cycle is quiet. machine::step has words that passed 12 to 14, which meet the requires, here and below.
@@ -101,11 +75,8 @@ pub fn is_quiet(s: &[u32]) -> bool
     requires { Settled s.now }
     ensures { result ≡ is_quiet s.now }
 {
-    if is_still(s) {
-        let cycle = reg(s, network::CLOCK_ROW, network::CYCLE_PLACE);
-        return cycle < openings::next_opening(s, network::sheet_of(s), cycle + 1);
-    }
-    false
+    let cycle = reg(s, network::CLOCK_ROW, network::CYCLE_PLACE);
+    is_still(s) && cycle < openings::next_opening(s, network::sheet_of(s), cycle + 1)
 }
 
 // Crosses a quiet cycle.
@@ -125,7 +96,7 @@ fn cycles_to_cross(s: &[u32], most: u32) -> u32
 {
     let cycle = reg(s, network::CLOCK_ROW, network::CYCLE_PLACE);
     let left = receivers::period_now(s) - cycle;
-    let until = cycle + sources::lesser(most, left);
+    let until = cycle + most.min(left);
     openings::next_opening(s, network::sheet_of(s), until) - cycle
 }
 
@@ -135,20 +106,20 @@ pub fn rest(s: &mut [u32], most: u32) -> u32
     requires { Settled s.old }
     ensures { Crossed most s.old s.new result }
 {
-    if is_still(s) {
-        let count = cycles_to_cross(s, most);
-        if count == 0 {
-            return 0;
-        }
-        let cycle = reg(s, network::CLOCK_ROW, network::CYCLE_PLACE);
-        network::put_reg(
-            s,
-            network::CLOCK_ROW,
-            network::CYCLE_PLACE,
-            cycle + (count - 1),
-        );
-        cross_quiet(s);
-        return count;
+    if !is_still(s) {
+        return 0;
     }
-    0
+    let count = cycles_to_cross(s, most);
+    if count == 0 {
+        return 0;
+    }
+    let cycle = reg(s, network::CLOCK_ROW, network::CYCLE_PLACE);
+    network::put_reg(
+        s,
+        network::CLOCK_ROW,
+        network::CYCLE_PLACE,
+        cycle + (count - 1),
+    );
+    cross_quiet(s);
+    count
 }

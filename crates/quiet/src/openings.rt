@@ -14,10 +14,7 @@ use sheet::Entry;
 fn is_live(s: &[u32], entry: Entry, cycle: u32) -> bool
     ensures { result ≡ (cycle ≤? entry.offset and 1 ≤? reg_of s.now left_row entry.circuit) }
 {
-    if entry.offset < cycle {
-        return false;
-    }
-    1 <= reg(s, network::LEFT_ROW, entry.circuit)
+    cycle <= entry.offset && 1 <= reg(s, network::LEFT_ROW, entry.circuit)
 }
 
 // The first cycle of the period from this one on in which a slot of a circuit with words left begins, or `until` where there is none
@@ -29,9 +26,8 @@ pub fn next_opening(s: &[u32], z: &[u32], until: u32) -> u32
     let cycle = reg(s, network::CLOCK_ROW, network::CYCLE_PLACE);
     let schedule = reg(s, network::CLOCK_ROW, network::IN_FORCE_PLACE);
     let entries = sheet::entries_of(z, schedule);
-    let count = entries.len() / 4;
-    let mut i = sources::entries_passed(z, schedule, entries, cycle);
-    while (i as usize) < count {
+    let count = (entries.len() / 4) as u32;
+    for i in sources::entries_passed(z, schedule, entries, cycle)..count {
         let entry = Entry::at(entries, i as usize);
         if until <= entry.offset {
             return until;
@@ -39,7 +35,6 @@ pub fn next_opening(s: &[u32], z: &[u32], until: u32) -> u32
         if is_live(s, entry, cycle) {
             return entry.offset;
         }
-        i += 1;
     }
     until
 }

@@ -1,11 +1,11 @@
 -- The clock's row, from the registers that were read: the period's turn, whether the order is due, and the row afterwards.
 -- Assumes nothing.
-use Rattle.std.proofs.Common.{◌≡◌, ℕ, ◌+◌, ◌<◌, ◌≤◌, Bool, true, false, List, [], length, sym, refl, ap, ◌∙◌, subst, ap₂, arith}
-use Rattle.words.specs.Tests.{◌=?◌}
+use Rattle.std.proofs.Common.{◌≡◌, ℕ, not, ◌+◌, ◌<◌, ◌≤◌, Bool, true, false, List, [], length, sym, refl, ap, ◌∙◌, ap₂, arith}
+use native.Mathlib.Decide.{dec_le}
+use Rattle.words.specs.Tests.{◌and◌, ◌≤?◌, ◌=?◌}
 use Rattle.words.specs.Words.{pick}
-use Rattle.words.proofs.TestLaws.{and_no, and_on, yes≤, no≤}
-use Rattle.sheet.specs.Sheet.{schedules, period}
-use Rattle.sheet.specs.Inner.Passed.{Framed}
+use Rattle.words.proofs.TestLaws.{and_no, and_on, yes≤, no≤, yes=, no=}
+use Rattle.sheet.specs.Sheet.{period}
 use Rattle.network.specs.Cycle.{next_number}
 use Rattle.network.specs.Registers.{reg, put, sheet_in, moving_words, clock_row, cycle_place, number_place, in_force_place, order_mark_place, order_schedule_place, order_period_place, row_words, clock_words}
 use Rattle.network.specs.Inner.Machine.{turns, is_due, next_clock, row_in, next_rows, next_in_row}
@@ -14,38 +14,52 @@ use Rattle.network.proofs.FillLaws.{Staged, wrote_one, wrote_nothing, stage_star
 use Rattle.receivers.specs.Inner.Required.{Clocked}
 use Rattle.receivers.specs.Inner.Written.{clock_put}
 
--- the period of the schedule in force
-module _ (s z : List ℕ) (g : Clocked s) (own : z ≡ sheet_in s) (j : ℕ) (p : j ≡ reg s clock_row in_force_place) where
-  pub period_asked : Framed z × (j < schedules z)
-  period_asked =
-      (subst Framed (sym own) g.framed, (let h : schedules z ≡ schedules (sheet_in s) = ap schedules own in omega (arith, g.in_force)))
-
-  pub period_read : (size : ℕ) → size ≡ period z j → size ≡ period (sheet_in s) (reg s clock_row in_force_place)
-  period_read size e = e ∙ ap₂ period own p
-
 -- the period turns
 pub turns_is : (s : List ℕ) (cycle size : ℕ) → cycle ≡ reg s clock_row cycle_place → size ≡ period (sheet_in s) (reg s clock_row in_force_place)
     → (cycle + 1 =? size) ≡ turns s
 unfolding turns
 turns_is s cycle size p q = ap₂ (λ (c n : ℕ). c + 1 =? n) p q
 
--- the order is due
-module _ (s : List ℕ) (turning : Bool) (e : turning ≡ turns s) where
-  pub due_within : turning ≡ false → false ≡ is_due s
+-- several tests in another order
+and_assoc : (a b c : Bool) → a and (b and c) ≡ (a and b) and c
+unfolding ◌and◌
+and_assoc true b c = refl
+and_assoc false b c = refl
+
+-- a mark is there
+positive : (mark : ℕ) → not (mark =? 0) ≡ (1 ≤? mark)
+positive mark = go (dec_le 1 mark)
+  where
+    go : Dec (1 ≤ mark) → not (mark =? 0) ≡ (1 ≤? mark)
+    go (yes h) = ap not (no= (omega (arith, h))) ∙ sym (yes≤ h)
+    go (no h) = ap not (yes= (omega (arith, h))) ∙ sym (no≤ (omega (arith, h)))
+
+-- the period turns and there is an order, as the code tests it
+module _ (s : List ℕ) {turning : Bool} (e : turning ≡ turns s) where
+  pub ready_turning : {mark : ℕ} {ready : Bool} → turning ≡ true → mark ≡ reg s clock_row order_mark_place → ready ≡ not (mark =? 0)
+      → ready ≡ turns s and 1 ≤? reg s clock_row order_mark_place
+  ready_turning {mark} t p v = and_on (sym e ∙ t) (v ∙ positive mark ∙ ap (λ (m : ℕ). 1 ≤? m) p)
+
+  pub ready_within : {ready : Bool} → turning ≡ false → ready ≡ turning → ready ≡ turns s and 1 ≤? reg s clock_row order_mark_place
+  ready_within f v = v ∙ f ∙ and_no _ (sym e ∙ f)
+
+-- then the order's period decides
+module _ (s : List ℕ) {ready : Bool} (e : ready ≡ turns s and 1 ≤? reg s clock_row order_mark_place) where
+  pub due_none : ready ≡ false → ready ≡ is_due s
   unfolding is_due
-  due_within f = and_no _ (sym e ∙ f)
+  due_none f = f ∙ and_no _ (sym e ∙ f) ∙ sym (and_assoc (turns s) (1 ≤? reg s clock_row order_mark_place) _)
 
-  module _ (t : turning ≡ true) (mark : ℕ) (p : mark ≡ reg s clock_row order_mark_place) where
-    pub due_none : mark ≡ 0 → false ≡ is_due s
-    unfolding is_due
-    due_none z = and_on (sym e ∙ t) (and_no _ (no≤ (let h : reg s clock_row order_mark_place < 1 = omega arith in h)))
+  pub due_rest : {at number : ℕ} → ready ≡ true → at ≡ reg s clock_row order_period_place → number ≡ next_number (reg s clock_row number_place)
+      → (at =? number) ≡ is_due s
+  unfolding is_due
+  due_rest t a n = and_on (sym e ∙ t) (ap₂ ◌=?◌ a n) ∙ sym (and_assoc (turns s) (1 ≤? reg s clock_row order_mark_place) _)
 
-    pub due_rest : (at number : ℕ) → (mark ≡ 0 → ⊥) → at ≡ reg s clock_row order_period_place → number ≡ next_number (reg s clock_row number_place)
-        → (at =? number) ≡ is_due s
-    unfolding is_due
-    due_rest at number ne a n =
-        and_on (sym e ∙ t)
-        (and_on (yes≤ (let h : 1 ≤ reg s clock_row order_mark_place = omega (arith, ne) in h)) (ap₂ ◌=?◌ a n))
+-- one of two, as an `if` gives it
+pub picked_first : {A : Type 0} {test : Bool} {v a : A} (b : A) → test ≡ true → v ≡ a → v ≡ pick test a b
+picked_first {a = a} b t e = e ∙ sym (ap (λ (x : Bool). pick x a b) t)
+
+pub picked_second : {A : Type 0} {test : Bool} {v b : A} (a : A) → test ≡ false → v ≡ b → v ≡ pick test a b
+picked_second {b = b} a t e = e ∙ sym (ap (λ (x : Bool). pick x a b) t)
 
 -- the registers of the clock, set in turn
 pub clock_is : (s : List ℕ) (cycle number schedule mark : ℕ) {a b d after : List ℕ}

@@ -1,6 +1,6 @@
 -- The loop over the nodes: the rows and the memories so far, one node more, and the stage and the memories that this is in the end.
 -- Assumes nothing.
-use Rattle.std.proofs.Common.{◌≡◌, ℕ, ◌+◌, ◌*◌, ◌/◌, ◌%◌, ◌<◌, ◌≤◌, min, Bool, true, false, List, [], length, set, sym, refl, ap, ◌∙◌, subst, ap₂, mul-le-mul_right, mod-lt, div-lt_iff_lt-mul, div-add-mod', arith, length-set, get_or-set_other, get_or-set_same}
+use Rattle.std.proofs.Common.{◌≡◌, ℕ, ◌+◌, ◌*◌, ◌/◌, ◌%◌, ◌<◌, ◌≤◌, Bool, true, false, List, [], length, set, sym, refl, ap, ◌∙◌, subst, ap₂, mul-le-mul_right, mod-lt, div-lt_iff_lt-mul, div-add-mod', arith, length-set, get_or-set_other, get_or-set_same}
 use mathlib.Core.Bool.{false≢true}
 use native.Mathlib.Decide.{ℕ_discrete, dec_lt}
 use Rattle.words.specs.Tests.{◌≤?◌, ◌=?◌}
@@ -9,6 +9,9 @@ use Rattle.words.proofs.TestLaws.{and_no, and_both, and_no_right, yes≤, no≤,
 use Rattle.words.proofs.WordLaws.{tab_is}
 use Rattle.sheet.specs.Sheet.{nodes}
 use Rattle.occupancy.specs.Inner.Occupancy.{bit_at, NextTaken}
+use Rattle.occupancy.specs.Inner.Places.{Passed}
+use Rattle.occupancy.specs.declared.TakenPlaces.{TakenPlaces}
+use Rattle.occupancy.proofs.WalkLaws.{On, Gave, Ended, still_on, next_place, none_left}
 use Rattle.network.specs.Registers.{reg, sheet_in, room, moving_words, out_mark, out_word, receive_mark, receive_kind, receive_address, landing_mark, landing_word}
 use Rattle.network.specs.Inner.Machine.{memory_mark, memory_word, memory_after, next_in_row, next_memory, strays_in}
 use Rattle.network.specs.Inner.Stages.{stage}
@@ -17,7 +20,6 @@ use Rattle.network.proofs.FillLaws.{Staged, stage_start, stage_more, stage_jump,
 use Rattle.receivers.specs.Inner.Required.{Receivable, LandingFits}
 use Rattle.receivers.specs.Inner.Written.{landing_put, receive_put, memory_put}
 use Rattle.receivers.proofs.NodeLaws.{SameAt, node_wrote, Rests}
-use Rattle.receivers.proofs.ClearLaws.{cleared_length}
 use Rattle.receivers.proofs.ClearedLaws.{cleared_receivable, cleared_memory, cleared_rests, cleared_rows}
 
 -- a payload word that does not stray has an address within the memory
@@ -70,24 +72,21 @@ receiving_start s m size =
 
 -- from a node that is done to the next that may have something on its memory output: the nodes between rest
 receiving_pass : (s m : List ℕ) (count size outs n next : ℕ) (now memory : List ℕ) → count ≤ 16
-    → ((k : ℕ) → k < count → bit_at outs k ≡ 0 → Rests s k) → n ≤ count → NextTaken outs n next → Receiving s m size n now memory
-    → Receiving s m size (min next count) now memory
+    → ((k : ℕ) → k < count → bit_at outs k ≡ 0 → Rests s k) → next ≤ count → NextTaken outs n next → Receiving s m size n now memory
+    → Receiving s m size next now memory
 receiving_pass s m count size outs n next now memory few rests inside t p = record {
   staged =
-      stage_jump receive_mark landing_word n (min next count) (next_in_row s []) s now (omega arith) (omega arith) onward p.staged
+      stage_jump receive_mark landing_word n next (next_in_row s []) s now (omega arith) (omega arith) t.onward p.staged
       (λ k a b. (passed k a b).stays);
   same_length = p.same_length;
   stored = λ node address l h. go node address l h (dec_lt node n);
-  kept = λ k l. p.kept k (let before : n * size ≤ min next count * size = mul-le-mul_right size onward in omega arith);
+  kept = λ k l. p.kept k (let before : n * size ≤ next * size = mul-le-mul_right size t.onward in omega arith);
 }
   where
-    onward : n ≤ min next count
-    onward = omega (arith, t.onward)
+    passed : (k : ℕ) → n ≤ k → k < next → Rests s k
+    passed k a b = rests k (omega arith) (t.passed k a b)
 
-    passed : (k : ℕ) → n ≤ k → k < min next count → Rests s k
-    passed k a b = rests k (omega arith) (t.passed k a (omega arith))
-
-    go : (node address : ℕ) → node < min next count → address < size → Dec (node < n)
+    go : (node address : ℕ) → node < next → address < size → Dec (node < n)
         → word memory (node * size + address) ≡ memory_after s node address (word m (node * size + address))
     go node address l h (yes b) = p.stored node address b h
     go node address l h (no nb) =
@@ -97,10 +96,7 @@ receiving_pass s m count size outs n next now memory few rests inside t p = reco
         p.kept (node * size + address) (omega arith) ∙ after_none s node address _ (no≤ quiet)
 
 module _ (s m : List ℕ) (count size : ℕ) (g : Receivable s m count size) where
-  module _ (n : ℕ) (now memory : List ℕ) (l : n < count) (so_far : Receiving s m size (min n count) now memory) where
-    p : Receiving s m size n now memory
-    p = subst (λ (i : ℕ). Receiving s m size i now memory) (let inside : min n count ≡ n = omega arith in inside) so_far
-
+  module _ (n : ℕ) (now memory : List ℕ) (l : n < count) (p : Receiving s m size n now memory) where
     few : n < 16
     few = omega (arith, g.counted.few_nodes)
 
@@ -243,10 +239,7 @@ module _ (s m : List ℕ) (count size : ℕ) (g : Receivable s m count size) whe
             }
 
   -- all nodes are done
-  module _ (node : ℕ) (now memory : List ℕ) (high : count ≤ node) (so_far : Receiving s m size (min node count) now memory) where
-    full : Receiving s m size count now memory
-    full = subst (λ (n : ℕ). Receiving s m size n now memory) (let all_done : min node count ≡ count = omega arith in all_done) so_far
-
+  module _ (now memory : List ℕ) (full : Receiving s m size count now memory) where
     rows_done : Staged receive_mark landing_word count (next_in_row s []) s now
     rows_done = full.staged
 
@@ -266,6 +259,11 @@ module _ (s m : List ℕ) (count size : ℕ) (g : Receivable s m count size) whe
         tab_is memory (length m) (λ k. memory_after s (k / size) (k % size) (word m k)) full.same_length word_done
         ∙ ap (λ (r : ℕ). tab (length m) (λ k. memory_after s (k / r) (k % r) (word m k))) g.counted.own_room
 
+-- so far in a walk through the nodes of a mask
+pub record Round (s m : List ℕ) (count size outs : ℕ) (walk : TakenPlaces) (now memory : List ℕ) : Type 0 where
+  pub on : On outs count walk
+  pub so_far : Receiving s m size walk.from now memory
+
 -- the landings are cleared, and then the nodes of a mask are stepped, since the others rest
 module _ (s m : List ℕ) (count size outs : ℕ) {cleared : List ℕ} (g : Receivable s m count size)
     (none : (node : ℕ) → node < count → bit_at outs node ≡ 0 → (memory_mark s node ≡ 0) × (memory_word s node ≡ 0))
@@ -276,28 +274,41 @@ module _ (s m : List ℕ) (count size outs : ℕ) {cleared : List ℕ} (g : Rece
   rests : (k : ℕ) → k < count → bit_at outs k ≡ 0 → Rests cleared k
   rests k l b = cleared_rests s count g.counted.few_nodes e g.long k l (none k l b)
 
-  pub round_start : (next : ℕ) → NextTaken outs 0 next → Receiving cleared m size (min next count) cleared m
-  round_start next t =
-      receiving_pass cleared m count size outs 0 next cleared m g.counted.few_nodes rests (omega arith) t (receiving_start cleared m size)
+  module _ (walk : TakenPlaces) (now memory : List ℕ) (p : Round cleared m count size outs walk now memory) where
+    module _ (after : TakenPlaces) where
+      -- the walk gives a node, and those before it are done
+      module _ (node : ℕ) (t : Gave walk node after) where
+        next : Passed outs walk.from count node after.from
+        next = next_place outs count walk p.on after node t
 
-  module _ (node : ℕ) (now memory : List ℕ) (p : Receiving cleared m size (min node count) now memory) where
-    pub round_fits : node < count → LandingFits now node size
-    round_fits l = landing_now cleared m count size ready node now memory l p
+        to_here : Receiving cleared m size node now memory
+        to_here =
+            receiving_pass cleared m count size outs walk.from node now memory g.counted.few_nodes rests (omega (arith, next.below)) next.next
+            p.so_far
 
-    pub round_more : node < count → (after new : List ℕ) → after ≡ receive_put (landing_put now node) node → new ≡ memory_put now memory node size
-        → (next : ℕ) → NextTaken outs (node + 1) next → Receiving cleared m size (min next count) after new
-    round_more l after new a b next t =
-        receiving_pass cleared m count size outs (node + 1) next after new g.counted.few_nodes rests (omega arith) t
-        (receiving_more cleared m count size ready node now memory l p after new a b)
+        pub round_fits : LandingFits now node size
+        round_fits = landing_now cleared m count size ready node now memory next.below to_here
 
-    pub round_length : length now ≡ length s
-    round_length = p.staged.same_length ∙ cleared_length s count e g.long
+        pub round_more : (then new : List ℕ) → then ≡ receive_put (landing_put now node) node → new ≡ memory_put now memory node size
+            → Round cleared m count size outs after then new
+        round_more then new a b = record {
+          on = still_on outs count walk p.on after node t;
+          so_far =
+              subst (λ (n : ℕ). Receiving cleared m size n then new) (sym next.onward)
+              (receiving_more cleared m count size ready node now memory next.below to_here then new a b);
+        }
 
-    pub round_rows : count ≤ node → now ≡ stage receive_mark landing_word (nodes (sheet_in s)) (next_in_row s []) s
-    round_rows l =
-        cleared_rows s count g.counted.few_nodes e g.long g.counted.all_nodes
-        (rows_done cleared m count size ready node now memory l p)
+      -- or none is left, and all are done
+      module _ (t : Ended walk after) where
+        all : Receiving cleared m size count now memory
+        all =
+            receiving_pass cleared m count size outs walk.from count now memory g.counted.few_nodes rests (omega arith)
+            (none_left outs count walk p.on after t) p.so_far
 
-    pub round_memory : count ≤ node → memory ≡ next_memory s m
-    round_memory l =
-        memory_done cleared m count size ready node now memory l p ∙ cleared_memory s count g.counted.few_nodes e m size g
+        pub round_rows : now ≡ stage receive_mark landing_word (nodes (sheet_in s)) (next_in_row s []) s
+        round_rows =
+            cleared_rows s count g.counted.few_nodes e g.long g.counted.all_nodes (rows_done cleared m count size ready now memory all)
+
+        pub round_memory : memory ≡ next_memory s m
+        round_memory =
+            memory_done cleared m count size ready now memory all ∙ cleared_memory s count g.counted.few_nodes e m size g

@@ -1,11 +1,14 @@
 -- A receive unit's registers, a node's landing and its memory, from the mark and the word that were read on its memory output.
 -- Assumes nothing.
 use Rattle.std.proofs.Common.{◌≡◌, ℕ, ◌+◌, ◌*◌, ◌<◌, ◌≤◌, List, set, sym, ap, ◌∙◌, ap₂, mul-le-mul, arith}
+use mir.Val.{bool_byte}
+use Rattle.words.specs.Tests.{◌≤?◌}
+use Rattle.words.specs.Words.{pick}
 use Rattle.words.proofs.TestLaws.{yes=, no=, yes≤, no≤}
 use Rattle.packet.specs.Header.{kind_of, address_of}
+use Rattle.network.proofs.ChoiceLaws.{byte_picked}
 use Rattle.network.specs.Registers.{reg, put, receive_mark, receive_kind, receive_address, landing_mark, landing_kind, landing_address, landing_word}
 use Rattle.network.specs.Inner.Machine.{memory_mark, memory_word, next_receive_mark, next_receive_kind, next_receive_address, next_landing_mark}
-use Rattle.receivers.specs.Inner.Required.{LandingFits}
 use Rattle.receivers.specs.Inner.Written.{landing_put, receive_put, memory_put}
 
 module _ (s : List ℕ) (node mark : ℕ) (e : mark ≡ memory_mark s node) where
@@ -54,18 +57,10 @@ module _ (s : List ℕ) (node mark : ℕ) (e : mark ≡ memory_mark s node) wher
   unfolding next_receive_address
   address_held v q ne l = rw (no= (other ne), no≤ (low 2 l)) q
 
-  -- a word that lands has a small address
-  pub address_small : (size v : ℕ) → LandingFits s node size → v ≡ reg s receive_address node → 2 ≤ mark → v < 16384
-  address_small size v g q l = omega (arith, g.lands (high 2 l), g.small_room)
-
   -- the landing's mark
-  pub landing_some : 2 ≤ mark → 1 ≡ next_landing_mark s node
+  pub landing_marked : {v : ℕ} → v ≡ bool_byte (2 ≤? mark) → v ≡ next_landing_mark s node
   unfolding next_landing_mark
-  landing_some l = rw (yes≤ (high 2 l))
-
-  pub landing_none : mark < 2 → 0 ≡ next_landing_mark s node
-  unfolding next_landing_mark
-  landing_none l = rw (no≤ (low 2 l))
+  landing_marked h = h ∙ byte_picked (2 ≤? mark) ∙ ap (λ (m : ℕ). pick (2 ≤? m) 1 0) e
 
   -- the memories
   pub memory_kept : (m : List ℕ) (size : ℕ) → mark < 2 → m ≡ memory_put s m node size

@@ -1,6 +1,5 @@
 // The clock's row: the cycle, the period counter, and the order that a new period may carry out.
 ghost use Rattle.std.specs.Prelude.{◌≡◌, []};
-ghost use Rattle.words.specs.Words.{pick};
 ghost use Rattle.sheet.specs.Sheet.{period};
 ghost use Rattle.network.specs.Cycle.{next_number};
 ghost use Rattle.network.specs.Registers.{reg as reg_of, sheet_in, clock_row, number_place, in_force_place, clock_words};
@@ -13,16 +12,6 @@ use network::{
     CLOCK_ROW, CYCLE_PLACE, IN_FORCE_PLACE, NUMBER_PLACE, ORDER_MARK_PLACE, ORDER_PERIOD_PLACE,
     ORDER_SCHEDULE_PLACE, put_reg, reg,
 };
-
-// One of two words.
-fn picked(test: bool, a: u32, b: u32) -> u32
-    ensures { result ≡ pick test a b }
-{
-    if test {
-        return a;
-    }
-    b
-}
 
 // The period of the schedule in force. A sound state meets the requires, here and below.
 pub fn period_now(s: &[u32]) -> u32
@@ -38,13 +27,9 @@ fn is_due(s: &[u32], turning: bool, number: u32) -> bool
     requires { (turning ≡ turns s.now) × (number ≡ next_number (reg_of s.now clock_row number_place)) }
     ensures { result ≡ is_due s.now }
 {
-    if turning {
-        if reg(s, CLOCK_ROW, ORDER_MARK_PLACE) == 0 {
-            return false;
-        }
-        return reg(s, CLOCK_ROW, ORDER_PERIOD_PLACE) == number;
-    }
-    false
+    turning
+        && reg(s, CLOCK_ROW, ORDER_MARK_PLACE) != 0
+        && reg(s, CLOCK_ROW, ORDER_PERIOD_PLACE) == number
 }
 
 // Sets the cycle, the number of the period, the schedule in force and the order's mark.
@@ -71,16 +56,14 @@ pub fn step_clock(s: &mut [u32])
     let cycle = reg(s, CLOCK_ROW, CYCLE_PLACE) + 1;
     let turning = cycle == period;
     let number = reg(s, CLOCK_ROW, NUMBER_PLACE);
-    let after = std::num::wrapping_add_u32(number, 1);
+    let after = number.wrapping_add(1);
     let due = is_due(s, turning, after);
     let ordered = reg(s, CLOCK_ROW, ORDER_SCHEDULE_PLACE);
-    let schedule = picked(due, ordered, reg(s, CLOCK_ROW, IN_FORCE_PLACE));
-    let mark = picked(due, 0, reg(s, CLOCK_ROW, ORDER_MARK_PLACE));
-    put_clock(
-        s,
-        picked(turning, 0, cycle),
-        picked(turning, after, number),
-        schedule,
-        mark,
-    );
+    let in_force = reg(s, CLOCK_ROW, IN_FORCE_PLACE);
+    let order_mark = reg(s, CLOCK_ROW, ORDER_MARK_PLACE);
+    let schedule = if due { ordered } else { in_force };
+    let mark = if due { 0 } else { order_mark };
+    let next_cycle = if turning { 0 } else { cycle };
+    let next_number = if turning { after } else { number };
+    put_clock(s, next_cycle, next_number, schedule, mark);
 }

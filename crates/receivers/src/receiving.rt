@@ -11,23 +11,11 @@ ghost use Rattle.receivers.specs.Inner.Required.{Counted, Receivable, LandingFit
 ghost use Rattle.receivers.specs.Inner.Written.{landing_put, receive_put, memory_put};
 
 use network::{
-    LANDING_ADDRESS, LANDING_KIND, LANDING_MARK, LANDING_WORD, MEMORY_OUTPUT, OUT_MARK, OUT_WORD,
-    OUTPUTS, RECEIVE_ADDRESS, RECEIVE_KIND, RECEIVE_MARK, ROW_WORDS, put_reg, reg,
+    LANDING_ADDRESS, LANDING_ADDRESSES, LANDING_KIND, LANDING_KINDS, LANDING_MARK, LANDING_MARKS,
+    LANDING_WORD, LANDING_WORDS, MEMORY_OUTPUT, OUT_MARK, OUT_WORD, OUTPUTS, RECEIVE_ADDRESS,
+    RECEIVE_ADDRESSES, RECEIVE_KIND, RECEIVE_KINDS, RECEIVE_MARK, put_reg, reg,
 };
 use packet::Header;
-
-// Where the rows begin that are read and written by proved indices.
-const RECEIVE_KINDS: usize = RECEIVE_KIND as usize * ROW_WORDS;
-
-const RECEIVE_ADDRESSES: usize = RECEIVE_ADDRESS as usize * ROW_WORDS;
-
-const LANDING_MARKS: usize = LANDING_MARK as usize * ROW_WORDS;
-
-const LANDING_KINDS: usize = LANDING_KIND as usize * ROW_WORDS;
-
-const LANDING_ADDRESSES: usize = LANDING_ADDRESS as usize * ROW_WORDS;
-
-const LANDING_WORDS: usize = LANDING_WORD as usize * ROW_WORDS;
 
 // The mark on a node's memory output. The loops over the nodes stay below 16, here and below.
 fn memory_mark(s: &[u32], node: u32) -> u32
@@ -53,10 +41,7 @@ fn does_stray(s: &[u32], node: u32, room: u32) -> bool
     if memory_mark(s, node) < 2 {
         return false;
     }
-    if reg(s, RECEIVE_MARK, node) == 0 {
-        return true;
-    }
-    room <= reg(s, RECEIVE_ADDRESS, node)
+    reg(s, RECEIVE_MARK, node) == 0 || room <= reg(s, RECEIVE_ADDRESS, node)
 }
 
 // A word strays at some node, of which those beside the mask have nothing on their memory output. The cycle calls it on a sound state, whose
@@ -65,17 +50,16 @@ pub fn has_stray_among(s: &[u32], nodes: u32, room: u32, outs: u64) -> bool
     requires { (Counted s.now nodes room) × ((node : _) → node < nodes → bit_at outs node ≡ 0 → memory_mark s.now node ≡ 0) }
     ensures { result ≡ any (nodes_of (sheet_in s.now)) (strays_in s.now) }
 {
-    let mut node = occupancy::next_taken(outs, 0);
-    while node < nodes {
+    for node in occupancy::places(outs, nodes) {
         if does_stray(s, node, room) {
             return true;
         }
-        node = occupancy::next_taken(outs, node + 1);
     }
     false
 }
 
-// A word strays at some node. The cycle calls it on a sound state, whose sheet passes, with the sheet's numbers.
+// A word strays at some node. No crate calls it now: the cycle calls has_stray_among. Whoever does so on a sound state, whose sheet passes,
+// with the sheet's numbers, meets the requires.
 pub fn has_stray(s: &[u32], nodes: u32, room: u32) -> bool
     requires { Counted s.now nodes room }
     ensures { result ≡ any (nodes_of (sheet_in s.now)) (strays_in s.now) }
@@ -83,46 +67,51 @@ pub fn has_stray(s: &[u32], nodes: u32, room: u32) -> bool
     has_stray_among(s, nodes, room, network::ALL_NODES)
 }
 
-// The receive unit's mark after a cycle: a header sets it, a packet's last word drops it.
-fn next_receive_mark(s: &[u32], node: u32) -> u32
-    requires { node < 16 }
-    ensures { result ≡ next_receive_mark s.now node }
-{
-    let mark = memory_mark(s, node);
-    if mark == 1 {
-        return 1;
-    }
-    if mark >= 3 {
-        return 0;
-    }
-    reg(s, RECEIVE_MARK, node)
+// What a receive unit holds.
+#[derive(Clone, Copy)]
+struct Receiver {
+    mark: u32,
+    kind: u32,
+    address: u32,
 }
 
-// Its kind: a header's.
-fn next_receive_kind(s: &[u32], node: u32) -> u32
-    requires { node < 16 }
-    ensures { result ≡ next_receive_kind s.now node }
-{
-    if memory_mark(s, node) == 1 {
-        return Header(memory_word(s, node)).kind();
-    }
-    reg(s, RECEIVE_KIND, node)
-}
-
-// Its address: a header's, and one more behind each payload word. No word strays, so it cannot wrap.
-fn next_receive_address(s: &[u32], node: u32, room: u32) -> u32
+// The receive unit after a cycle: a header begins a packet and gives its kind and address, each payload word counts the address on, and the
+// packet's last drops the mark. No word strays, so the address cannot wrap.
+fn next_receiver(s: &[u32], node: u32, room: u32) -> Receiver
     requires { LandingFits s.now node room }
-    ensures { result ≡ next_receive_address s.now node }
+    ensures mark { result.mark ≡ next_receive_mark s.now node }
+    ensures kind { result.kind ≡ next_receive_kind s.now node }
+    ensures address { result.address ≡ next_receive_address s.now node }
 {
-    let mark = memory_mark(s, node);
-    if mark == 1 {
-        return Header(memory_word(s, node)).address();
+    let word_mark = memory_mark(s, node);
+    if word_mark == 1 {
+        let header = Header(memory_word(s, node));
+        return Receiver {
+            mark: 1,
+            kind: header.kind(),
+            address: header.address(),
+        };
     }
+    let mark = reg(s, RECEIVE_MARK, node);
+    let kind = reg(s, RECEIVE_KIND, node);
     let address = reg(s, RECEIVE_ADDRESS, node);
-    if mark >= 2 {
-        return address + 1;
+    match word_mark {
+        0 => Receiver {
+            mark,
+            kind,
+            address,
+        },
+        2 => Receiver {
+            mark,
+            kind,
+            address: address + 1,
+        },
+        _ => Receiver {
+            mark: 0,
+            kind,
+            address: address + 1,
+        },
     }
-    address
 }
 
 // Whether a word lands: a payload word does.
@@ -130,10 +119,7 @@ fn next_landing_mark(s: &[u32], node: u32) -> u32
     requires { node < 16 }
     ensures { result ≡ next_landing_mark s.now node }
 {
-    if memory_mark(s, node) >= 2 {
-        return 1;
-    }
-    0
+    u32::from(memory_mark(s, node) >= 2)
 }
 
 // Stores a payload word at the receive unit's address; the place is reckoned in 64 bits, so that it cannot wrap.
@@ -152,7 +138,7 @@ fn put_memory(s: &[u32], m: &mut [u32], node: u32, room: u32)
     );
 }
 
-// Sets the four registers of a node's stored landing.
+// Sets the four registers of a node's stored landing. All is read before; by name, here and below, since a loop over rows is no plainer.
 fn put_landing(s: &mut [u32], node: u32)
     requires { node < 16 }
     ensures { s.new ≡ landing_put s.old node }
@@ -172,12 +158,10 @@ fn put_receive(s: &mut [u32], node: u32, room: u32)
     requires { LandingFits s.old node room }
     ensures { s.new ≡ receive_put s.old node }
 {
-    let mark = next_receive_mark(s, node);
-    let kind = next_receive_kind(s, node);
-    let address = next_receive_address(s, node, room);
-    put_reg(s, RECEIVE_MARK, node, mark);
-    put_reg(s, RECEIVE_KIND, node, kind);
-    put_reg(s, RECEIVE_ADDRESS, node, address);
+    let next = next_receiver(s, node, room);
+    put_reg(s, RECEIVE_MARK, node, next.mark);
+    put_reg(s, RECEIVE_KIND, node, next.kind);
+    put_reg(s, RECEIVE_ADDRESS, node, next.address);
 }
 
 // Steps one node: its landing is put before its receive unit goes on. Where its memory output is empty, as most are, the receive unit stays.
@@ -200,16 +184,13 @@ pub fn clear_landings(s: &mut [u32], nodes: u32)
     requires { (nodes ≤ 16) × (moving_words ≤ length s.old) }
     ensures { s.new ≡ stage landing_mark landing_word nodes (unlanded s.old) s.old }
 {
-    let end = nodes as usize;
-    let mut node: usize = 0;
-    while node < end {
+    for node in 0..nodes as usize {
         let kind = s[RECEIVE_KINDS + node];
         let address = s[RECEIVE_ADDRESSES + node];
         s[LANDING_MARKS + node] = 0;
         s[LANDING_KINDS + node] = kind;
         s[LANDING_ADDRESSES + node] = address;
         s[LANDING_WORDS + node] = 0;
-        node += 1;
     }
 }
 
@@ -225,14 +206,13 @@ pub fn step_receivers_among(s: &mut [u32], m: &mut [u32], nodes: u32, room: u32,
         return;
     }
     clear_landings(s, nodes);
-    let mut node = occupancy::next_taken(outs, 0);
-    while node < nodes {
+    for node in occupancy::places(outs, nodes) {
         step_receiver(s, m, node, room);
-        node = occupancy::next_taken(outs, node + 1);
     }
 }
 
-// The nodes' rows and the memories after a cycle, in place, whatever there is at the nodes. The cycle calls it once number 20 is excluded.
+// The nodes' rows and the memories after a cycle, in place, whatever there is at the nodes. No crate calls it now: the cycle calls
+// step_receivers_among. Whoever does so on a sound state, once number 20 is excluded, meets the requires.
 pub fn step_receivers(s: &mut [u32], m: &mut [u32], nodes: u32, room: u32)
     requires { Receivable s.old m.old nodes room }
     ensures state { s.new ≡ stage receive_mark landing_word (nodes_of (sheet_in s.old)) (next_in_row s.old []) s.old }

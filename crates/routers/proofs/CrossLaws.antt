@@ -17,15 +17,18 @@ use Rattle.words.proofs.TestLaws.{and_no_right, or_on, or_false, or_pairs, is=, 
 use Rattle.words.proofs.WordLaws.{count_of_more, length_tab, tab_at, tab_is}
 use Rattle.sheet.specs.Sheet.{nodes}
 use Rattle.occupancy.specs.Inner.Occupancy.{NextTaken}
+use Rattle.occupancy.specs.Inner.Places.{Passed}
+use Rattle.occupancy.specs.declared.TakenPlaces.{TakenPlaces}
+use Rattle.occupancy.proofs.WalkLaws.{On, Begun, Gave, Ended, still_on, next_place, none_left}
 use Rattle.network.specs.Registers.{reg, sheet_in, head_mark, head_word, choice_row, at, row_words, moving_words}
 use Rattle.network.specs.Inner.Machine.{first_mark, first_word, asked_mark, next_out_mark, next_out_word, collides_in, unchosen_in}
 use Rattle.network.specs.Inner.Live.{EmptyBeside}
 use Rattle.network.proofs.FirstLaws.{word_empty}
-use Rattle.routers.specs.Inner.Crossing.{asking, unchosen_at, Crossed, CrossedNode}
+use Rattle.routers.specs.Inner.Crossing.{asking, unchosen_at, Crossed, CrossedInputs}
 use Rattle.routers.proofs.OrderLaws.{passed, passed_some, passed_own, passed_other, passed_start, passed_end, passed_over}
 use Rattle.routers.proofs.InputLaws.{crossed_empty}
-use Rattle.links.proofs.WalkLaws.{reached}
-use Rattle.routers.proofs.PlaceLaws.{same_pick, zero_pick, some_sum, two_more, and_yes, no_nodes}
+use Rattle.network.proofs.ChoiceLaws.{same_pick}
+use Rattle.routers.proofs.PlaceLaws.{zero_pick, some_sum, two_more, and_yes, no_nodes}
 
 -- what the inputs of the node at a place ask of it, and the words that they have
 abbrev asked : List ℕ → ℕ → ℕ → ℕ
@@ -221,24 +224,24 @@ crossing_more s n k marks cells marks' cells' faults fault small l g x = record 
         (count_first (asked s p) (passed p k) ∙ ap (λ m. 1 ≤? m) (sym (g.marks_at p pl)))
         ∙ ap (λ c. 2 ≤? c) (sym (count_step s p k))
 
--- the five inputs of one node more
-crossing_node : (s : List ℕ) (n node : ℕ) (marks cells marks' cells' : List ℕ) (faults fault : ℕ) → n ≤ 16 → node < n
-    → Crossing s n (node * 5) marks cells faults → CrossedNode s (node * 5) marks cells marks' cells' fault
-    → Crossing s n ((node + 1) * 5) marks' cells' (faults + fault)
-crossing_node s n node marks cells marks' cells' faults fault few l g x =
-    let k : ℕ = node * 5 in
-    let small : n * 5 < 81 = omega arith in
-    let inside : k + 4 < n * 5 = omega arith in
-    let step : (i i' : ℕ) (m w m' w' : List ℕ) (f f' : ℕ) → i < n * 5 → i + 1 ≡ i' → Crossing s n i m w f → Crossed s i m w m' w' f'
-    → Crossing s n i' m' w' (f + f') =
-    λ i i' m w m' w' f f' il e h y. subst (λ j. Crossing s n j m' w' (f + f')) e (crossing_more s n i m w m' w' f f' small il h y) in
-    let g₁ = step k (k + 1) marks cells x.marks₁ x.cells₁ faults x.fault₁ (omega arith) refl g x.first in
-    let g₂ = step (k + 1) (k + 2) x.marks₁ x.cells₁ x.marks₂ x.cells₂ _ x.fault₂ (omega arith) (omega arith) g₁ x.second in
-    let g₃ = step (k + 2) (k + 3) x.marks₂ x.cells₂ x.marks₃ x.cells₃ _ x.fault₃ (omega arith) (omega arith) g₂ x.third in
-    let g₄ = step (k + 3) (k + 4) x.marks₃ x.cells₃ x.marks₄ x.cells₄ _ x.fault₄ (omega arith) (omega arith) g₃ x.fourth in
-    let g₅ = step (k + 4) ((node + 1) * 5) x.marks₄ x.cells₄ marks' cells' _ x.fault₅ (omega arith) (omega arith) g₄ x.fifth in
-    let sum : faults + x.fault₁ + x.fault₂ + x.fault₃ + x.fault₄ + x.fault₅ ≡ faults + fault = omega (arith, x.sum) in
-    subst (Crossing s n ((node + 1) * 5) marks' cells') sum g₅
+-- so many inputs more, one after the other
+crossing_inputs : (s : List ℕ) (n k : ℕ) (marks cells : List ℕ) (faults : ℕ) → n * 5 < 81 → Crossing s n k marks cells faults
+    → (count : ℕ) (marks' cells' : List ℕ) (more : ℕ) → k + count ≤ n * 5 → CrossedInputs s k marks cells count marks' cells' more
+    → Crossing s n (k + count) marks' cells' (faults + more)
+unfolding CrossedInputs
+crossing_inputs s n k marks cells faults small g zero marks' cells' more l x =
+    let place : k ≡ k + 0 = omega arith in
+    let sum : faults ≡ faults + more = omega (arith, x.2) in
+    subst (λ (i : ℕ). Crossing s n i marks' cells' (faults + more)) place
+    (subst (λ m. Crossing s n k m cells' (faults + more)) (sym x.0)
+    (subst (λ w. Crossing s n k marks w (faults + more)) (sym x.1) (subst (Crossing s n k marks cells) sum g)))
+crossing_inputs s n k marks cells faults small g (suc count) marks' cells' more l x =
+    let before = crossing_inputs s n k marks cells faults small g count x.marks x.cells x.faults (omega arith) x.before in
+    let place : k + count + 1 ≡ k + suc count = omega arith in
+    let sum : faults + x.faults + x.fault ≡ faults + more = omega (arith, x.sum) in
+    subst (λ (i : ℕ). Crossing s n i marks' cells' (faults + more)) place
+    (subst (Crossing s n (k + count + 1) marks' cells') sum
+    (crossing_more s n (k + count) x.marks x.cells marks' cells' (faults + x.faults) x.fault small (omega arith) before x.last))
 
 -- inputs without a word are passed over
 crossing_over : (s : List ℕ) (n k d : ℕ) (marks cells : List ℕ) (faults : ℕ) → n * 5 < 81 → k + d ≤ n * 5
@@ -255,44 +258,62 @@ crossing_over s n k (suc d) marks cells faults small l empty g =
     (subst (Crossing s n (k + d + 1) marks cells) count
     (crossing_more s n (k + d) marks cells marks cells faults 0 small (omega arith) before none))
 
+-- so far in a walk through the nodes of a mask
+pub record CrossingTo (s : List ℕ) (n heads : ℕ) (walk : TakenPlaces) (marks cells : List ℕ) (faults : ℕ) : Type 0 where
+  pub on : On heads n walk
+  pub so_far : Crossing s n (walk.from * 5) marks cells faults
+
 module _ (s : List ℕ) (n heads : ℕ) (own : n ≡ nodes (sheet_in s)) (few : n ≤ 16) (empty : EmptyBeside s heads head_mark) where
-  -- so are the nodes up to the next of the mask
-  crossing_on : (from next : ℕ) (marks cells : List ℕ) (faults : ℕ) → from ≤ n → NextTaken heads from next
-      → Crossing s n (from * 5) marks cells faults → Crossing s n (reached next n) marks cells faults
+  -- so are the nodes up to the next of the mask, or to the last
+  crossing_on : (from next : ℕ) (marks cells : List ℕ) (faults : ℕ) → next ≤ n → NextTaken heads from next
+      → Crossing s n (from * 5) marks cells faults → Crossing s n (next * 5) marks cells faults
   crossing_on from next marks cells faults l t g =
-      let far : from * 5 ≤ reached next n = omega (arith, t.onward) in
-      let whole : from * 5 + (reached next n - from * 5) ≡ reached next n = omega arith in
+      let far : from * 5 ≤ next * 5 = omega (arith, t.onward) in
+      let whole : from * 5 + (next * 5 - from * 5) ≡ next * 5 = omega arith in
       subst (λ (i : ℕ). Crossing s n i marks cells faults) whole
-      (crossing_over s n (from * 5) (reached next n - from * 5) marks cells faults (omega arith) (omega arith)
+      (crossing_over s n (from * 5) (next * 5 - from * 5) marks cells faults (omega arith) (omega arith)
       (λ i a b. empty i (omega (arith, own)) (t.passed (i / 5) (omega arith) (omega arith))) g)
 
-  pub crossing_first : (next : ℕ) (marks cells : List ℕ) → marks ≡ tab row_words (λ k. 0) → cells ≡ tab row_words (λ k. 0) → NextTaken heads 0 next
-      → Crossing s n (reached next n) marks cells 0
-  crossing_first next marks cells m w t = crossing_on 0 next marks cells 0 (omega arith) t (crossing_start s n marks cells m w)
+  pub crossing_first : (walk : TakenPlaces) (marks cells : List ℕ) → Begun heads n walk → marks ≡ tab row_words (λ k. 0) → cells ≡ tab row_words (λ k. 0)
+      → CrossingTo s n heads walk marks cells 0
+  crossing_first walk marks cells b m w = record {
+    on = b.on;
+    so_far = subst (λ (i : ℕ). Crossing s n (i * 5) marks cells 0) (sym b.at_start) (crossing_start s n marks cells m w);
+  }
 
-  -- one turn: a node's five inputs, and the nodes up to the next of the mask
-  pub crossing_turn : (node next : ℕ) (marks cells marks' cells' : List ℕ) (faults fault : ℕ) → node < n
-      → Crossing s n (reached node n) marks cells faults → CrossedNode s (node * 5) marks cells marks' cells' fault
-      → NextTaken heads (node + 1) next → Crossing s n (reached next n) marks' cells' (faults + fault)
-  crossing_turn node next marks cells marks' cells' faults fault l g x t =
-      let here : reached node n ≡ node * 5 = omega arith in
-      let at_node = subst (λ (i : ℕ). Crossing s n i marks cells faults) here g in
-      crossing_on (node + 1) next marks' cells' (faults + fault) (omega arith) t
-      (crossing_node s n node marks cells marks' cells' faults fault few l at_node x)
+  module _ (walk : TakenPlaces) (marks cells : List ℕ) (faults : ℕ) (g : CrossingTo s n heads walk marks cells faults) (after : TakenPlaces) where
+    -- one turn: the nodes before the next of the mask, and its five inputs
+    module _ (node : ℕ) (t : Gave walk node after) where
+      next : Passed heads walk.from n node after.from
+      next = next_place heads n walk g.on after node t
+
+      pub crossing_inside : node < 16
+      crossing_inside = omega (arith, next.below)
+
+      pub crossing_turn : (marks' cells' : List ℕ) (fault : ℕ) → CrossedInputs s (node * 5) marks cells 5 marks' cells' fault
+          → CrossingTo s n heads after marks' cells' (faults + fault)
+      crossing_turn marks' cells' fault x = record {
+        on = still_on heads n walk g.on after node t;
+        so_far =
+            subst (λ (i : ℕ). Crossing s n (i * 5) marks' cells' (faults + fault)) (sym next.onward)
+            (subst (λ (i : ℕ). Crossing s n i marks' cells' (faults + fault)) (let five : node * 5 + 5 ≡ (node + 1) * 5 = omega arith in five)
+            (crossing_inputs s n (node * 5) marks cells faults (omega arith)
+            (crossing_on walk.from node marks cells faults (omega (arith, next.below)) next.next g.so_far) 5 marks' cells' fault (omega (arith, next.below)) x));
+      }
+
+    -- behind the last node
+    pub crossing_done : Ended walk after → Crossing s n (n * 5) marks cells faults
+    crossing_done t = crossing_on walk.from n marks cells faults (omega arith) (none_left heads n walk g.on after t) g.so_far
 
 -- all inputs
-module _ (s : List ℕ) (n k : ℕ) (marks cells : List ℕ) (faults : ℕ) (own : n ≡ nodes (sheet_in s)) (g : Crossing s n k marks cells faults)
-    (over : n * 5 ≤ k) where
-  whole : k ≡ n * 5
-  whole = omega arith
-
+module _ (s : List ℕ) (n : ℕ) (marks cells : List ℕ) (faults : ℕ) (own : n ≡ nodes (sheet_in s)) (g : Crossing s n (n * 5) marks cells faults) where
   pub crossed_marks : marks ≡ tab row_words (λ p. pick (p <? nodes (sheet_in s) * 5) (next_out_mark s (p / 5) (p % 5)) 0)
   unfolding next_out_mark first_mark
   crossed_marks =
       tab_is marks row_words _ g.marks_length
       (λ p l.
       let fold : ℕ → ℕ = λ i. first_mark i (asked s p) in
-      g.marks_at p l ∙ ap (λ i. fold (passed p i)) whole ∙ passed_over fold p n (nodes (sheet_in s)) own refl)
+      g.marks_at p l ∙ passed_over fold p n (nodes (sheet_in s)) own refl)
 
   pub crossed_cells : cells ≡ tab row_words (λ p. pick (p <? nodes (sheet_in s) * 5) (next_out_word s (p / 5) (p % 5)) 0)
   unfolding next_out_word first_word
@@ -300,7 +321,7 @@ module _ (s : List ℕ) (n k : ℕ) (marks cells : List ℕ) (faults : ℕ) (own
       tab_is cells row_words _ g.cells_length
       (λ p l.
       let fold : ℕ → ℕ = λ i. first_word i (asked s p) (words s p) in
-      g.cells_at p l ∙ ap (λ i. fold (passed p i)) whole ∙ passed_over fold p n (nodes (sheet_in s)) own refl)
+      g.cells_at p l ∙ passed_over fold p n (nodes (sheet_in s)) own refl)
 
   pub crossed_met : (1 ≤? faults)
       ≡ any (nodes (sheet_in s)) (λ node. any 5 (collides_in s node)) or any (nodes (sheet_in s)) (λ node. any 5 (unchosen_in s node))
@@ -308,16 +329,16 @@ module _ (s : List ℕ) (n k : ℕ) (marks cells : List ℕ) (faults : ℕ) (own
   crossed_met =
       g.met
       ∙ ap₂ ◌or◌ (any_by_row _ n 5 ∙ any_same n _ _ (λ node nl. any_same 5 _ _ (λ o ol. at_place node o nl ol)))
-      (ap (λ m. any m (unchosen_at s)) whole ∙ any_by_row (unchosen_at s) n 5)
+      (any_by_row (unchosen_at s) n 5)
       ∙ ap (λ m. any m (λ node. any 5 (collides_in s node)) or any m (λ node. any 5 (unchosen_in s node))) own
     where
       at_place : (node o : ℕ) → node < n → o < 5
-          → (2 ≤? count_of (passed (at node o) k) (λ i. 1 ≤? asked s (at node o) i)) ≡ collides_in s node o
+          → (2 ≤? count_of (passed (at node o) (n * 5)) (λ i. 1 ≤? asked s (at node o) i)) ≡ collides_in s node o
       at_place node o nl ol =
           let inside : at node o < n * 5 = omega arith in
           let of_node : at node o / 5 ≡ node = omega arith in
           let output : at node o % 5 ≡ o = omega arith in
-          ap (λ i. 2 ≤? count_of i (λ i. 1 ≤? asked s (at node o) i)) (ap (passed (at node o)) whole ∙ passed_end (at node o) n inside)
+          ap (λ i. 2 ≤? count_of i (λ i. 1 ≤? asked s (at node o) i)) (passed_end (at node o) n inside)
           ∙ ap₂ (λ (a b : ℕ). 2 ≤? count_of 5 (λ i. 1 ≤? asked_mark s a b i)) of_node output
 
 -- the tables are as long as they were

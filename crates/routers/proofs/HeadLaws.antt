@@ -1,21 +1,23 @@
 -- The header stage of one input, from the words that were read, of the five inputs of a node, and of all nodes of a mask, one after the other.
 -- Assumes nothing.
-use Prim.Native.Nat.{ℕ, ◌+◌, ◌*◌, ◌%◌, ◌<◌, ◌≤◌}
+use Prim.Native.Nat.{ℕ, zero, suc, ◌+◌, ◌*◌, ◌%◌, ◌<◌, ◌≤◌}
 use mathlib.Core.List.{List, []}
 use mathlib.Core.Path.{◌≡◌, refl, sym, subst, ◌∙◌, ap, ap₂}
 use native.Mathlib.Omega.{arith}
+use native.Mathlib.Numerals.{add-one}
 use lib.ListN.{length}
 use lib.Seq.{set-get_or}
 use Rattle.words.specs.Tests.{◌=?◌}
 use Rattle.words.proofs.TestLaws.{yes=, no=, no≤}
-use Rattle.occupancy.specs.Inner.Occupancy.{NextTaken}
+use Rattle.occupancy.specs.declared.TakenPlaces.{TakenPlaces}
+use Rattle.occupancy.proofs.WalkLaws.{Gave}
 use Rattle.network.specs.Cycle.{output_for}
 use Rattle.network.specs.Registers.{reg, put, moving_words, link_mark, link_word, head_mark, head_word, choice_row, latch_row, row_words}
 use Rattle.network.specs.Inner.Machine.{next_head_word, next_choice, next_latch, row_in, next_rows, next_in_row}
 use Rattle.network.proofs.PutLaws.{put_other}
 use Rattle.network.proofs.FillLaws.{Wrote, wrote_one, wrote_more, Staged, stage_more, still, beside}
-use Rattle.routers.specs.Inner.Stepping.{head_stepped}
-use Rattle.links.proofs.WalkLaws.{reached, StaysBeside, walk_on, walk_at}
+use Rattle.routers.specs.Inner.Stepping.{head_stepped, heads_stepped}
+use Rattle.links.proofs.WalkLaws.{StaysBeside, Walked, walk_inside, walk_at, walk_more}
 
 -- the output chosen, from the mark m that was read
 module _ (input latch mark w m : ℕ) (e : m ≡ mark) where
@@ -109,36 +111,38 @@ module _ (s now : List ℕ) (k : ℕ) (kl : k < row_words) (long : moving_words 
       stage_more head_mark latch_row k (next_in_row s []) s now next (omega arith) kl g
       (subst (Wrote head_mark latch_row k (λ row. next_in_row s [] row k) now) (sym e) head_wrote)
 
--- the five inputs from input k on, one after the other
-abbrev heads_stepped : List ℕ → ℕ → List ℕ
-heads_stepped s k = head_stepped (head_stepped (head_stepped (head_stepped (head_stepped s k) (k + 1)) (k + 2)) (k + 3)) (k + 4)
+-- the inputs of one node, one more and all five
+pub stepped_none : (s : List ℕ) (k : ℕ) → s ≡ heads_stepped 0 s k
+unfolding heads_stepped
+stepped_none s k = refl
 
-pub heads_five : (k : ℕ) (s s₁ s₂ s₃ s₄ s₅ : List ℕ) → s₁ ≡ head_stepped s k → s₂ ≡ head_stepped s₁ (k + 1) → s₃ ≡ head_stepped s₂ (k + 2)
-    → s₄ ≡ head_stepped s₃ (k + 3) → s₅ ≡ head_stepped s₄ (k + 4) → s₅ ≡ heads_stepped s k
-heads_five k s s₁ s₂ s₃ s₄ s₅ a b c d e =
-    let on : ℕ → List ℕ → List ℕ = λ i x. head_stepped x i in
-    e ∙ ap (on (k + 4)) (d ∙ ap (on (k + 3)) (c ∙ ap (on (k + 2)) (b ∙ ap (on (k + 1)) a)))
+pub stepped_more : (s now next : List ℕ) (k n : ℕ) → now ≡ heads_stepped n s k → next ≡ head_stepped now (k + n) → next ≡ heads_stepped (n + 1) s k
+unfolding heads_stepped
+stepped_more s now next k n e f = rw add-one (f ∙ ap (λ (x : List ℕ). head_stepped x (k + n)) e)
 
--- the five inputs of one node more
-heads_node : (s now : List ℕ) (node : ℕ) → node < 16 → moving_words ≤ length s → Staged head_mark latch_row (node * 5) (next_in_row s []) s now
-    → Staged head_mark latch_row ((node + 1) * 5) (next_in_row s []) s (heads_stepped now (node * 5))
-heads_node s now node l long g =
-    let k : ℕ = node * 5 in
-    let step : (i j : ℕ) (before : List ℕ) → i < row_words → i + 1 ≡ j → Staged head_mark latch_row i (next_in_row s []) s before
-    → Staged head_mark latch_row j (next_in_row s []) s (head_stepped before i) =
-    λ i j before il e h.
-    subst (λ (n : ℕ). Staged head_mark latch_row n (next_in_row s []) s (head_stepped before i)) e (heads_more s before i il long h _ refl) in
-    step (k + 4) ((node + 1) * 5) _ (omega arith) (omega arith)
-    (step (k + 3) (k + 4) _ (omega arith) (omega arith)
-    (step (k + 2) (k + 3) _ (omega arith) (omega arith)
-    (step (k + 1) (k + 2) _ (omega arith) (omega arith) (step k (k + 1) now (omega arith) refl g))))
+heads_inputs : (s now : List ℕ) (k n : ℕ) → k + n ≤ row_words → moving_words ≤ length s → Staged head_mark latch_row k (next_in_row s []) s now
+    → Staged head_mark latch_row (k + n) (next_in_row s []) s (heads_stepped n now k)
+unfolding heads_stepped
+heads_inputs s now k zero l long g =
+    let none : k ≡ k + 0 = omega arith in
+    subst (λ (i : ℕ). Staged head_mark latch_row i (next_in_row s []) s now) none g
+heads_inputs s now k (suc n) l long g =
+    let more : k + n + 1 ≡ k + suc n = omega arith in
+    subst (λ (i : ℕ). Staged head_mark latch_row i (next_in_row s []) s (head_stepped (heads_stepped n now k) (k + n))) more
+    (heads_more s (heads_stepped n now k) (k + n) (omega arith) long (heads_inputs s now k n (omega arith) long g) _ refl)
 
--- one turn: a node's header stages, and the nodes up to the next of the mask
-pub heads_turn : (s now next : List ℕ) (nodes mask node to : ℕ) → moving_words ≤ length s → nodes ≤ 16
-    → StaysBeside head_mark latch_row (next_in_row s []) s nodes mask → Staged head_mark latch_row (reached node nodes) (next_in_row s []) s now
-    → node < nodes → next ≡ heads_stepped now (node * 5) → NextTaken mask (node + 1) to
-    → Staged head_mark latch_row (reached to nodes) (next_in_row s []) s next
-heads_turn s now next nodes mask node to long few stays g l e t =
-    let here = walk_at head_mark latch_row nodes node (next_in_row s []) s now g l in
-    walk_on head_mark latch_row nodes mask (next_in_row s []) s (omega arith) few stays (node + 1) to next (omega arith) t
-    (subst (Staged head_mark latch_row ((node + 1) * 5) (next_in_row s []) s) (sym e) (heads_node s now node (omega arith) long here))
+-- one turn
+module _ (s : List ℕ) (nodes mask : ℕ) (long : moving_words ≤ length s) (few : nodes ≤ 16)
+    (stays : StaysBeside head_mark latch_row (next_in_row s []) s nodes mask)
+    (walk : TakenPlaces) (now : List ℕ) (g : Walked head_mark latch_row nodes mask (next_in_row s []) s walk now) (after : TakenPlaces)
+    (node : ℕ) (t : Gave walk node after) where
+  pub heads_inside : node < 16
+  heads_inside = omega (arith, walk_inside head_mark latch_row nodes mask (next_in_row s []) s (omega arith) few stays walk now g after node t)
+
+  pub heads_turn : (next : List ℕ) → next ≡ heads_stepped 5 now (node * 5) → Walked head_mark latch_row nodes mask (next_in_row s []) s after next
+  heads_turn next e =
+      walk_more head_mark latch_row nodes mask (next_in_row s []) s (omega arith) few stays walk now g after node t next
+      (subst (λ (i : ℕ). Staged head_mark latch_row i (next_in_row s []) s next) (let five : node * 5 + 5 ≡ (node + 1) * 5 = omega arith in five)
+      (subst (Staged head_mark latch_row (node * 5 + 5) (next_in_row s []) s) (sym e)
+      (heads_inputs s now (node * 5) 5 (let few_places : node < 16 = heads_inside in omega arith) long
+      (walk_at head_mark latch_row nodes mask (next_in_row s []) s (omega arith) few stays walk now g after node t))))

@@ -1,21 +1,26 @@
 -- One input of the crossbar: what it asks of each output, and what becomes of the two tables, from the words that were read.
 -- Assumes nothing.
-use Prim.Native.Nat.{ℕ, ◌+◌, ◌-◌, ◌*◌, ◌/◌, ◌%◌, ◌<◌, ◌≤◌}
+use Prim.Native.Nat.{ℕ, zero, suc, ◌+◌, ◌-◌, ◌*◌, ◌/◌, ◌%◌, ◌<◌, ◌≤◌}
 use mathlib.Core.Bool.{Bool, true, false}
-use mathlib.Core.List.{List}
+use mathlib.Core.List.{List, [], ◌∷◌}
 use mathlib.Core.Path.{◌≡◌, refl, sym, subst, ◌∙◌, ap}
 use native.Mathlib.Omega.{arith}
-use native.Mathlib.Decide.{ℕ_discrete}
+use native.Mathlib.Numerals.{add-one}
+use native.Mathlib.Decide.{ℕ_discrete, dec_le}
+use mir.Val.{bool_byte}
 use lib.Bits.{bit_or}
 use lib.ListN.{length, set, length-set}
-use lib.Seq.{get_or-set_same, get_or-set_other}
+use lib.ListN.{get_or, take, drop}
+use lib.Seq.{get_or-take, get_or-drop, get_or-set_same, get_or-set_other}
+use Rattle.std.specs.Prelude.{fold}
 use Rattle.words.specs.Tests.{any, ◌and◌, ◌or◌, ◌≤?◌, ◌=?◌}
 use Rattle.words.specs.Words.{word, pick}
 use Rattle.words.proofs.AllLaws.{any_at, any_none}
 use Rattle.words.proofs.TestLaws.{and_no, and_both, and_no_right, or_yes, or_on, is=, yes=, no=, yes≤, no≤}
 use Rattle.network.specs.Registers.{reg, head_mark, head_word, choice_row, row_words}
-use Rattle.routers.specs.Inner.Crossing.{asking, unchosen_at, Crossed, HeadsEmpty, CrossedNode}
-use Rattle.routers.proofs.PlaceLaws.{same_pick, zero_pick}
+use Rattle.routers.specs.Inner.Crossing.{asking, unchosen_at, Crossed, HeadsEmpty, CrossedInputs}
+use Rattle.network.proofs.ChoiceLaws.{same_pick}
+use Rattle.routers.proofs.PlaceLaws.{zero_pick}
 use Rattle.links.proofs.PairLaws.{or_left, or_right}
 
 -- what becomes of an output's mark and word where nothing is asked of it
@@ -131,6 +136,21 @@ module _ (s : List ℕ) (k : ℕ) (marks cells : List ℕ) (ml : length marks �
       let one : 1 ≤ 1 = omega arith in
       crossed_idle 1 (omega arith) (yes≤ one ∙ sym e) idle
 
+  -- no output is chosen, and the mark decides
+  pub crossed_choiceless : (mark : ℕ) → mark ≡ reg s head_mark k → (choice : ℕ) → choice ≡ reg s choice_row k → choice ≡ 0
+      → (fault : ℕ) → fault ≡ bool_byte (2 ≤? mark) → Crossed s k marks cells marks cells fault
+  crossed_choiceless mark me choice ce z fault e = go (dec_le 2 mark)
+    where
+      none : (p : ℕ) → asking s k p ≡ 0
+      none = asks_none s k choice ce z
+
+      go : Dec (2 ≤ mark) → Crossed s k marks cells marks cells fault
+      go (yes l) =
+          subst (Crossed s k marks cells marks cells) (sym (e ∙ ap bool_byte (yes≤ l))) (crossed_unchosen (unchosen s k choice ce z mark me l) none)
+      go (no g) =
+          let early : mark < 2 = omega (arith, g) in
+          subst (Crossed s k marks cells marks cells) (sym (e ∙ ap bool_byte (no≤ early))) (crossed_none (no_payload s k mark me early) none)
+
   -- an output is asked for, whose place is p
   module _ (mark : ℕ) (me : mark ≡ reg s head_mark k) (some : mark ≡ 0 → ⊥) (choice : ℕ) (ce : choice ≡ reg s choice_row k)
       (low : 1 ≤ choice) (high : choice ≤ 5) (small : k < row_words) (place : ℕ) (pe : place ≡ k / 5 * 5 + choice - 1) where
@@ -229,90 +249,59 @@ module _ (s : List ℕ) (k : ℕ) (marks cells : List ℕ) (ml : length marks �
         (subst (λ w. Crossed s k marks cells (set marks place mark) w 0) (sym b) (stored old oe free h he))
 
 -- the marks of five inputs, joined by or, are 0
-pub heads_empty : (s : List ℕ) (k : ℕ)
-    → bit_or
-    (bit_or
-    (bit_or (bit_or (word s (head_mark * row_words + k)) (word s (head_mark * row_words + k + 1))) (word s (head_mark * row_words + k + 2)))
-    (word s (head_mark * row_words + k + 3)))
-    (word s (head_mark * row_words + k + 4))
-    ≡ 0
+or_zero : (marks : List ℕ) (start : ℕ) → fold bit_or start marks ≡ 0 → (start ≡ 0) × ((i : ℕ) → get_or marks i 0 ≡ 0)
+or_zero [] start e = (e, λ i. refl)
+or_zero (mark ∷ marks) start e = go (or_zero marks (bit_or start mark) e)
+  where
+    at : bit_or start mark ≡ 0 → ((i : ℕ) → get_or marks i 0 ≡ 0) → (i : ℕ) → get_or (mark ∷ marks) i 0 ≡ 0
+    at both rest zero = or_right start mark both
+    at both rest (suc i) = rest i
+
+    go : (bit_or start mark ≡ 0) × ((i : ℕ) → get_or marks i 0 ≡ 0) → (start ≡ 0) × ((i : ℕ) → get_or (mark ∷ marks) i 0 ≡ 0)
+    go (both, rest) = (or_left start mark both, at both rest)
+
+pub heads_empty : (s : List ℕ) (k joined count : ℕ) → count ≡ 5 → joined ≡ fold bit_or 0 (take count (drop (head_mark * row_words + k) s)) → joined ≡ 0
     → HeadsEmpty s k
 unfolding reg
-heads_empty s k e₅ =
-    let m : ℕ = head_mark * row_words + k in
-    let o₂ : ℕ = bit_or (word s m) (word s (m + 1)) in
-    let o₃ : ℕ = bit_or o₂ (word s (m + 2)) in
-    let o₄ : ℕ = bit_or o₃ (word s (m + 3)) in
-    let e₄ = or_left o₄ (word s (m + 4)) e₅ in
-    let e₃ = or_left o₃ (word s (m + 3)) e₄ in
-    let e₂ = or_left o₂ (word s (m + 2)) e₃ in
-    let at₁ : head_mark * row_words + (k + 1) ≡ m + 1 = omega arith in
-    let at₂ : head_mark * row_words + (k + 2) ≡ m + 2 = omega arith in
-    let at₃ : head_mark * row_words + (k + 3) ≡ m + 3 = omega arith in
-    let at₄ : head_mark * row_words + (k + 4) ≡ m + 4 = omega arith in
-    record {
-      first = or_left (word s m) (word s (m + 1)) e₂;
-      second = ap (word s) at₁ ∙ or_right (word s m) (word s (m + 1)) e₂;
-      third = ap (word s) at₂ ∙ or_right o₂ (word s (m + 2)) e₃;
-      fourth = ap (word s) at₃ ∙ or_right o₃ (word s (m + 3)) e₄;
-      fifth = ap (word s) at₄ ∙ or_right o₄ (word s (m + 4)) e₅;
-    }
+heads_empty s k joined count five e z input l =
+    let at : head_mark * row_words + (k + input) ≡ head_mark * row_words + k + input = omega arith in
+    ap (λ i. word s i) at
+    ∙ sym (get_or-drop (head_mark * row_words + k) s input 0)
+    ∙ sym (get_or-take count (drop (head_mark * row_words + k) s) input 0 (omega arith))
+    ∙ (or_zero (take count (drop (head_mark * row_words + k) s)) 0 (sym e ∙ z)).1 input
 
 -- inputs without a word: the tables stay
 module _ (s : List ℕ) (marks cells : List ℕ) (ml : length marks ≡ row_words) (cl : length cells ≡ row_words) where
   pub crossed_empty : (k : ℕ) → reg s head_mark k ≡ 0 → Crossed s k marks cells marks cells 0
   crossed_empty k e = crossed_none s k marks cells ml cl (no_payload s k 0 (sym e) (omega arith)) (asks_empty s k 0 (sym e) refl)
 
-  pub node_empty : (k : ℕ) → HeadsEmpty s k → CrossedNode s k marks cells marks cells 0
-  node_empty k h = record {
-    marks₁ = marks;
-    marks₂ = marks;
-    marks₃ = marks;
-    marks₄ = marks;
-    cells₁ = cells;
-    cells₂ = cells;
-    cells₃ = cells;
-    cells₄ = cells;
-    fault₁ = 0;
-    fault₂ = 0;
-    fault₃ = 0;
-    fault₄ = 0;
-    fault₅ = 0;
-    first = crossed_empty k h.first;
-    second = crossed_empty (k + 1) h.second;
-    third = crossed_empty (k + 2) h.third;
-    fourth = crossed_empty (k + 3) h.fourth;
-    fifth = crossed_empty (k + 4) h.fifth;
+  pub inputs_empty : (k n : ℕ) → ((input : ℕ) → input < n → reg s head_mark (k + input) ≡ 0) → CrossedInputs s k marks cells n marks cells 0
+  unfolding CrossedInputs
+  inputs_empty k zero h = (refl, refl, refl)
+  inputs_empty k (suc n) h = record {
+    marks = marks;
+    cells = cells;
+    faults = 0;
+    fault = 0;
+    before = inputs_empty k n (λ i l. h i (omega arith));
+    last = crossed_empty (k + n) (h n (omega arith));
     sum = refl;
   }
 
--- five inputs, one after the other
-pub node_crossed : (s : List ℕ) (k : ℕ) (m m₁ m₂ m₃ m₄ m₅ w w₁ w₂ w₃ w₄ w₅ : List ℕ) (f₁ f₂ f₃ f₄ f₅ : ℕ)
-    → Crossed s k m w m₁ w₁ f₁ → Crossed s (k + 1) m₁ w₁ m₂ w₂ f₂ → Crossed s (k + 2) m₂ w₂ m₃ w₃ f₃ → Crossed s (k + 3) m₃ w₃ m₄ w₄ f₄
-    → Crossed s (k + 4) m₄ w₄ m₅ w₅ f₅ → CrossedNode s k m w m₅ w₅ (f₁ + f₂ + f₃ + f₄ + f₅)
-node_crossed s k m m₁ m₂ m₃ m₄ m₅ w w₁ w₂ w₃ w₄ w₅ f₁ f₂ f₃ f₄ f₅ a b c d e = record {
-  marks₁ = m₁;
-  marks₂ = m₂;
-  marks₃ = m₃;
-  marks₄ = m₄;
-  cells₁ = w₁;
-  cells₂ = w₂;
-  cells₃ = w₃;
-  cells₄ = w₄;
-  fault₁ = f₁;
-  fault₂ = f₂;
-  fault₃ = f₃;
-  fault₄ = f₄;
-  fault₅ = f₅;
-  first = a;
-  second = b;
-  third = c;
-  fourth = d;
-  fifth = e;
-  sum = refl;
-}
+-- so many inputs, one after the other
+module _ (s : List ℕ) (k : ℕ) (marks cells : List ℕ) where
+  pub inputs_none : CrossedInputs s k marks cells 0 marks cells 0
+  unfolding CrossedInputs
+  inputs_none = (refl, refl, refl)
 
--- five faults at most
-pub node_few : (s : List ℕ) (k : ℕ) (m w m' w' : List ℕ) (faults : ℕ) → CrossedNode s k m w m' w' faults → faults ≤ 5
-node_few s k m w m' w' faults g =
-    omega (arith, g.sum, g.first.one, g.second.one, g.third.one, g.fourth.one, g.fifth.one)
+  pub inputs_more : (n : ℕ) (marks₁ cells₁ marks₂ cells₂ : List ℕ) (faults fault : ℕ) → CrossedInputs s k marks cells n marks₁ cells₁ faults
+      → Crossed s (k + n) marks₁ cells₁ marks₂ cells₂ fault → CrossedInputs s k marks cells (n + 1) marks₂ cells₂ (faults + fault)
+  unfolding CrossedInputs
+  inputs_more n marks₁ cells₁ marks₂ cells₂ faults fault g x =
+      rw add-one (record { marks = marks₁; cells = cells₁; faults = faults; fault = fault; before = g; last = x; sum = refl })
+
+  -- one fault an input at most
+  pub inputs_few : (n : ℕ) (marks' cells' : List ℕ) (faults : ℕ) → CrossedInputs s k marks cells n marks' cells' faults → faults ≤ n
+  unfolding CrossedInputs
+  inputs_few zero marks' cells' faults g = omega (arith, g.2)
+  inputs_few (suc n) marks' cells' faults g = omega (arith, g.sum, g.last.one, inputs_few n g.marks g.cells g.faults g.before)

@@ -2,25 +2,15 @@
 -- Assumes nothing.
 use Prim.Native.Nat.{ℕ, ◌+◌, ◌<◌, ◌≤◌}
 use mathlib.Core.List.{List}
-use mathlib.Core.Path.{◌≡◌, refl, sym, ◌∙◌, ap}
+use mathlib.Core.Path.{◌≡◌, ◌∙◌}
 use native.Mathlib.Omega.{arith}
 use lib.ListN.{length}
-use Rattle.words.specs.Words.{word, pick}
-use Rattle.words.proofs.TestLaws.{yes=, no=}
+use Rattle.words.specs.Words.{word}
 use Rattle.network.specs.Registers.{put, row_words, moving_words, out_mark, out_word}
 use Rattle.network.specs.Inner.Stages.{out_from}
+use Rattle.network.proofs.ChoiceLaws.{out_mark_is, out_word_is}
 use Rattle.network.proofs.FillLaws.{Staged, stage_more}
 use Rattle.links.proofs.PairLaws.{pair_wrote}
-
-pub out_mark_is : (marks cells : List ℕ) (k : ℕ) → word marks k ≡ out_from marks cells out_mark k
-unfolding out_from
-out_mark_is marks cells k = sym (ap (λ t. pick t (word marks k) (word cells k)) (yes= refl))
-
-pub out_word_is : (marks cells : List ℕ) (k : ℕ) → word cells k ≡ out_from marks cells out_word k
-unfolding out_from
-out_word_is marks cells k =
-    let other : out_word ≡ out_mark → ⊥ = λ e. (let z : ⊥ = omega (arith, e) in z) in
-    sym (ap (λ t. pick t (word marks k) (word cells k)) (no= other))
 
 -- one output more
 pub outs_more : (marks cells s now : List ℕ) (k : ℕ) → k < row_words → moving_words ≤ length s → Staged out_mark out_word k (out_from marks cells) s now

@@ -1,7 +1,7 @@
 -- Choices and tests of small numbers that come to the same; and a state that is too short for its rows has no nodes.
 -- Assumes nothing.
 use Prim.Native.Nat.{ℕ, ◌+◌, ◌<◌, ◌≤◌}
-use mathlib.Core.Bool.{Bool, true, false}
+use mathlib.Core.Bool.{Bool, true, false, ◌&&◌}
 use mathlib.Core.List.{List, []}
 use mathlib.Core.Path.{◌≡◌, refl, sym, ◌∙◌, ap}
 use native.Mathlib.Omega.{arith}
@@ -20,17 +20,19 @@ unfolding ◌and◌
 and_yes true = refl
 and_yes false = refl
 
--- choices that come to the same
-pub same_pick : (b : Bool) (a : ℕ) → pick b a a ≡ a
-same_pick true a = refl
-same_pick false a = refl
-
+-- a choice of 0 or what is 0
 pub zero_pick : (a : ℕ) → pick (a =? 0) 0 a ≡ a
 zero_pick a = go (a =? 0) refl
   where
     go : (b : Bool) → (a =? 0) ≡ b → pick b 0 a ≡ a
     go true e = sym (is= a 0 e)
     go false e = refl
+
+-- two tests together, as code has them
+pub both_and : (a b : Bool) → (a && b) ≡ a and b
+unfolding ◌and◌
+both_and true b = refl
+both_and false b = refl
 
 -- one of two numbers is not 0
 pub some_sum : (a b : ℕ) → (1 ≤? a + b) ≡ (1 ≤? a) or (1 ≤? b)

@@ -9,22 +9,11 @@ use lib.ListN.{length}
 use Rattle.words.specs.Tests.{any, ◌and◌, ◌or◌, ◌≤?◌, ◌=?◌}
 use Rattle.words.specs.Words.{pick}
 use Rattle.words.proofs.AllLaws.{any_start, any_more, any_by_row}
-use Rattle.words.proofs.TestLaws.{and_no, and_no_right, and_on, yes≤, no≤, yes=, no=}
+use Rattle.words.proofs.TestLaws.{yes≤, no≤}
 use Rattle.sheet.specs.Sheet.{nodes}
 use Rattle.network.specs.Registers.{reg, sheet_in, moving_words, link_mark, latch_row}
 use Rattle.network.specs.Inner.Machine.{unheld_in}
 use Rattle.routers.proofs.PlaceLaws.{some_sum, no_nodes}
-
--- 1 where a payload word finds no choice held, from the mark and the latch that were read
-module _ (mark latch : ℕ) where
-  pub unheld_some : (latch ≡ 0 → ⊥) → ◌≡◌ {A = ℕ} 0 (pick (2 ≤? mark and latch =? 0) 1 0)
-  unheld_some ne = sym (ap (λ (b : Bool). pick b 1 0) (and_no_right (2 ≤? mark) (latch =? 0) (no= ne)))
-
-  pub unheld_none : latch ≡ 0 → 2 ≤ mark → ◌≡◌ {A = ℕ} 1 (pick (2 ≤? mark and latch =? 0) 1 0)
-  unheld_none e h = ap (λ (b : Bool). pick b 1 0) (and_on (yes≤ h) (sym (yes= e)))
-
-  pub unheld_early : mark < 2 → ◌≡◌ {A = ℕ} 0 (pick (2 ≤? mark and latch =? 0) 1 0)
-  unheld_early h = ap (λ (b : Bool). pick b 1 0) (and_no (latch =? 0) (no≤ h))
 
 -- the loop over the inputs of all nodes, by place
 abbrev unheld_at : List ℕ → ℕ → Bool
@@ -71,10 +60,9 @@ module _ (s : List ℕ) (count : ℕ) (e : count ≡ nodes (sheet_in s) * 5) whe
   unfolding unheld_in
   unheld_by_place = ap (λ n. any n (unheld_at s)) e ∙ any_by_row (unheld_at s) (nodes (sheet_in s)) 5
 
-  pub counting_done : (k faults : ℕ) → Counting s k faults → k ≤ count → count ≤ k
+  pub counting_done : (k faults : ℕ) → Counting s k faults → k ≡ count
       → (1 ≤? faults) ≡ any (nodes (sheet_in s)) (λ node. any 5 (unheld_in s node))
-  counting_done k faults i a b =
-      let same : k ≡ count = omega arith in
+  counting_done k faults i same =
       i.found ∙ ap (λ n. any n (unheld_at s)) same ∙ unheld_by_place
 
   pub unheld_short : length s < moving_words → false ≡ any (nodes (sheet_in s)) (λ node. any 5 (unheld_in s node))

@@ -11,34 +11,24 @@ ghost use Rattle.network.specs.Registers.{reg as reg_of, sheet_in, moving_words,
 ghost use Rattle.network.specs.Inner.Machine.{next_choice, next_out_mark, next_out_word, collides_in, unheld_in, unchosen_in, next_in_row};
 ghost use Rattle.network.specs.Inner.Stages.{stage, out_from};
 ghost use Rattle.network.specs.Inner.Live.{EmptyBeside, Stays};
-ghost use Rattle.routers.specs.Inner.Crossing.{Crossed, HeadsEmpty, CrossedNode};
-ghost use Rattle.routers.specs.Inner.Stepping.{head_stepped};
+ghost use Rattle.routers.specs.Inner.Crossing.{Crossed, HeadsEmpty, CrossedInputs};
+ghost use Rattle.routers.specs.Inner.Stepping.{head_stepped, heads_stepped};
 
-use network::{ROW_WORDS, put_reg, reg};
+use network::{HEAD_MARKS, MOST_NODES, ROW_WORDS, put_reg, reg};
 
-// The nodes of the largest grid. No sheet has more, nor more places than a row has words, and no state has fewer words than its rows; loops
+// No sheet has more nodes than the largest grid, nor more places than a row has words, and no state has fewer words than its rows; loops
 // whose places are not proved indices return at once where that were not so, so that a compiler can know every place to be in its row, and
 // every row in the state, and leave out the test at each access.
-const MOST_NODES: u32 = 16;
 
 // Marks from this one on are those of payload words.
 const PAYLOAD_MARK: u32 = 2;
-
-// Where the row begins that is read by proved indices.
-const HEAD_MARKS: usize = network::HEAD_MARK as usize * ROW_WORDS;
 
 // 1 for the mark of a payload word and a latch that holds no choice, else 0. Both are read before they are tested, so that the loop over
 // them has no jump.
 fn unheld(mark: u32, latch: u32) -> u32
     ensures { result ≡ pick (2 ≤? mark and latch =? 0) 1 0 }
 {
-    if latch != 0 {
-        return 0;
-    }
-    if 2 <= mark {
-        return 1;
-    }
-    0
+    u32::from((PAYLOAD_MARK <= mark) & (latch == 0))
 }
 
 // Number 20: some payload word in a link register finds no choice held. A cycle, which knows its nodes, meets the requires, here and below.
@@ -53,18 +43,16 @@ pub fn has_unheld(s: &[u32], count: u32) -> bool
         return false;
     }
     let mut faults: u32 = 0;
-    let mut k: u32 = 0;
-    while k < count {
+    for k in 0..count {
         let mark = reg(s, network::LINK_MARK, k);
         let latch = reg(s, network::LATCH_ROW, k);
         faults += unheld(mark, latch);
-        k += 1;
     }
     1 <= faults
 }
 
 // The word of input k goes to the output that was chosen for it, where no other word is yet; 1 where one is, or where a payload word has
-// no choice, else 0.
+// no choice, else 0: a number to be added up, since a flag in its place made the crossbar slower (measured, docs/PROOF-NOTES.md).
 fn cross_input(s: &[u32], k: u32, marks: &mut [u32], cells: &mut [u32]) -> u32
     requires { (k < row_words) × (length marks.old ≡ row_words) × (length cells.old ≡ row_words) }
     ensures { Crossed s.now k marks.old cells.old marks.new cells.new result }
@@ -75,10 +63,7 @@ fn cross_input(s: &[u32], k: u32, marks: &mut [u32], cells: &mut [u32]) -> u32
     }
     let choice = reg(s, network::CHOICE_ROW, k);
     if choice == 0 {
-        if mark < PAYLOAD_MARK {
-            return 0;
-        }
-        return 1;
+        return u32::from(PAYLOAD_MARK <= mark);
     }
     if network::OUTPUTS < choice {
         return 0;
@@ -92,34 +77,37 @@ fn cross_input(s: &[u32], k: u32, marks: &mut [u32], cells: &mut [u32]) -> u32
     0
 }
 
-// The marks of five inputs' header stages from input k on, joined by or: 0 where all of them are 0.
+// The marks of five inputs' header stages from input k on, joined by or: 0 where all of them are 0. They are read by proved indices, so that
+// nothing is tested on the way.
 fn heads_joined(s: &[u32], k: u32) -> u32
     requires { (k + 4 < row_words) × (moving_words ≤ length s.now) }
     ensures { result ≡ 0 → HeadsEmpty s.now k }
 {
     let from = HEAD_MARKS + k as usize;
-    s[from] | s[from + 1] | s[from + 2] | s[from + 3] | s[from + 4]
+    s[from..from + 5]
+        .iter()
+        .fold(0, |joined, mark| joined | mark)
 }
 
 // The five inputs of a node, from input k on, one after the other; most nodes have no word there, which one test tells. Answers how many
 // of them have a fault.
 fn cross_node(s: &[u32], k: u32, marks: &mut [u32], cells: &mut [u32]) -> u32
     requires { (k + 4 < row_words) × (moving_words ≤ length s.now) × (length marks.old ≡ row_words) × (length cells.old ≡ row_words) }
-    ensures { CrossedNode s.now k marks.old cells.old marks.new cells.new result }
+    ensures { CrossedInputs s.now k marks.old cells.old 5 marks.new cells.new result }
 {
     if heads_joined(s, k) == 0 {
         return 0;
     }
-    let first = cross_input(s, k, marks, cells);
-    let second = cross_input(s, k + 1, marks, cells);
-    let third = cross_input(s, k + 2, marks, cells);
-    let fourth = cross_input(s, k + 3, marks, cells);
-    let fifth = cross_input(s, k + 4, marks, cells);
-    first + second + third + fourth + fifth
+    let mut faults: u32 = 0;
+    for input in 0..5 {
+        faults += cross_input(s, k + input, marks, cells);
+    }
+    faults
 }
 
 // The crossbar of all nodes that may have a word in their header stages: what goes on each output, into two lent tables of zeros. Number 20:
-// two words want one output, of which the first stays, or a payload word left the header stage with no choice.
+// two words want one output, of which the first stays, or a payload word left the header stage with no choice. The cycle, which lends new
+// tables and a mask of the nodes that have words there, meets the requires.
 pub fn cross_among(s: &[u32], nodes: u32, heads: u64, marks: &mut [u32], cells: &mut [u32]) -> bool
     requires { (nodes ≡ node_count (sheet_in s.now)) × (nodes ≤ 16) × (marks.old ≡ tab row_words (λ k. 0)) × (cells.old ≡ tab row_words (λ k. 0)) × (EmptyBeside s.now heads head_mark) }
     ensures fault { result ≡ (any (node_count (sheet_in s.now)) (λ node. any 5 (collides_in s.now node)) or any (node_count (sheet_in s.now)) (λ node. any 5 (unchosen_in s.now node))) }
@@ -133,16 +121,15 @@ pub fn cross_among(s: &[u32], nodes: u32, heads: u64, marks: &mut [u32], cells: 
         return false;
     }
     let mut faults: u32 = 0;
-    let mut node = occupancy::next_taken(heads, 0);
-    while node < nodes {
+    for node in occupancy::places(heads, nodes) {
         faults += cross_node(s, node * 5, marks, cells);
-        node = occupancy::next_taken(heads, node + 1);
     }
     1 <= faults
 }
 
 // The crossbar of all nodes: what goes on each output, into two lent tables of zeros. Number 20: two words want one output, of which the
-// first stays, or a payload word left the header stage with no choice.
+// first stays, or a payload word left the header stage with no choice. No crate calls it now: the cycle calls cross_among. Whoever does so
+// with the sheet's nodes and new tables meets the requires.
 pub fn cross(s: &[u32], nodes: u32, marks: &mut [u32], cells: &mut [u32]) -> bool
     requires { (nodes ≡ node_count (sheet_in s.now)) × (nodes ≤ 16) × (marks.old ≡ tab row_words (λ k. 0)) × (cells.old ≡ tab row_words (λ k. 0)) }
     ensures fault { result ≡ (any (node_count (sheet_in s.now)) (λ node. any 5 (collides_in s.now node)) or any (node_count (sheet_in s.now)) (λ node. any 5 (unchosen_in s.now node))) }
@@ -156,14 +143,11 @@ pub fn cross(s: &[u32], nodes: u32, marks: &mut [u32], cells: &mut [u32]) -> boo
 fn next_choice(s: &[u32], k: u32) -> u32
     ensures { result ≡ next_choice (k % 5) (reg_of s.now latch_row k) (reg_of s.now link_mark k) (reg_of s.now link_word k) }
 {
-    let mark = reg(s, network::LINK_MARK, k);
-    if mark == 0 {
-        return 0;
+    match reg(s, network::LINK_MARK, k) {
+        0 => 0,
+        1 => network::output_for(k % 5, reg(s, network::LINK_WORD, k)) + 1,
+        _ => reg(s, network::LATCH_ROW, k),
     }
-    if mark == 1 {
-        return network::output_for(k % 5, reg(s, network::LINK_WORD, k)) + 1;
-    }
-    reg(s, network::LATCH_ROW, k)
 }
 
 // The header stage of input k for a word that is there, whose mark step_head has read, which so meets the requires.
@@ -199,16 +183,15 @@ fn step_head(s: &mut [u32], k: u32)
 // The header stages of the five inputs from input k on.
 fn step_node_heads(s: &mut [u32], k: u32)
     requires { k + 4 < row_words }
-    ensures { s.new ≡ head_stepped (head_stepped (head_stepped (head_stepped (head_stepped s.old k) (k + 1)) (k + 2)) (k + 3)) (k + 4) }
+    ensures { s.new ≡ heads_stepped 5 s.old k }
 {
-    step_head(s, k);
-    step_head(s, k + 1);
-    step_head(s, k + 2);
-    step_head(s, k + 3);
-    step_head(s, k + 4);
+    for input in 0..5 {
+        step_head(s, k + input);
+    }
 }
 
-// The header stages of all nodes, of which those beside the mask have what they should have already.
+// The header stages of all nodes, of which those beside the mask have what they should have already. The cycle, whose mask has every node at
+// which something is, meets the requires.
 pub fn step_heads_among(s: &mut [u32], nodes: u32, live: u64)
     requires { (moving_words ≤ length s.old) × (nodes ≤ 16) × ((k : _) → k < nodes * 5 → bit_at live (k / 5) ≡ 0 → Stays head_mark latch_row (next_in_row s.old []) s.old k) }
     ensures { s.new ≡ stage head_mark latch_row (nodes * 5) (next_in_row s.old []) s.old }
@@ -219,15 +202,14 @@ pub fn step_heads_among(s: &mut [u32], nodes: u32, live: u64)
     if MOST_NODES < nodes {
         return;
     }
-    let mut node = occupancy::next_taken(live, 0);
-    while node < nodes {
+    for node in occupancy::places(live, nodes) {
         step_node_heads(s, node * 5);
-        node = occupancy::next_taken(live, node + 1);
     }
 }
 
 // The header stages of so many inputs. The test of each turn is never met either; with it the compiler lays the cycle out better
-// (docs/DECISIONS.md, 37).
+// (docs/DECISIONS.md, 37). No crate calls it now: the cycle calls step_heads_among. Whoever does so on a sound state, with no more inputs
+// than a row has words, meets the requires.
 pub fn step_heads(s: &mut [u32], count: u32)
     requires { (moving_words ≤ length s.old) × (count ≤ row_words) }
     ensures { s.new ≡ stage head_mark latch_row count (next_in_row s.old []) s.old }
@@ -238,17 +220,16 @@ pub fn step_heads(s: &mut [u32], count: u32)
     if ROW_WORDS < count as usize {
         return;
     }
-    let mut k: u32 = 0;
-    while k < count {
+    for k in 0..count {
         if ROW_WORDS <= k as usize {
             return;
         }
         step_head(s, k);
-        k += 1;
     }
 }
 
-// The out registers of so many outputs, from the crossbar's tables.
+// The out registers of so many outputs, from the crossbar's tables. No crate calls it now: the cycle calls that of the crate outputs. Whoever
+// does so on a sound state, with no more outputs than a row has words, meets the requires.
 pub fn step_outs(s: &mut [u32], count: u32, marks: &[u32], cells: &[u32])
     requires { (moving_words ≤ length s.old) × (count ≤ row_words) }
     ensures { s.new ≡ stage out_mark out_word count (out_from marks.now cells.now) s.old }
@@ -259,12 +240,10 @@ pub fn step_outs(s: &mut [u32], count: u32, marks: &[u32], cells: &[u32])
     if ROW_WORDS < count as usize {
         return;
     }
-    let mut k: u32 = 0;
-    while k < count {
+    for k in 0..count {
         let mark = words::get(marks, k as usize);
         let word = words::get(cells, k as usize);
         put_reg(s, network::OUT_MARK, k, mark);
         put_reg(s, network::OUT_WORD, k, word);
-        k += 1;
     }
 }

@@ -1,10 +1,12 @@
 -- The rules 9 and 10 at one entry, in terms of what the code has read: the entry, its circuit's span, and where its route leads.
 -- Assumes nothing.
-use Prim.Native.Nat.{ℕ, ◌+◌, ◌-◌, ◌*◌, ◌<◌, ◌≤◌}
+use Prim.Native.Nat.{ℕ, ◌+◌, ◌-◌, ◌*◌, ◌/◌, ◌<◌, ◌≤◌}
 use mathlib.Core.Bool.{Bool, true, false, false≢true}
 use mathlib.Core.List.{List}
 use mathlib.Core.Path.{◌≡◌, refl, sym, ◌∙◌, ap, ap₂, subst}
 use native.Mathlib.Omega.{arith}
+use Rattle.std.specs.Prelude.{Option}
+use Rattle.std.specs.declared.option.Option.TheVariants.{Some, None}
 use lib.ListN.{length, set, replicate, length-set, length-replicate}
 use lib.Seq.{get_or-set_other}
 use native.Mathlib.Decide.{dec_le, dec_lt}
@@ -101,7 +103,7 @@ module _ (z : List ℕ) (e : Entry) (circuit : Circuit) (c : circuit ≡ circuit
   starts_inside g = subst (λ (k : Circuit). InGrid (columns z) (rows z) k.read.node) (sym c) g.source_inside
 
   -- where the entry's route leads, from the path that was followed
-  module _ (path : Path) (q : path ≡ path_of (route_from (columns z) (rows z) (is_long z) circuit.read.node e.route)) where
+  module _ (path : Option Path) (q : path ≡ path_of (route_from (columns z) (rows z) (is_long z) circuit.read.node e.route)) where
     route_is : route_from (columns z) (rows z) (is_long z) circuit.read.node e.route ≡ entry_route z e
     unfolding entry_route
     route_is = cc
@@ -111,54 +113,54 @@ module _ (z : List ℕ) (e : Entry) (circuit : Circuit) (c : circuit ≡ circuit
     reaches_is r w =
         ap₂ (λ (x : Route) (to : ℕ). reaches x to (hops_of z e.circuit)) (sym w) (ap (λ (k : Circuit). k.receive.node) c)
 
-    -- the code's answers and the size of its sum, by whether the route leads somewhere
-    from_path : Joined z e → (r : Route) → entry_route z e ≡ r → path ≡ path_of r
-        → (path.leads ≡ false → false ≡ entry_leads z e)
-        × (path.leads ≡ true → (path.node ≡ circuit.receive.node → ⊥) → false ≡ entry_leads z e)
-        × (path.leads ≡ true → path.node ≡ circuit.receive.node
-        → (router_cycles * path.hops + path.vertical ≤? circuit_span z e.circuit) ≡ entry_leads z e)
-        × (path.leads ≡ true → router_cycles * path.hops + path.vertical ≤ 28)
-    from_path g (leads uses node hops vertical) w p =
-        let l : path.leads ≡ true = ap (λ (k : Path). k.leads) p in
-        let n : path.node ≡ node = ap (λ (k : Path). k.node) p in
-        let h : path.hops ≡ hops = ap (λ (k : Path). k.hops) p in
-        let u : path.vertical ≡ vertical = ap (λ (k : Path). k.vertical) p in
-        let answer = reaches_is (leads uses node hops vertical) w in (
-          λ f. absurd (false≢true (sym f ∙ l)),
-          λ t ne. and_no _ (no= (λ m. ne (n ∙ m))) ∙ answer,
-          λ t m.
-              and_on (yes= (sym n ∙ m))
-              (ap₂ (λ (a b : ℕ). router_cycles * a + b ≤? circuit_span z e.circuit) h u
-              ∙ same_test z e g uses node hops vertical w (sym n ∙ m ∙ ap (λ (k : Circuit). k.receive.node) c))
-              ∙ answer,
-          λ t. omega (arith, h, u, hops_most z e g uses node hops vertical w, verticals_most z e g uses node hops vertical w),
-        )
-    from_path g nowhere w p =
-        let l : path.leads ≡ false = ap (λ (k : Path). k.leads) p in
-        let answer : false ≡ entry_leads z e = reaches_is nowhere w in (
-          λ f. answer,
-          λ t ne. answer,
-          λ t m. absurd (false≢true (sym l ∙ t)),
-          λ t. absurd (false≢true (sym l ∙ t)),
-        )
-
     module _ (g : Joined z e) where
       path_is : path ≡ path_of (entry_route z e)
       path_is = q ∙ ap path_of route_is
 
-      pub not_leading : path.leads ≡ false → false ≡ entry_leads z e
-      not_leading = (from_path g (entry_route z e) refl path_is).0
+      -- it leads nowhere
+      pub not_leading : path ≡ None → false ≡ entry_leads z e
+      not_leading n = go (entry_route z e) refl
+        where
+          go : (r : Route) → entry_route z e ≡ r → false ≡ entry_leads z e
+          go (leads uses node hops vertical) w =
+              let some : None ≡ path_of (leads uses node hops vertical) = sym n ∙ path_is ∙ ap path_of w in absurd (cc)
+          go nowhere w = reaches_is nowhere w
 
-      pub elsewhere : path.leads ≡ true → (path.node ≡ circuit.receive.node → ⊥) → false ≡ entry_leads z e
-      elsewhere = (from_path g (entry_route z e) refl path_is).1
+      -- it leads to a node: the numbers of its path
+      module _ (p : Path) (s : path ≡ Some p) where
+        led_by : (uses : List Use) × (node : ℕ) × (hops : ℕ) × (vertical : ℕ) × (entry_route z e ≡ leads uses node hops vertical)
+            × (p.node ≡ node) × (p.hops ≡ hops) × (p.vertical ≡ vertical)
+        led_by = go (entry_route z e) refl
+          where
+            field : (Path → ℕ) → Option Path → ℕ
+            field f None = 0
+            field f (Some k) = f k
 
-      pub arriving : path.leads ≡ true → path.node ≡ circuit.receive.node → (span : ℕ) → span ≡ circuit_span z e.circuit
-          → (router_cycles * path.hops + path.vertical ≤? span) ≡ entry_leads z e
-      arriving t m span d =
-          ap (λ (n : ℕ). router_cycles * path.hops + path.vertical ≤? n) d ∙ (from_path g (entry_route z e) refl path_is).2 t m
+            go : (r : Route) → entry_route z e ≡ r
+                → (uses : List Use) × (node : ℕ) × (hops : ℕ) × (vertical : ℕ) × (entry_route z e ≡ leads uses node hops vertical)
+                × (p.node ≡ node) × (p.hops ≡ hops) × (p.vertical ≡ vertical)
+            go (leads uses node hops vertical) w =
+                let same : Some p ≡ path_of (leads uses node hops vertical) = sym s ∙ path_is ∙ ap path_of w in
+                (uses, node, hops, vertical, w, ap (field (λ k. k.node)) same, ap (field (λ k. k.hops)) same, ap (field (λ k. k.vertical)) same)
+            go nowhere w =
+                let none : Some p ≡ None = sym s ∙ path_is ∙ ap path_of w in absurd (cc)
 
-      pub cycles_few : path.leads ≡ true → router_cycles * path.hops + path.vertical ≤ 28
-      cycles_few = (from_path g (entry_route z e) refl path_is).3
+        -- the code's answers there, and the size of its sum
+        pub elsewhere : (p.node ≡ circuit.receive.node → ⊥) → false ≡ entry_leads z e
+        elsewhere ne = and_no _ (no= (λ m. ne (led_by.5 ∙ m))) ∙ reaches_is _ led_by.4
+
+        pub arriving : p.node ≡ circuit.receive.node → (span : ℕ) → span ≡ circuit_span z e.circuit
+            → (router_cycles * p.hops + p.vertical ≤? span) ≡ entry_leads z e
+        arriving m span d =
+            ap (λ (n : ℕ). router_cycles * p.hops + p.vertical ≤? n) d
+            ∙ and_on (yes= (sym led_by.5 ∙ m))
+            (ap₂ (λ (a b : ℕ). router_cycles * a + b ≤? circuit_span z e.circuit) led_by.6 led_by.7
+            ∙ same_test z e g led_by.0 led_by.1 led_by.2 led_by.3 led_by.4 (sym led_by.5 ∙ m ∙ ap (λ (k : Circuit). k.receive.node) c))
+            ∙ reaches_is _ led_by.4
+
+        pub cycles_few : router_cycles * p.hops + p.vertical ≤ 28
+        cycles_few =
+            omega (arith, led_by.6, led_by.7, hops_most z e g led_by.0 led_by.1 led_by.2 led_by.3 led_by.4, verticals_most z e g led_by.0 led_by.1 led_by.2 led_by.3 led_by.4)
 
 -- number 10 at an entry whose route leads to the destination, by its circuit's span
 module _ (z : List ℕ) (e : Entry) (g : Joined z e) (span : ℕ) (d : span ≡ circuit_span z e.circuit) where
@@ -198,28 +200,14 @@ nodes_inside z f r k h circuit c cols count x y =
       inside circuit.receive.node (subst (λ (q : Circuit). q.receive.node < nodes z) (sym c) small.destination_inside),
     )
 
--- a circuit's span, from the distance of its nodes and, on a grid with long links, of their rows
-module _ (z : List ℕ) (k : ℕ) (circuit : Circuit) (c : circuit ≡ circuit_at z k) (cols count : ℕ) (x : cols ≡ columns z) (y : count ≡ rows z) (most : ℕ)
-    (d : most ≡ distance_of cols count circuit.read.node circuit.receive.node) where
-  most_is : most ≡ hops_of z k
-  most_is = cc
-
-  pub span_long : is_long z ≡ true → (down : ℕ) → down ≡ shorter_way count (row_of cols circuit.read.node) (row_of cols circuit.receive.node)
-      → router_cycles * most + down ≡ circuit_span z k
-  unfolding circuit_span vertical_of
-  span_long l down v =
-      ap₂ (λ (a b : ℕ). router_cycles * a + b) most_is
-      (v
-      ∙ ap₂ (λ (a b : ℕ). shorter_way b (row_of a circuit.read.node) (row_of a circuit.receive.node)) x y
-      ∙ ap (λ (q : Circuit). shorter_way (rows z) (row_of (columns z) q.read.node) (row_of (columns z) q.receive.node)) c
-      ∙ ap (λ (b : Bool). pick b (shorter_way (rows z) (row_of (columns z) (source_of z k)) (row_of (columns z) (destination_of z k))) 0) (sym l))
-
-  pub span_short : is_long z ≡ false → router_cycles * most ≡ circuit_span z k
-  unfolding circuit_span vertical_of
-  span_short l =
-      let none : vertical_of z k ≡ 0 =
-      ap (λ (b : Bool). pick b (shorter_way (rows z) (row_of (columns z) (source_of z k)) (row_of (columns z) (destination_of z k))) 0) l in
-      omega (arith, most_is, none)
+-- a circuit's span, from that of its nodes
+pub span_told : (z : List ℕ) (k : ℕ) (circuit : Circuit) → circuit ≡ circuit_at z k → (cols count span : ℕ) (long : Bool)
+    → cols ≡ columns z → count ≡ rows z → long ≡ is_long z
+    → span ≡ router_cycles * distance_of cols count circuit.read.node circuit.receive.node
+    + pick long (shorter_way count (circuit.read.node / cols) (circuit.receive.node / cols)) 0
+    → span ≡ circuit_span z k
+unfolding circuit_span vertical_of
+span_told z k circuit c cols count span long x y l e = cc
 
 -- the table of the spans: each stands at its circuit's number, 0 at the others
 module _ (z : List ℕ) where

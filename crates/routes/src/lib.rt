@@ -13,21 +13,19 @@ ghost use Rattle.routes.specs.Inner.Joined.{Joined, Timed, Leading, circuit_span
 use sheet::{Circuit, Entry};
 use torus::Path;
 
-// The cycles of the hops between circuit k's nodes: three for each step of their distance, and one for each of its long links.
+// The cycles of the hops between circuit k's nodes.
 fn circuit_span(z: &[u32], k: u32) -> u32
     requires { (Framed z.now) × (rule4 z.now ≡ true) × (k < circuits z.now) }
     ensures { result ≡ circuit_span z.now k }
 {
     let circuit = Circuit::at(z, k);
-    let read = circuit.read;
-    let receive = circuit.receive;
-    let cols = sheet::columns_of(z);
-    let rows = sheet::rows_of(z);
-    let span = torus::ROUTER_CYCLES * torus::distance(cols, rows, read.node, receive.node);
-    if sheet::is_long(z) {
-        return span + torus::vertical_distance(cols, rows, read.node, receive.node);
-    }
-    span
+    torus::span(
+        sheet::columns_of(z),
+        sheet::rows_of(z),
+        sheet::is_long(z),
+        circuit.read.node,
+        circuit.receive.node,
+    )
 }
 
 // The spans of all circuits, so that each is worked out once. The checker calls it and the rules in their order,
@@ -36,29 +34,25 @@ pub fn circuit_spans(z: &[u32]) -> [u32; 64]
     requires { (Framed z.now) × (rule4 z.now ≡ true) }
     ensures { result ≡ circuit_spans z.now }
 {
-    let count = sheet::circuits_of(z);
     let mut spans = [0u32; 64];
-    let mut k: u32 = 0;
-    while k < count {
-        let at = k as usize;
-        spans[at] = circuit_span(z, k);
-        k += 1;
+    for k in 0..sheet::circuits_of(z) {
+        spans[k as usize] = circuit_span(z, k);
     }
     spans
 }
 
-// Where a route leads from a node of the sheet's grid, of whichever kind. Each kind has its own function, and this one stands in each crate that
-// asks: with one for all, the compiler puts both into it, and both become slower.
-fn route_path(z: &[u32], source: u32, route: u32) -> Path
+// Where a route leads from a node of the sheet's grid, of whichever kind. Whoever has checked the circuits has a node of the grid.
+pub fn path_from(z: &[u32], source: u32, route: u32) -> Option<Path>
     requires { InGrid (columns z.now) (rows z.now) source }
     ensures { result ≡ path_of (route_from (columns z.now) (rows z.now) (is_long z.now) source route) }
 {
     let cols = sheet::columns_of(z);
     let rows = sheet::rows_of(z);
     if sheet::is_long(z) {
-        return torus::follow_long(cols, rows, source, route);
+        torus::follow::<true>(cols, rows, source, route)
+    } else {
+        torus::follow::<false>(cols, rows, source, route)
     }
-    torus::follow_short(cols, rows, source, route)
 }
 
 // Number 9 at one entry: its route leads to the destination in no more hops than the distance. Such a route takes no fewer cycles than the
@@ -68,16 +62,11 @@ fn entry_leads(z: &[u32], spans: &[u32], e: Entry) -> bool
     ensures { result ≡ entry_leads z.now e }
 {
     let circuit = Circuit::at(z, e.circuit);
-    let read = circuit.read;
-    let receive = circuit.receive;
-    let path = route_path(z, read.node, e.route);
-    if path.leads {
-        if path.node == receive.node {
-            let span = words::get(spans, e.circuit as usize);
-            return torus::ROUTER_CYCLES * path.hops + path.vertical <= span;
-        }
-    }
-    false
+    let Some(path) = path_from(z, circuit.read.node, e.route) else {
+        return false;
+    };
+    let span = words::get(spans, e.circuit as usize);
+    path.node == circuit.receive.node && torus::ROUTER_CYCLES * path.hops + path.vertical <= span
 }
 
 // Number 9 at schedule j.
@@ -86,12 +75,8 @@ fn entries_lead(z: &[u32], spans: &[u32], j: u32) -> bool
     ensures { result ≡ each_entry z.now j (entry_leads z.now) }
 {
     let entries = sheet::entries_of(z, j);
-    let count = entries.len() / 4;
-    let mut i = 0;
-    while i < count {
-        if entry_leads(z, spans, Entry::at(entries, i)) {
-            i += 1;
-        } else {
+    for i in 0..entries.len() / 4 {
+        if !entry_leads(z, spans, Entry::at(entries, i)) {
             return false;
         }
     }
@@ -103,16 +88,7 @@ pub fn keeps_rule9(z: &[u32], spans: &[u32]) -> bool
     requires { (Ranged z.now) × (spans.now ≡ circuit_spans z.now) }
     ensures { result ≡ rule9 z.now }
 {
-    let count = sheet::schedules_of(z);
-    let mut j: u32 = 0;
-    while j < count {
-        if entries_lead(z, spans, j) {
-            j += 1;
-        } else {
-            return false;
-        }
-    }
-    true
+    (0..sheet::schedules_of(z)).all(|j| entries_lead(z, spans, j))
 }
 
 // Number 10 at one entry whose route leads to the destination: its hops then take the span.
@@ -131,12 +107,8 @@ fn entries_end(z: &[u32], spans: &[u32], j: u32) -> bool
 {
     let period = sheet::schedule_period(z, j);
     let entries = sheet::entries_of(z, j);
-    let count = entries.len() / 4;
-    let mut i = 0;
-    while i < count {
-        if entry_ends(z, spans, period, Entry::at(entries, i)) {
-            i += 1;
-        } else {
+    for i in 0..entries.len() / 4 {
+        if !entry_ends(z, spans, period, Entry::at(entries, i)) {
             return false;
         }
     }
@@ -148,14 +120,5 @@ pub fn keeps_rule10(z: &[u32], spans: &[u32]) -> bool
     requires { (Leading z.now) × (spans.now ≡ circuit_spans z.now) }
     ensures { result ≡ rule10 z.now }
 {
-    let count = sheet::schedules_of(z);
-    let mut j: u32 = 0;
-    while j < count {
-        if entries_end(z, spans, j) {
-            j += 1;
-        } else {
-            return false;
-        }
-    }
-    true
+    (0..sheet::schedules_of(z)).all(|j| entries_end(z, spans, j))
 }

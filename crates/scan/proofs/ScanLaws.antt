@@ -3,7 +3,7 @@
 use Prim.Native.Nat.{ℕ, ◌+◌, ◌*◌, ◌/◌, ◌%◌, ◌^◌, ◌<◌, ◌≤◌}
 use mathlib.Core.Bool.{true}
 use mathlib.Core.List.{List}
-use mathlib.Core.Path.{◌≡◌, sym, ◌∙◌, ap, subst}
+use mathlib.Core.Path.{◌≡◌, sym, ◌∙◌, ap}
 use native.Mathlib.Omega.{arith}
 use native.Mathlib.Decide.{ℕ_discrete, dec_lt}
 use lib.Bits.{bit_or}
@@ -18,7 +18,6 @@ use Rattle.sheet.specs.Sheet.{nodes, circuits}
 use Rattle.sheet.specs.Inner.Passed.{Headed}
 use Rattle.sheet.proofs.PassedLaws.{nodes_few}
 use Rattle.occupancy.specs.Inner.Occupancy.{bit_at}
-use Rattle.occupancy.proofs.MaskLaws.{union_free}
 use Rattle.network.specs.Registers.{reg, sheet_in, row_words, to_go_row}
 use Rattle.network.specs.Inner.Quiet.{empty_at}
 use Rattle.network.specs.Inner.Live.{Covered}
@@ -30,9 +29,6 @@ pub record Joining (s : List ℕ) (end : ℕ) (list : List ℕ) (k : ℕ) : Type
   pub inside : k ≤ end
   pub long : length list ≡ row_words
   pub tells : (j : ℕ) → j < k → word list j ≡ 0 → empty_at s j ≡ true
-
-pub joining_start : (s : List ℕ) (end : ℕ) (list : List ℕ) → length list ≡ row_words → Joining s end list 0
-joining_start s end list e = record { inside = omega arith; long = e; tells = λ j l. absurd (omega arith) }
 
 pub joining_more : (s : List ℕ) (end : ℕ) (list : List ℕ) (k w : ℕ) → Joining s end list k → k < end → end ≤ row_words → (w =? 0) ≡ empty_at s k
     → Joining s end (set list k w) (k + 1)
@@ -87,25 +83,6 @@ pub node_none : (list : List ℕ) (node : ℕ)
 node_none list node e k h =
     let five = joined_none _ _ _ _ _ e in
     five_none list (node * 5) five.0 five.1 five.2 five.3 five.4 k (omega arith) (omega arith)
-
--- a mask gathered one after another: of those beside it so far the statement holds
-pub record Gathered (P : ℕ → Type 0) (count mask n : ℕ) : Type 0 where
-  pub inside : n ≤ count
-  pub beside : (i : ℕ) → i < n → bit_at mask i ≡ 0 → P i
-
-module _ (P : ℕ → Type 0) (count : ℕ) where
-  pub gathered_start : Gathered P count 0 0
-  gathered_start = record { inside = omega arith; beside = λ i l. absurd (omega arith) }
-
-  pub gathered_more : (mask more n : ℕ) → Gathered P count mask n → n < count → (bit_at more n ≡ 0 → P n) → Gathered P count (bit_or mask more) (n + 1)
-  gathered_more mask more n g l h = record { inside = omega arith; beside = λ i il none. go i il (union_free mask more i none) (ℕ_discrete i n) }
-    where
-      go : (i : ℕ) → i < n + 1 → (bit_at mask i ≡ 0) × (bit_at more i ≡ 0) → Dec (i ≡ n) → P i
-      go i il none (yes e) = subst P (sym e) (h (ap (bit_at more) (sym e) ∙ none.1))
-      go i il none (no ne) = g.beside i (omega (arith, ne)) none.0
-
-  pub gathered_done : (mask n : ℕ) → Gathered P count mask n → count ≤ n → (i : ℕ) → i < count → bit_at mask i ≡ 0 → P i
-  gathered_done mask n g l i il none = g.beside i (omega (arith, g.inside)) none
 
 -- all nodes of the largest grid are in its mask
 all_taken : (node : ℕ) → node < 16 → 0 < bit_at 65535 node

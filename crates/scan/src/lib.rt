@@ -11,20 +11,14 @@ ghost use Rattle.network.specs.Inner.Live.{Covered};
 
 use network::{Live, ROW_WORDS};
 
-// Every node of the largest grid.
-const ALL_NODES: u64 = 65535;
-
 // The words of the routers' rows, without the latches', joined by or at each place, so that the compiler takes several at once. A state that
 // has passed 12 has the rows, here and below, and live_now lends the list.
 fn join_rows(s: &[u32], places: u32, joined: &mut [u32])
     requires { (places ≤ row_words) × (moving_words ≤ length s.now) × (length joined.old ≡ row_words) }
     ensures { (k : ℕ) → k < places → word_at joined.new k ≡ 0 → empty_at s.now k ≡ true }
 {
-    let end = places as usize;
-    let mut k: usize = 0;
-    while k < end {
+    for k in 0..places as usize {
         joined[k] = quiet::place_joined(s, k);
-        k += 1;
     }
 }
 
@@ -33,7 +27,7 @@ fn node_in(joined: &[u32], node: u32) -> u64
     requires { (node < 16) × (length joined.now ≡ row_words) }
     ensures { bit_at result node ≡ 0 → (k : ℕ) → k / 5 ≡ node → word_at joined.now k ≡ 0 }
 {
-    let k = (node as usize) * 5;
+    let k = node as usize * 5;
     if joined[k] | joined[k + 1] | joined[k + 2] | joined[k + 3] | joined[k + 4] == 0 {
         return 0;
     }
@@ -46,10 +40,8 @@ fn nodes_in(joined: &[u32], nodes: u32) -> u64
     ensures { (k : ℕ) → k < nodes * 5 → bit_at result (k / 5) ≡ 0 → word_at joined.now k ≡ 0 }
 {
     let mut mask: u64 = 0;
-    let mut node: u32 = 0;
-    while node < nodes {
-        mask = mask | node_in(joined, node);
-        node += 1;
+    for node in 0..nodes {
+        mask |= node_in(joined, node);
     }
     mask
 }
@@ -70,14 +62,13 @@ fn sending_in(s: &[u32], count: u32) -> u64
     requires { (count ≤ 64) × (moving_words ≤ length s.now) }
     ensures { (c : ℕ) → c < count → bit_at result c ≡ 0 → reg_of s.now to_go_row c ≡ 0 }
 {
+    // A state that passed has the rows; behind this test the compiler drops one at each read.
     if s.len() < network::MOVING_WORDS {
         return 0;
     }
     let mut mask: u64 = 0;
-    let mut c: u32 = 0;
-    while c < count {
-        mask = mask | circuit_in(s, c);
-        c += 1;
+    for c in 0..count {
+        mask |= circuit_in(s, c);
     }
     mask
 }
@@ -98,7 +89,7 @@ pub fn live_now(s: &[u32]) -> Live
         heads: mask,
         outs: mask,
         extras: mask,
-        landed: ALL_NODES,
-        sending: sending,
+        landed: network::ALL_NODES,
+        sending,
     }
 }

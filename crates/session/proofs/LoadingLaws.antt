@@ -1,32 +1,23 @@
 -- A load: the words afterwards, from the loops that cleared and copied.
 -- Assumes nothing.
-use Rattle.std.proofs.Common.{◌≡◌, ℕ, ◌+◌, ◌<◌, ◌≤◌, List, [], ◌∷◌, ◌++◌, length, take, drop, set, sym, refl, ap, ◌∙◌, append_assoc, add-one, arith, length-append, length-set, drop-cons, drop-drop, take_at, drop_at}
-use lib.Seq.{set_at, append_snoc, take-length, paste, paste-zero, paste-suc}
+use Rattle.std.proofs.Common.{◌≡◌, ℕ, ◌+◌, ◌<◌, ◌≤◌, List, [], ◌∷◌, ◌++◌, length, take, drop, set, sym, refl, ap, ◌∙◌, append_assoc, add-one, arith, length-append, drop-cons, drop-drop, take_at, drop_at, replicate, length-take-le}
+use lib.Seq.{set_at, append_snoc, take-length, paste}
+use borrow.Rule.Slice.PartMut.{put_mid}
+use Rattle.std.proofs.lemmas.Slice.{put_mid-paste}
+use Rattle.words.proofs.TableLaws.{tab_zeros}
 use Rattle.words.specs.Tests.{◌=?◌}
-use Rattle.words.specs.Words.{word, pick, tab}
-use Rattle.words.proofs.TestLaws.{yes=, no=}
+use Rattle.words.specs.Words.{pick, tab}
 use Rattle.words.proofs.WordLaws.{length_tab}
 use Rattle.sheet.specs.Sheet.{blank_sheet, meant}
 use Rattle.network.specs.Registers.{moving_words, state_words, sheet_words}
-use Rattle.session.specs.declared.Answer.{Answer}
 use Rattle.session.specs.Calls.{load_words_number, loaded, Lent, lend, load, number, after}
-use Rattle.session.specs.Answers.{answer_of}
 use Rattle.session.proofs.NumberLaws.{load_passed}
 use Rattle.session.proofs.WritingLaws.{state_either}
 use Rattle.soundness.proofs.SheetLaws.{sheet_bounds}
 
--- the loop that clears: so many words are 0, the others as they were
+-- so many words that are 0
 abbrev zeros : ℕ → List ℕ
 zeros n = tab n (λ k. 0)
-
-pub record Cleared (before now : List ℕ) (n : ℕ) : Type 0 where
-  pub cleared : now ≡ zeros n ++ drop n before
-  pub inside : n ≤ length before
-  pub long : length now ≡ length before
-
-pub clear_start : (s : List ℕ) → Cleared s s 0
-unfolding tab
-clear_start s = record { cleared = refl; inside = omega arith; long = refl }
 
 -- word n behind words in front of it is set
 set_next : (front s : List ℕ) (n w : ℕ) → length front ≡ n → n < length s → set (front ++ drop n s) n w ≡ front ++ (w ∷ drop (n + 1) s)
@@ -35,56 +26,8 @@ set_next front s n w e l =
     ∙ set_at front _ _ w n e
     ∙ ap (λ (k : ℕ). front ++ (w ∷ drop k s)) (sym (add-one n))
 
-zeros_more : (n : ℕ) → zeros (n + 1) ≡ zeros n ++ (0 ∷ [])
-unfolding tab
-zeros_more n = ap zeros (add-one n)
-
-pub clear_more : (s r : List ℕ) (n : ℕ) → Cleared s r n → n < length s → Cleared s (set r n 0) (n + 1)
-clear_more s r n g l =
-    record {
-      cleared =
-          ap (λ (x : List ℕ). set x n 0) g.cleared
-          ∙ set_next (zeros n) s n 0 (length_tab n _) l
-          ∙ sym (append_snoc (zeros n) 0 (drop (n + 1) s))
-          ∙ ap (λ (x : List ℕ). x ++ drop (n + 1) s) (sym (zeros_more n));
-      inside = omega arith;
-      long = length-set r n 0 ∙ g.long;
-    }
-
-pub clear_done : (s r : List ℕ) (n count : ℕ) → Cleared s r n → n ≤ count → count ≤ n → r ≡ zeros count ++ drop count s
-clear_done s r n count g a b =
-    let e : n ≡ count = omega arith in
-    g.cleared ∙ ap (λ (k : ℕ). zeros k ++ drop k s) e
-
--- the loop that copies: so many words of another list stand at a place
-pub record Copied (before now : List ℕ) (at : ℕ) (from : List ℕ) (n : ℕ) : Type 0 where
-  pub copied : now ≡ paste before at from n
-  pub inside : n ≤ length from
-  pub long : length now ≡ length before
-  pub fits : at + length from ≤ length before
-
-pub copy_start : (s : List ℕ) (at : ℕ) (from : List ℕ) → at + length from ≤ length s → Copied s s at from 0
-copy_start s at from h = record { copied = paste-zero s at from; inside = omega arith; long = refl; fits = h }
-
-pub copy_more : (s r : List ℕ) (at : ℕ) (from : List ℕ) (n : ℕ) → Copied s r at from n → n < length from
-    → Copied s (set r (at + n) (word from n)) at from (n + 1)
-copy_more s r at from n g l =
-    let h : at + n < length s = omega (arith, g.fits) in
-    record {
-      copied =
-          ap (λ (x : List ℕ). set x (at + n) (word from n)) g.copied
-          ∙ paste-suc s at from n 0 h l
-          ∙ ap (paste s at from) (sym (add-one n));
-      inside = omega arith;
-      long = length-set r (at + n) (word from n) ∙ g.long;
-      fits = g.fits;
-    }
-
-pub copy_done : (s r : List ℕ) (at : ℕ) (from : List ℕ) (n : ℕ) → Copied s r at from n → length from ≤ n
-    → r ≡ paste s at from (length from)
-copy_done s r at from n g l =
-    let e : n ≡ length from = omega (arith, g.inside) in
-    g.copied ∙ ap (paste s at from) e
+zeros_of : (n : ℕ) (s : List ℕ) → n ≤ length s → replicate (length (take n s)) 0 ≡ zeros n
+zeros_of n s l = ap (λ (k : ℕ). replicate k 0) (length-take-le n s l) ∙ tab_zeros n
 
 -- the words in front, then a word, then a list, over any number n of words in front
 module _ (front s z : List ℕ) (n w : ℕ) (e : length front ≡ n) (l : n < length s) where
@@ -111,16 +54,16 @@ module _ (front s z : List ℕ) (n w : ℕ) (e : length front ≡ n) (l : n < le
       ∙ append_assoc front (w ∷ z) (drop (n + 1 + length z) s)
 
 -- so it is for the state's words
-pub loaded_is : (z s : List ℕ) {a b after : List ℕ}
+pub loaded_is : (z s front copied : List ℕ) (k : ℕ)
     → state_words ≤ length s
-    → a ≡ zeros moving_words ++ drop moving_words s
-    → b ≡ set a moving_words (length z)
-    → after ≡ paste b (moving_words + 1) z (length z)
-    → after ≡ loaded z s
+    → front ≡ replicate (length (take moving_words s)) 0
+    → copied ≡ z
+    → length z ≡ k
+    → put_mid (moving_words + 1) k (set (front ++ drop moving_words s) moving_words (length z)) copied ≡ loaded z s
 unfolding loaded
-loaded_is z s long e f g =
-    g
-    ∙ ap (λ (x : List ℕ). paste x (moving_words + 1) z (length z)) (f ∙ ap (λ (x : List ℕ). set x moving_words (length z)) e)
+loaded_is z s front copied k long f g e =
+    put_mid-paste (moving_words + 1) k (set (front ++ drop moving_words s) moving_words (length z)) copied z (length z) g e refl
+    ∙ ap (λ (x : List ℕ). paste (set (x ++ drop moving_words s) moving_words (length z)) (moving_words + 1) z (length z)) (f ∙ zeros_of moving_words s (omega arith))
     ∙ pasted (zeros moving_words) s z moving_words (length z) (length_tab moving_words _) (omega arith)
 
 -- what a load that is not refused has room for
@@ -129,18 +72,10 @@ sheet_fits z s m e q =
     let p = load_passed z s m (sym e ∙ q) in
     ((sheet_bounds z p.passes).fits, p.long)
 
--- the state afterwards, as the number says: with the sheet, or as it was
-module _ (z s m : List ℕ) {n : ℕ} (e : n ≡ load_words_number z s m) where
-  pub words_loaded : {after : List ℕ} → n ≡ 0 → after ≡ loaded z s → after ≡ pick (load_words_number z s m =? 0) (loaded z s) s
-  words_loaded q f = rw (yes= (sym e ∙ q)) f
-
-  pub words_kept : (n ≡ 0 → ⊥) → s ≡ pick (load_words_number z s m =? 0) (loaded z s) s
-  words_kept ne = rw (no= (λ q. ne (e ∙ q))) refl
-
 -- a load of handed-over words loads what they stand for, as it stands
 module _ (z words s m : List ℕ) (same : words ≡ meant z) where
-  pub load_answers : {r : Answer} → r ≡ answer_of (load_words_number words s m) → r ≡ answer_of (number (load z) (lend s m))
-  load_answers f = f ∙ ap (λ (x : List ℕ). answer_of (load_words_number x s m)) same
+  pub load_answers : {n : ℕ} → n ≡ load_words_number words s m → n ≡ number (load z) (lend s m)
+  load_answers f = f ∙ ap (λ (x : List ℕ). load_words_number x s m) same
 
   pub load_leaves : {after' : List ℕ} → after' ≡ pick (load_words_number words s m =? 0) (loaded words s) s
       → after' ≡ (after (load z) (lend s m)).state

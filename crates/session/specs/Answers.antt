@@ -1,44 +1,34 @@
--- The answers of the calls, one to one with their numbers and values.
-use Rattle.std.specs.Prelude.{ℕ, zero, suc}
+-- The answers of the calls that have a value, one to one with their numbers and values.
+use Rattle.std.specs.Prelude.{ℕ, zero, suc, Result, Option}
+use Rattle.std.specs.declared.option.Option.TheVariants.{None, Some}
+use Rattle.std.specs.declared.result.Result.TheVariants.{Ok, Err}
 use Rattle.network.specs.View.{Landing, nothing, landed}
 use Rattle.session.specs.Calls.{Lent, ask, fetch, left, period_number, what_landed, number, fetched, words_left, period_number_in, last_landing}
-use Rattle.session.specs.declared.Answer.{Answer}
-use Rattle.session.specs.declared.Answer.TheVariants.{Done, Refused}
-use Rattle.session.specs.declared.Found.{Found}
-use Rattle.session.specs.declared.Found.TheVariants.{Word as FoundWord, Refused as FoundRefused}
 use Rattle.session.specs.declared.Landed.{Landed}
-use Rattle.session.specs.declared.Landed.TheVariants.{Nothing, Word as LandedWord, Refused as LandedRefused}
-
--- load, start, store, order, cycle
-abbrev pub answer_of : ℕ → Answer
-answer_of zero = Done
-answer_of (suc n) = Refused (suc n)
-
--- and back: the number of such an answer
-abbrev pub number_of : Answer → ℕ
-number_of Done = 0
-number_of (Refused n) = n
 
 -- fetch, words left, period number
-abbrev pub found_of : ℕ → ℕ → Found
-found_of zero w = FoundWord w
-found_of (suc n) w = FoundRefused (suc n)
+abbrev pub found_of : ℕ → ℕ → Result ℕ ℕ
+found_of zero w = Ok w
+found_of (suc n) w = Err (suc n)
 
--- what landed
-abbrev pub landed_of : ℕ → Landing → Landed
-landed_of zero nothing = Nothing
-landed_of zero (landed kind address w) = LandedWord kind address w
-landed_of (suc n) landing = LandedRefused (suc n)
+-- what landed, and where nothing did
+abbrev pub shown : Landing → Option Landed
+shown nothing = None
+shown (landed kind address w) = Some (record { kind = kind; address = address; word = w })
+
+abbrev pub landed_of : ℕ → Landing → Result (Option Landed) ℕ
+landed_of zero landing = Ok (shown landing)
+landed_of (suc n) landing = Err (suc n)
 
 -- what each question answers
-abbrev pub left_answer : Lent → ℕ → Found
+abbrev pub left_answer : Lent → ℕ → Result ℕ ℕ
 left_answer w circuit = found_of (number (ask (left circuit)) w) (words_left w.state circuit)
 
-abbrev pub fetch_answer : Lent → ℕ → ℕ → Found
+abbrev pub fetch_answer : Lent → ℕ → ℕ → Result ℕ ℕ
 fetch_answer w node address = found_of (number (ask (fetch node address)) w) (fetched w.state w.memory node address)
 
-abbrev pub period_answer : Lent → Found
+abbrev pub period_answer : Lent → Result ℕ ℕ
 period_answer w = found_of (number (ask period_number) w) (period_number_in w.state)
 
-abbrev pub landed_answer : Lent → ℕ → Landed
+abbrev pub landed_answer : Lent → ℕ → Result (Option Landed) ℕ
 landed_answer w node = landed_of (number (ask (what_landed node)) w) (last_landing w.state node)

@@ -1,28 +1,24 @@
 // The cycle, on any lent words and on words that are known to be sound.
-ghost use Rattle.std.specs.Prelude.{◌≡◌};
+ghost use Rattle.std.specs.Prelude.{◌≡◌, MatchResult};
+ghost use Rattle.refusal.specs.Numbers.{number_of};
 ghost use Rattle.network.specs.declared.Live.{Live};
 ghost use Rattle.session.specs.Calls.{state_number, memory_number, lend, cycle, number, after};
-ghost use Rattle.session.specs.Answers.{answer_of};
 ghost use Rattle.network.specs.Inner.Live.{Covered};
 ghost use Rattle.session.specs.Inner.Resting.{Rested};
 
-use crate::Answer;
-use machine::Stepped;
+use crate::Refusal;
+use crate::reading::check_memory;
 use network::Live;
 
 // One clock cycle on words that have passed 12 to 14, which a cycle that is carried out leaves so (sound-kept): loops of ours begin with
 // words that passed and need not test them again.
-pub fn cycle_sound(s: &mut [u32], m: &mut [u32]) -> Answer
+pub fn cycle_sound(s: &mut [u32], m: &mut [u32]) -> Result<(), Refusal>
     requires { memory_number s.old m.old ≡ 0 }
-    ensures answer { result ≡ answer_of (number cycle (lend s.old m.old)) }
+    ensures answer { number_of result ≡ number cycle (lend s.old m.old) }
     ensures state { s.new ≡ (after cycle (lend s.old m.old)).state }
     ensures memory { m.new ≡ (after cycle (lend s.old m.old)).memory }
 {
-    let fault = machine::step(s, m);
-    if fault != 0 {
-        return Answer::Refused(fault);
-    }
-    Answer::Done
+    machine::step(s, m)
 }
 
 // Where something may be in the routers and senders of a state that has passed 12 and 13.
@@ -35,26 +31,23 @@ pub fn live_now(s: &[u32]) -> Live
 
 // The same cycle for a loop that hands on where something may be: what it need not look for costs nothing. Such a loop begins with live_now,
 // and goes on with what each cycle answers.
-pub fn cycle_live(s: &mut [u32], m: &mut [u32], live: Live) -> Stepped
+pub fn cycle_live(s: &mut [u32], m: &mut [u32], live: Live) -> Result<Live, Refusal>
     requires { (memory_number s.old m.old ≡ 0) × (Covered s.old live) }
-    ensures number { result.number ≡ number cycle (lend s.old m.old) }
+    ensures number { number_of result ≡ number cycle (lend s.old m.old) }
     ensures state { s.new ≡ (after cycle (lend s.old m.old)).state }
     ensures memory { m.new ≡ (after cycle (lend s.old m.old)).memory }
-    ensures covered { Covered s.new result.live }
+    ensures covered { MatchResult result (Covered s.new) (λ _. Covered s.new live) }
 {
     machine::step_live(s, m, live)
 }
 
 // One clock cycle.
-pub fn cycle(s: &mut [u32], m: &mut [u32]) -> Answer
-    ensures answer { result ≡ answer_of (number cycle (lend s.old m.old)) }
+pub fn cycle(s: &mut [u32], m: &mut [u32]) -> Result<(), Refusal>
+    ensures answer { number_of result ≡ number cycle (lend s.old m.old) }
     ensures state { s.new ≡ (after cycle (lend s.old m.old)).state }
     ensures memory { m.new ≡ (after cycle (lend s.old m.old)).memory }
 {
-    let number = crate::reading::memory_number(s, m);
-    if number != 0 {
-        return Answer::Refused(number);
-    }
+    check_memory(s, m)?;
     cycle_sound(s, m)
 }
 

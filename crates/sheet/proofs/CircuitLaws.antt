@@ -5,7 +5,7 @@ use mathlib.Core.Bool.{Bool, true, false}
 use mathlib.Core.List.{List}
 use mathlib.Core.Path.{◌≡◌, refl, sym, ◌∙◌, ap, ap₂, subst}
 use native.Mathlib.Omega.{arith}
-use Rattle.words.specs.Tests.{◌and◌, ◌≤?◌, ◌<?◌}
+use Rattle.words.specs.Tests.{◌=?◌, ◌and◌, ◌or◌, ◌≤?◌, ◌<?◌}
 use Rattle.words.specs.Words.{word}
 use Rattle.words.proofs.TestLaws.{and_no, and_on, or_yes, or_on, or_skip, yes≤, no≤, yes<, no<, yes=, no=, yes≠, no≠}
 use Rattle.sheet.specs.declared.circuits.Region.{Region}
@@ -75,21 +75,18 @@ module _ (z : List ℕ) (j k : ℕ) (own : Region) (other : Circuit)
   receive_is : apart own other.receive ≡ apart (circuit_at z j).receive (circuit_at z k).receive
   receive_is = ap₂ apart p (ap (λ (c : Circuit). c.receive) q)
 
-  -- a circuit with itself
-  pub pair_same : {v : Bool} → j ≡ k → v ≡ apart own other.read → v ≡ receive_apart z j k
-  unfolding receive_apart
-  pair_same e r = and_on (sym (or_yes _ (yes= e))) (r ∙ read_is)
+  -- whether it is the same circuit or the receive regions are apart, and then the read region decides
+  module _ {t : Bool} (e : t ≡ (j =? k or apart own other.receive)) where
+    first_is : t ≡ (j =? k or apart (circuit_at z j).receive (circuit_at z k).receive)
+    first_is = e ∙ ap (λ b. j =? k or b) receive_is
 
-  -- the receive regions are apart, and the read region decides
-  pub pair_other : {v w : Bool} → w ≡ true → w ≡ apart own other.receive → v ≡ apart own other.read
-      → v ≡ receive_apart z j k
-  unfolding receive_apart
-  pair_other e f r = and_on (sym (or_skip _ (sym e ∙ f ∙ receive_is))) (r ∙ read_is)
+    pub pair_on : {v : Bool} → t ≡ true → v ≡ apart own other.read → v ≡ receive_apart z j k
+    unfolding receive_apart
+    pair_on y r = and_on (sym first_is ∙ y) (r ∙ read_is)
 
-  -- the receive regions of two circuits share a word
-  pub pair_no : {w : Bool} → (j ≡ k → ⊥) → w ≡ false → w ≡ apart own other.receive → false ≡ receive_apart z j k
-  unfolding receive_apart
-  pair_no ne e f = and_no _ (sym (or_on (no= ne) (sym e ∙ f ∙ receive_is)))
+    pub pair_no : t ≡ false → t ≡ receive_apart z j k
+    unfolding receive_apart
+    pair_no n = n ∙ and_no _ (sym first_is ∙ n)
 
 -- a pair of circuits of rule 6, of which the second has no node in common with the first one's receive region
 pub pair_nodes : (z : List ℕ) (j k : ℕ) (own : Region) (source destination : ℕ) → own ≡ (circuit_at z j).receive

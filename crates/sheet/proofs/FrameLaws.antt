@@ -13,8 +13,8 @@ use Rattle.words.specs.Tests.{between, ◌and◌, ◌≤?◌, ◌=?◌}
 use Rattle.words.specs.Words.{word, pick}
 use Rattle.words.proofs.TestLaws.{and_no, and_skip, and_both, and_left, and_right, yes≤, no≤, is≤, is=}
 use Rattle.words.proofs.AllLaws.{all_at}
-use Rattle.sheet.specs.declared.frame.Place.{Place}
-use Rattle.sheet.specs.declared.frame.Place.TheVariants.{At, Nowhere}
+use Rattle.std.specs.Prelude.{Option}
+use Rattle.std.specs.declared.option.Option.TheVariants.{Some, None}
 use Rattle.sheet.specs.Sheet.{circuits, schedules, stated_entries, schedule_place, next_place, period, entries_of}
 use Rattle.sheet.specs.Inner.Frame.{place_after}
 use Rattle.sheet.specs.Rules.{schedule_fits, rule3}
@@ -27,25 +27,25 @@ range_read low high p e f = ap (between low high) (sym p) ∙ sym e ∙ f
 -- the answer of `place_after`, from the facts in numbers
 module _ (z : List ℕ) (at : ℕ) where
   -- a place, where a test holds
-  abbrev choice : Bool → Place
-  choice test = pick test (At (next_place z at)) Nowhere
+  abbrev choice : Bool → Option ℕ
+  choice test = pick test (Some (next_place z at)) None
 
   choice_by : {a b : Bool} → a ≡ b → choice a ≡ choice b
   choice_by e = ap choice e
 
   -- the schedule fits
   pub after_yes : (next : ℕ) → next ≡ next_place z at → at + 2 ≤ length z → stated_entries z at ≤ 256
-      → At next ≡ place_after z at
+      → Some next ≡ place_after z at
   unfolding place_after
-  after_yes next e a b = ap At e ∙ sym (choice_by (and_both (yes≤ a) (yes≤ b)))
+  after_yes next e a b = ap Some e ∙ sym (choice_by (and_both (yes≤ a) (yes≤ b)))
 
   -- the schedule begins too late
-  pub after_short : length z < at + 2 → Nowhere ≡ place_after z at
+  pub after_short : length z < at + 2 → None ≡ place_after z at
   unfolding place_after
   after_short h = choice_by (and_no _ (no≤ h))
 
   -- the schedule states too many entries
-  pub after_many : 256 < stated_entries z at → Nowhere ≡ place_after z at
+  pub after_many : 256 < stated_entries z at → None ≡ place_after z at
   unfolding place_after
   after_many h = choice_by (and_skip _ (sym (no≤ h)))
 
@@ -66,11 +66,11 @@ module _ (z : List ℕ) (j at : ℕ) (e : at ≡ schedule_place z j) where
   fits_at = ap (λ (p : ℕ). p + 2 ≤? length z and stated_entries z p ≤? 256) (sym e)
 
   -- the schedule does not fit
-  pub step_no : place_after z at ≡ Nowhere → schedule_fits z j ≡ false
+  pub step_no : place_after z at ≡ None → schedule_fits z j ≡ false
   unfolding place_after
   step_no h = go (at + 2 ≤? length z and stated_entries z at ≤? 256) fits_at h
     where
-      go : (t : Bool) → schedule_fits z j ≡ t → choice z at t ≡ Nowhere → schedule_fits z j ≡ false
+      go : (t : Bool) → schedule_fits z j ≡ t → choice z at t ≡ None → schedule_fits z j ≡ false
       go true f q = let e₀ : ◌≡◌ {A = ℕ} 0 1 = cc in absurd (omega arith)
       go false f q = f
 
@@ -84,11 +84,11 @@ module _ (z : List ℕ) (j at : ℕ) (e : at ≡ schedule_place z j) where
   place_next n q = ap (λ (k : ℕ). at + 2 + 4 * k) q ∙ place_more
 
   -- the schedule fits
-  pub step_on : (next : ℕ) → place_after z at ≡ At next → Stepped z j at next
+  pub step_on : (next : ℕ) → place_after z at ≡ Some next → Stepped z j at next
   unfolding place_after
   step_on next h = go (at + 2 ≤? length z and stated_entries z at ≤? 256) refl h
     where
-      go : (t : Bool) → (at + 2 ≤? length z and stated_entries z at ≤? 256) ≡ t → choice z at t ≡ At next → Stepped z j at next
+      go : (t : Bool) → (at + 2 ≤? length z and stated_entries z at ≤? 256) ≡ t → choice z at t ≡ Some next → Stepped z j at next
       go true f q =
           let n : next_place z at ≡ next = cc in
           let few = is≤ (stated_entries z at) 256 (and_right _ _ f) in

@@ -7,6 +7,7 @@ use mathlib.Core.Path.{◌≡◌, sym, ◌∙◌, ap, ap₂, subst}
 use Rattle.words.specs.Tests.{◌≤?◌}
 use Rattle.words.specs.Words.{word}
 use Rattle.words.proofs.TestLaws.{yes≤, no≤}
+use Rattle.std.specs.Prelude.{Option}
 use Rattle.torus.specs.declared.Path.{Path}
 use Rattle.torus.specs.Route.{route_from}
 use Rattle.torus.specs.Inner.Grid.{InGrid}
@@ -33,7 +34,7 @@ module _ (z : List ℕ) {cols count : ℕ} (x : cols ≡ columns z) (y : count �
   grid_read {node} g =
       subst (λ (n : ℕ). InGrid n count node) (sym x) (subst (λ (n : ℕ). InGrid (columns z) n node) (sym y) g)
 
-  pub path_read : (long : Bool) → is_long z ≡ long → (source route : ℕ) (path : Path) → path ≡ path_of (route_from cols count long source route)
+  pub path_read : (long : Bool) → is_long z ≡ long → (source route : ℕ) (path : Option Path) → path ≡ path_of (route_from cols count long source route)
       → path ≡ path_of (route_from (columns z) (rows z) (is_long z) source route)
   path_read long e source route path q =
       q ∙ ap₂ (λ (a b : ℕ). path_of (route_from a b long source route)) x y

@@ -27,11 +27,7 @@ impl Region {
     fn fits(self, memory: u32) -> bool
         ensures { result ≡ region_fits memory self }
     {
-        if self.size < 1 {
-            return false;
-        }
-        let end = self.offset as u64 + self.size as u64;
-        end <= memory as u64
+        self.size >= 1 && self.offset as u64 + self.size as u64 <= memory as u64
     }
 
     // The two regions share no word.
@@ -39,13 +35,9 @@ impl Region {
         requires { (self.offset + self.size < 65536) × (other.offset + other.size < 65536) }
         ensures { result ≡ apart self other }
     {
-        if self.node != other.node {
-            return true;
-        }
-        if self.offset + self.size <= other.offset {
-            return true;
-        }
-        other.offset + other.size <= self.offset
+        self.node != other.node
+            || self.offset + self.size <= other.offset
+            || other.offset + other.size <= self.offset
     }
 }
 
@@ -73,44 +65,19 @@ impl Circuit {
     pub fn fits(self, nodes: u32, memory: u32) -> bool
         ensures { result ≡ circuit_fits nodes memory self }
     {
-        let read = self.read;
-        let receive = self.receive;
-        if nodes <= read.node {
-            return false;
-        }
-        if nodes <= receive.node {
-            return false;
-        }
-        if read.node == receive.node {
-            return false;
-        }
-        if read.fits(memory) {
-            return receive.fits(memory);
-        }
-        false
+        self.read.node < nodes
+            && self.receive.node < nodes
+            && self.read.node != self.receive.node
+            && self.read.fits(memory)
+            && self.receive.fits(memory)
     }
 
     // Number 5 at one circuit and the next.
     fn is_before(self, next: Circuit) -> bool
         ensures { result ≡ circuit_precedes self next }
     {
-        let receive = self.receive;
-        let other = next.receive;
-        is_ordered(receive.node, receive.offset, other.node, other.offset)
+        (self.receive.node, self.receive.offset) < (next.receive.node, next.receive.offset)
     }
-}
-
-// (a, b) comes before (c, d): by the first, and by the second where the first are equal.
-pub fn is_ordered(a: u32, b: u32, c: u32, d: u32) -> bool
-    ensures { result ≡ precedes a b c d }
-{
-    if a < c {
-        return true;
-    }
-    if a == c {
-        return b < d;
-    }
-    false
 }
 
 // Number 4: each circuit joins two different nodes of the grid, and its two regions fit. The checker calls the rules in their
@@ -121,16 +88,7 @@ pub fn keeps_rule4(z: &[u32]) -> bool
 {
     let nodes = nodes_of(z);
     let memory = memory_of(z);
-    let count = circuits_of(z);
-    let mut k: u32 = 0;
-    while k < count {
-        if Circuit::at(z, k).fits(nodes, memory) {
-            k += 1;
-        } else {
-            return false;
-        }
-    }
-    true
+    (0..circuits_of(z)).all(|k| Circuit::at(z, k).fits(nodes, memory))
 }
 
 // Number 5: the circuits strictly ascend by destination and receive offset.
@@ -138,16 +96,8 @@ pub fn keeps_rule5(z: &[u32]) -> bool
     requires { Framed z.now }
     ensures { result ≡ rule5 z.now }
 {
-    let count = circuits_of(z);
-    let mut k: u32 = 0;
-    while k + 1 < count {
-        if Circuit::at(z, k).is_before(Circuit::at(z, k + 1)) {
-            k += 1;
-        } else {
-            return false;
-        }
-    }
-    true
+    let pairs = circuits_of(z).saturating_sub(1);
+    (0..pairs).all(|k| Circuit::at(z, k).is_before(Circuit::at(z, k + 1)))
 }
 
 // Number 6 at circuit j's receive region and circuit k: apart from k's read region, and from another k's receive region.
@@ -156,15 +106,7 @@ fn pair_apart_by_regions(z: &[u32], receive: Region, j: u32, k: u32) -> bool
     ensures { result ≡ receive_apart z.now j k }
 {
     let other = Circuit::at(z, k);
-    let read = other.read;
-    let second = other.receive;
-    if j == k {
-        return receive.is_apart(read);
-    }
-    if receive.is_apart(second) {
-        return receive.is_apart(read);
-    }
-    false
+    (j == k || receive.is_apart(other.receive)) && receive.is_apart(other.read)
 }
 
 // The same, first by the nodes: most pairs have none in common, which circuit k's first two words tell.
@@ -173,13 +115,10 @@ fn pair_apart(z: &[u32], receive: Region, j: u32, k: u32) -> bool
     ensures { result ≡ receive_apart z.now j k }
 {
     let at = 5 + 6 * (k as usize);
-    if words::get(z, at) == receive.node {
-        return pair_apart_by_regions(z, receive, j, k);
+    if words::get(z, at) != receive.node && words::get(z, at + 1) != receive.node {
+        return true;
     }
-    if words::get(z, at + 1) == receive.node {
-        return pair_apart_by_regions(z, receive, j, k);
-    }
-    true
+    pair_apart_by_regions(z, receive, j, k)
 }
 
 // Number 6 at circuit j's receive region.
@@ -187,18 +126,8 @@ fn receive_apart(z: &[u32], j: u32) -> bool
     requires { (Framed z.now) × (rule4 z.now ≡ true) × (j < circuits z.now) }
     ensures { result ≡ all (circuits z.now) (receive_apart z.now j) }
 {
-    let count = circuits_of(z);
-    let own = Circuit::at(z, j);
-    let receive = own.receive;
-    let mut k: u32 = 0;
-    while k < count {
-        if pair_apart(z, receive, j, k) {
-            k += 1;
-        } else {
-            return false;
-        }
-    }
-    true
+    let receive = Circuit::at(z, j).receive;
+    (0..circuits_of(z)).all(|k| pair_apart(z, receive, j, k))
 }
 
 // Number 6: no receive region shares a word with another receive region or with a read region.
@@ -206,14 +135,5 @@ pub fn keeps_rule6(z: &[u32]) -> bool
     requires { (Framed z.now) × (rule4 z.now ≡ true) }
     ensures { result ≡ rule6 z.now }
 {
-    let count = circuits_of(z);
-    let mut j: u32 = 0;
-    while j < count {
-        if receive_apart(z, j) {
-            j += 1;
-        } else {
-            return false;
-        }
-    }
-    true
+    (0..circuits_of(z)).all(|j| receive_apart(z, j))
 }

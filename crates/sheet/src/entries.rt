@@ -5,7 +5,6 @@ ghost use Rattle.sheet.specs.Sheet.{schedules, entry_count, entry_at};
 ghost use Rattle.sheet.specs.Rules.{entry_fits, entry_precedes, rule7_at, rule7, rule8};
 ghost use Rattle.sheet.specs.Inner.Passed.{Framed};
 
-use super::circuits::is_ordered;
 use super::frame::{entries_of, schedule_period};
 use super::head::{circuits_of, schedules_of};
 
@@ -37,23 +36,17 @@ impl Entry {
     pub fn fits(self, circuits: u32, period: u32) -> bool
         ensures { result ≡ entry_fits circuits period self }
     {
-        if period <= self.offset {
-            return false;
-        }
-        if words::is_between(2, 16, self.size) {
-            if circuits <= self.circuit {
-                return false;
-            }
-            return self.route <= 65535;
-        }
-        false
+        self.offset < period
+            && words::is_between(2, 16, self.size)
+            && self.circuit < circuits
+            && self.route <= 65535
     }
 
     // Number 8 at one entry and the next.
     fn is_before(self, next: Entry) -> bool
         ensures { result ≡ entry_precedes self next }
     {
-        is_ordered(self.offset, self.circuit, next.offset, next.circuit)
+        (self.offset, self.circuit) < (next.offset, next.circuit)
     }
 }
 
@@ -61,16 +54,7 @@ impl Entry {
 fn entries_fit(entries: &[u32], circuits: u32, period: u32) -> bool
     ensures { result ≡ all (entry_count entries.now) (λ i. entry_fits circuits period (entry_at entries.now i)) }
 {
-    let count = entries.len() / 4;
-    let mut i = 0;
-    while i < count {
-        if Entry::at(entries, i).fits(circuits, period) {
-            i += 1;
-        } else {
-            return false;
-        }
-    }
-    true
+    (0..entries.len() / 4).all(|i| Entry::at(entries, i).fits(circuits, period))
 }
 
 // Number 7 at schedule j.
@@ -79,10 +63,7 @@ fn schedule_fits(z: &[u32], j: u32) -> bool
     ensures { result ≡ rule7_at z.now j }
 {
     let period = schedule_period(z, j);
-    if words::is_between(9, 1024, period) {
-        return entries_fit(entries_of(z, j), circuits_of(z), period);
-    }
-    false
+    words::is_between(9, 1024, period) && entries_fit(entries_of(z, j), circuits_of(z), period)
 }
 
 // Number 7: each period and each entry's offset, length, circuit and route is in its range. The checker calls the rules in
@@ -91,32 +72,15 @@ pub fn keeps_rule7(z: &[u32]) -> bool
     requires { Framed z.now }
     ensures { result ≡ rule7 z.now }
 {
-    let count = schedules_of(z);
-    let mut j: u32 = 0;
-    while j < count {
-        if schedule_fits(z, j) {
-            j += 1;
-        } else {
-            return false;
-        }
-    }
-    true
+    (0..schedules_of(z)).all(|j| schedule_fits(z, j))
 }
 
 // Number 8 at the entries of a schedule.
 fn entries_ascend(entries: &[u32]) -> bool
     ensures { result ≡ all (entry_count entries.now - 1) (λ i. entry_precedes (entry_at entries.now i) (entry_at entries.now (i + 1))) }
 {
-    let count = entries.len() / 4;
-    let mut i = 0;
-    while i + 1 < count {
-        if Entry::at(entries, i).is_before(Entry::at(entries, i + 1)) {
-            i += 1;
-        } else {
-            return false;
-        }
-    }
-    true
+    let pairs = (entries.len() / 4).saturating_sub(1);
+    (0..pairs).all(|i| Entry::at(entries, i).is_before(Entry::at(entries, i + 1)))
 }
 
 // Number 8: the entries of each schedule strictly ascend by offset and circuit.
@@ -124,14 +88,5 @@ pub fn keeps_rule8(z: &[u32]) -> bool
     requires { Framed z.now }
     ensures { result ≡ rule8 z.now }
 {
-    let count = schedules_of(z);
-    let mut j: u32 = 0;
-    while j < count {
-        if entries_ascend(entries_of(z, j)) {
-            j += 1;
-        } else {
-            return false;
-        }
-    }
-    true
+    (0..schedules_of(z)).all(|j| entries_ascend(entries_of(z, j)))
 }

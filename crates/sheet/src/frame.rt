@@ -10,13 +10,6 @@ use super::head::{circuits_of, columns_of, memory_of, rows_of, schedules_of};
 // The most words that a sheet can have: a head, 64 circuits, and 8 schedules of 256 entries.
 pub const SHEET_WORDS: u32 = 5 + 6 * 64 + 8 * (2 + 4 * 256);
 
-// Where a schedule may begin.
-#[derive(Clone, Copy)]
-pub enum Place {
-    At(usize),
-    Nowhere,
-}
-
 // Number 1: the sheet has its five head words.
 pub fn keeps_rule1(z: &[u32]) -> bool
     ensures { result ≡ rule1 z.now }
@@ -28,31 +21,26 @@ pub fn keeps_rule1(z: &[u32]) -> bool
 pub fn keeps_rule2(z: &[u32]) -> bool
     ensures { result ≡ rule2 z.now }
 {
-    if words::is_between(2, 4, columns_of(z)) {
-        if words::is_between(2, 4, rows_of(z)) {
-            if words::is_between(1, 16384, memory_of(z)) {
-                if words::is_between(0, 64, circuits_of(z)) {
-                    return words::is_between(1, 8, schedules_of(z));
-                }
-            }
-        }
-    }
-    false
+    words::is_between(2, 4, columns_of(z))
+        && words::is_between(2, 4, rows_of(z))
+        && words::is_between(1, 16384, memory_of(z))
+        && words::is_between(0, 64, circuits_of(z))
+        && words::is_between(1, 8, schedules_of(z))
 }
 
 // The place behind the schedule at a place, where that begins within the sheet and states few enough entries.
-fn place_after(z: &[u32], at: usize) -> Place
+fn place_after(z: &[u32], at: usize) -> Option<usize>
     requires { at < 65536 }
     ensures { result ≡ place_after z.now at }
 {
     if z.len() < at + 2 {
-        return Place::Nowhere;
+        return None;
     }
     let count = words::get(z, at + 1);
     if count > 256 {
-        return Place::Nowhere;
+        return None;
     }
-    Place::At(at + 2 + 4 * (count as usize))
+    Some(at + 2 + 4 * (count as usize))
 }
 
 // Number 3: the schedules fill the sheet to its end. The checker calls it once the rules 1 and 2 are kept.
@@ -60,20 +48,12 @@ pub fn keeps_rule3(z: &[u32]) -> bool
     requires { Headed z.now }
     ensures { result ≡ rule3 z.now }
 {
-    let count = schedules_of(z);
     let mut at = 5 + 6 * (circuits_of(z) as usize);
-    let mut j: u32 = 0;
-    while j < count {
-        let after = place_after(z, at);
-        match after {
-            Place::Nowhere => {
-                return false;
-            }
-            Place::At(next) => {
-                at = next;
-            }
-        }
-        j += 1;
+    for _ in 0..schedules_of(z) {
+        let Some(after) = place_after(z, at) else {
+            return false;
+        };
+        at = after;
     }
     at == z.len()
 }
@@ -84,10 +64,8 @@ pub fn schedule_place(z: &[u32], j: u32) -> usize
     ensures { (result ≡ schedule_place z.now j) × Placed z.now result }
 {
     let mut at = 5 + 6 * (circuits_of(z) as usize);
-    let mut i: u32 = 0;
-    while i < j {
+    for _ in 0..j {
         at = at + 2 + 4 * (words::get(z, at + 1) as usize);
-        i += 1;
     }
     at
 }

@@ -17,7 +17,7 @@ const LONG_MARK: u32 = 256;
 pub fn is_long(z: &[u32]) -> bool
     ensures { result ≡ is_long z.now }
 {
-    LONG_MARK <= words::get(z, 1)
+    words::get(z, 1) >= LONG_MARK
 }
 
 // The rows of the grid.
@@ -25,10 +25,11 @@ pub fn rows_of(z: &[u32]) -> u32
     ensures { result ≡ rows z.now }
 {
     let word = words::get(z, 1);
-    if LONG_MARK <= word {
-        return word - LONG_MARK;
+    if word >= LONG_MARK {
+        word - LONG_MARK
+    } else {
+        word
     }
-    word
 }
 
 // The memory words of a node.

@@ -14,13 +14,8 @@ fn mark_circuits(entries: &[u32], marks: &mut [u32])
     requires { Markable entries.now marks.old }
     ensures { marks.new ≡ marked_by entries.now marks.old }
 {
-    let count = entries.len() / 4;
-    let mut i = 0;
-    while i < count {
-        let entry = Entry::at(entries, i);
-        let place = entry.circuit as usize;
-        marks[place] = 1;
-        i += 1;
+    for i in 0..entries.len() / 4 {
+        marks[Entry::at(entries, i).circuit as usize] = 1;
     }
 }
 
@@ -29,12 +24,9 @@ fn served_marks(z: &[u32]) -> [u32; 64]
     requires { Ranged z.now }
     ensures { result ≡ marks_of z.now (schedules z.now) }
 {
-    let count = schedules_of(z);
     let mut marks = [0u32; 64];
-    let mut j: u32 = 0;
-    while j < count {
+    for j in 0..schedules_of(z) {
         mark_circuits(entries_of(z, j), &mut marks);
-        j += 1;
     }
     marks
 }
@@ -45,14 +37,12 @@ pub fn keeps_rule26(z: &[u32]) -> bool
     requires { Ranged z.now }
     ensures { result ≡ rule26 z.now }
 {
-    let count = circuits_of(z);
     let marks = served_marks(z);
-    let mut c: u32 = 0;
-    while c < count {
+    // No closure here: it would borrow the marks, and the compiler would copy them.
+    for c in 0..circuits_of(z) {
         if marks[c as usize] == 0 {
             return false;
         }
-        c += 1;
     }
     true
 }

@@ -1,6 +1,6 @@
 -- The line that sheet_check prints for its input (document 01, "The key's examples", gives the messages): a word with the sheet's
 -- length, then the sheet; what follows is ignored.
-use Rattle.std.specs.Prelude.{ℕ, zero, suc, ◌+◌, ◌*◌, ◌<◌, ◌⊎◌, List, [], ◌∷◌, ◌++◌, length}
+use Rattle.std.specs.Prelude.{ℕ, zero, suc, ◌+◌, ◌*◌, ◌<◌, ◌⊎◌, List, [], ◌∷◌, ◌++◌, length, Result, Ok, Err}
 use Rattle.std.specs.declared.option.Option.{Option}
 use Rattle.std.specs.Io.KnownBytes.{Keeps, Consumes, IsAtEnd, Appends}
 use Rattle.streams.specs.Written.{GotPart}
@@ -10,8 +10,23 @@ use Rattle.sheet.specs.Sheet.{sheet_words}
 use Rattle.sheet.specs.Rules.{check_number}
 use Rattle.octets.specs.Octets.{word_in}
 use Rattle.listing.specs.Text.{line_end, field, too_large, input_ends, refused}
-use Rattle.sheet_check.specs.declared.Line.{Line}
-use Rattle.sheet_check.specs.declared.Line.TheVariants.{Passes, Refused, TooLarge, InputEnds}
+use Rattle.refusal.specs.Numbers.{refusal_number}
+use Rattle.listing.specs.declared.complaint.Complaint.{Complaint}
+use Rattle.listing.specs.declared.complaint.Complaint.TheVariants.{TooLarge as TooLargeComplaint, InputEnds as InputEndsComplaint, Refused as RefusedComplaint}
+
+-- the line to print
+pub data Line : Type 0 where
+  Passes : Line
+  Refused : ℕ → Line
+  TooLarge : Line
+  InputEnds : Line
+
+-- the line that a judgement stands for
+abbrev pub line : {A : Type 0} → Result A Complaint → Line
+line (Ok x) = Passes
+line (Err TooLargeComplaint) = TooLarge
+line (Err InputEndsComplaint) = InputEnds
+line (Err (RefusedComplaint e)) = Refused (refusal_number e)
 
 -- the sheet that follows its length
 abbrev pub sheet_of : List ℕ → List ℕ

@@ -1,6 +1,6 @@
 -- The mask of the circuits that act: how it is gathered, circuit by circuit, and that beside it every circuit rests.
 -- Assumes nothing.
-use Prim.Native.Nat.{ℕ, ◌+◌, ◌<◌, ◌≤◌}
+use Prim.Native.Nat.{ℕ, ◌+◌, ◌<◌}
 use mathlib.Core.Bool.{false}
 use mathlib.Core.List.{List}
 use mathlib.Core.Path.{◌≡◌, refl, sym, subst, ◌∙◌, ap}
@@ -43,31 +43,6 @@ beside_more property mask more n g h c l free = go (ℕ_discrete c n)
     go : Dec (c ≡ n) → property c
     go (yes e) = subst property (sym e) (h (subst (λ (k : ℕ). bit_at more k ≡ 0) e (union_free mask more c free).1))
     go (no ne) = g c (omega (arith, ne)) (union_free mask more c free).0
-
--- a circuit that a mask has is not beside it
-pub not_beside : (mask c : ℕ) (A : Type 0) → bit_at mask c ≡ 1 → bit_at mask c ≡ 0 → A
-not_beside mask c A e f = absurd (let x : ⊥ = omega (arith, e, f) in x)
-
--- the circuits before c that open a packet are in the mask
-pub record Opening (s z : List ℕ) (count opening c : ℕ) : Type 0 where
-  pub inside : c ≤ count
-  pub whole : count ≡ circuits z
-  pub beside : Beside (λ k. opens_in s k ≡ false) opening c
-
-pub opening_start : (s z : List ℕ) (count : ℕ) → count ≡ circuits z → Opening s z count 0 0
-opening_start s z count e = record { inside = omega arith; whole = e; beside = λ k l. absurd (omega arith) }
-
-pub opening_more : (s z : List ℕ) (count opening c : ℕ) → Opening s z count opening c → c < count → (more : ℕ)
-    → (bit_at more c ≡ 0 → opens_in s c ≡ false) → Opening s z count (bit_or opening more) (c + 1)
-opening_more s z count opening c g l more h = record {
-  inside = omega arith;
-  whole = g.whole;
-  beside = beside_more (λ k. opens_in s k ≡ false) opening more c g.beside h;
-}
-
-pub opening_done : (s z : List ℕ) (count opening c : ℕ) → Opening s z count opening c → count ≤ c
-    → Beside (λ k. opens_in s k ≡ false) opening (circuits z)
-opening_done s z count opening c g l k h free = g.beside k (omega (arith, g.inside, g.whole)) free
 
 -- those amid a packet, and those that open one
 module _ (s z : List ℕ) (g : Paired s z) (sending : ℕ) (resting : Beside (λ c. reg s to_go_row c ≡ 0) sending (circuits z)) where

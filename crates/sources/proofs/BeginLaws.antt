@@ -1,17 +1,17 @@
 -- The table of slots that begin: how the loop over the entries fills it, and the slot of a circuit that is read from it.
 -- Assumes nothing.
-use Prim.Native.Nat.{ℕ, zero, suc, ◌+◌, ◌-◌, ◌<◌, ◌≤◌}
+use Prim.Native.Nat.{ℕ, zero, suc, ◌+◌, ◌-◌, ◌*◌, ◌<◌, ◌≤◌}
 use mathlib.Core.Bool.{Bool, true, false, false≢true}
 use mathlib.Core.List.{List}
 use mathlib.Core.Path.{◌≡◌, refl, sym, subst, ◌∙◌, ap}
 use native.Mathlib.Omega.{arith}
 use native.Mathlib.Nat.{add-zero}
-use lib.ListN.{length, set}
+use lib.ListN.{set}
 use Rattle.words.specs.Tests.{◌and◌, ◌or◌, ◌=?◌}
 use Rattle.words.specs.Words.{word, pick, tab, last_of}
 use Rattle.words.proofs.TestLaws.{and_no, and_both, and_left, and_no_right, or_yes, or_on, or_cases, yes=, no=, is=, is<}
 use Rattle.words.proofs.AllLaws.{all_at}
-use Rattle.words.proofs.WordLaws.{last_of_more, length_tab, tab_at}
+use Rattle.words.proofs.WordLaws.{last_of_more, tab_at}
 use Rattle.sheet.specs.declared.entries.Entry.{Entry}
 use Rattle.sheet.specs.Sheet.{circuits, schedules, entries_of, entry_count, entry_at}
 use Rattle.sheet.specs.Rules.{precedes, entry_precedes, rule8_at, rule8}
@@ -166,12 +166,6 @@ module _ (z : List ℕ) (j cycle : ℕ) where
       }
 
   module _ (entries slots : List ℕ) (count : ℕ) (begins : Bool) (i : ℕ) (g : Filling entries slots count begins i) where
-    -- entry i is one of the schedule's, and its number fits a word
-    pub filling_inside : i < count → i < entry_count entries
-    filling_inside l =
-        let q : entry_count entries ≡ entry_count (entries_of z j) = ap entry_count g.same in
-        omega (arith, g.whole)
-
     -- while none begins, nothing is put into the table
     none_more : (e : Entry) (begins' : Bool) → begins' ≡ begins or (e.offset =? cycle) → begins' ≡ false
         → slot_put e (i + 1) cycle slots ≡ tab 64 (λ (c : ℕ). 0)
@@ -193,9 +187,6 @@ module _ (z : List ℕ) (j cycle : ℕ) where
       table = q ∙ put_more i e (read ∙ ap (λ (x : List ℕ). entry_at x i) g.same) slots g.table;
       none = λ idle. q ∙ none_more e begins' b idle;
     }
-
-    pub filling_length : length slots ≡ 64
-    filling_length = ap length g.table ∙ length_tab 64 (last_before i)
 
     filling_done : count ≤ i → slots ≡ tab 64 (entry_beginning z j cycle)
     unfolding entry_beginning
@@ -280,27 +271,16 @@ module _ (s z : List ℕ) (g : Paired s z) where
       pub slot_route_is : (x : Entry) → x ≡ entry_at entries (found - 1) → x.route ≡ slot_route (sheet_in s) in_force cycle_now c
       slot_route_is x r = route_is z in_force cycle_now c found found_is entries entries_own x r ne ∙ route_own
 
--- no entry is passed yet
-pub behind_none : (entries : List ℕ) (cycle : ℕ) → BegunBefore entries cycle 0
-behind_none entries cycle = record { inside = omega arith; earlier = λ k l. absurd (omega arith) }
-
--- the loop that passes over entries in steps
-pub record Passing (entries : List ℕ) (cycle count i : ℕ) : Type 0 where
-  pub behind : BegunBefore entries cycle i
-  pub whole : count ≡ entry_count entries
-  pub few : count ≤ 256
-
-pub passing_start : (z : List ℕ) (j cycle : ℕ) (entries : List ℕ) → Framed z → j < schedules z → entries ≡ entries_of z j
-    → Passing entries cycle (entry_count entries) 0
-passing_start z j cycle entries f l e =
+-- a schedule's entries are few
+pub passing_few : {z : List ℕ} {j : ℕ} {entries : List ℕ} → Framed z → j < schedules z → entries ≡ entries_of z j → entry_count entries ≤ 256
+passing_few {z} {j} {entries} f l e =
     let q : entry_count entries ≡ entry_count (entries_of z j) = ap entry_count e in
-    record { behind = behind_none entries cycle; whole = refl; few = omega (arith, entries_few z f j l) }
+    omega (arith, entries_few z f j l)
 
-pub passing_more : (z : List ℕ) (j cycle : ℕ) (entries : List ℕ) (count i : ℕ) → rule8 z ≡ true → j < schedules z → entries ≡ entries_of z j
-    → Passing entries cycle count i → i + 16 ≤ count → (e : Entry) → e ≡ entry_at entries (i + 15) → e.offset < cycle
-    → Passing entries cycle count (i + 16)
-passing_more z j cycle entries count i r l same g fits e read early = record {
-  behind = behind_more z j cycle r l entries i same g.behind (omega (arith, g.whole)) e read early;
-  whole = g.whole;
-  few = g.few;
-}
+-- a step more that begins before the cycle
+pub passing_more : (z : List ℕ) (j cycle : ℕ) (entries : List ℕ) (step : ℕ) → rule8 z ≡ true → j < schedules z → entries ≡ entries_of z j
+    → BegunBefore entries cycle (step * 16) → step * 16 + 16 ≤ entry_count entries → (e : Entry) → e ≡ entry_at entries (step * 16 + 15)
+    → e.offset < cycle → BegunBefore entries cycle ((step + 1) * 16)
+passing_more z j cycle entries step r l same g fits e read early =
+    let next : step * 16 + 16 ≡ (step + 1) * 16 = omega arith in
+    subst (BegunBefore entries cycle) next (behind_more z j cycle r l entries (step * 16) same g fits e read early)

@@ -15,6 +15,8 @@ use Rattle.sheet.specs.Sheet.{circuits, schedules}
 use Rattle.sheet.specs.Inner.Passed.{Framed}
 use Rattle.sheet.specs.Slots.{entry_beginning, slot_length}
 use Rattle.occupancy.specs.Inner.Occupancy.{bit_at, NextTaken}
+use Rattle.occupancy.specs.declared.TakenPlaces.{TakenPlaces}
+use Rattle.occupancy.proofs.WalkLaws.{On, Begun, Gave, Ended, none_left, next_place}
 use Rattle.network.specs.View.{Sender}
 use Rattle.network.specs.Cycle.{Move, rests, opens, sends, move, step_sender}
 use Rattle.network.specs.Registers.{reg, put, sheet_in, moving_words, clock_row, cycle_place, in_force_place, left_row, read_row, write_row, kind_row, to_go_row, row_count, row_words}
@@ -50,13 +52,6 @@ module _ (s : List ℕ) (c left read write remaining : ℕ) where
       ∙ ap (λ (x : ℕ). sent (reg s left_row c) x write remaining) b
       ∙ ap (λ (x : ℕ). sent (reg s left_row c) (reg s read_row c) x remaining) d
       ∙ ap (sent (reg s left_row c) (reg s read_row c) (reg s write_row c)) e
-
--- a sheet cut out of the state is its own
-pub cut_paired : (s z : List ℕ) → z ≡ sheet_in s → Paired s (sheet_in s) → Paired s z
-cut_paired s z e g = subst (Paired s) (sym e) g
-
-pub cut_inside : (s z : List ℕ) → z ≡ sheet_in s → (c : ℕ) → c < circuits (sheet_in s) → c < circuits z
-cut_inside s z e c l = subst (λ (x : List ℕ). c < circuits x) (sym e) l
 
 -- what a circuit writes, by the registers and the slot that were read
 module _ (s : List ℕ) (c left : ℕ) (a : left ≡ reg s left_row c) where
@@ -95,9 +90,6 @@ module _ (s : List ℕ) (c left : ℕ) (a : left ≡ reg s left_row c) where
           put_by sends
           (moves_on s c false closed refl
           ∙ ap (λ (x : Bool). pick x sends rests) (yes≤ (let l : 1 ≤ reg s to_go_row c = omega (arith, more) in l))) after q
-
-      pub still_going : (remaining ≡ 0 → ⊥) → 1 ≤ reg s to_go_row c
-      still_going more = omega (arith, more)
 
 -- behind its last payload word no word of a packet is to go
 pub sent_last : (s : List ℕ) → Paired s (sheet_in s) → (c : ℕ) → c < circuits (sheet_in s) → (remaining : ℕ) → remaining ≡ reg s to_go_row c
@@ -188,9 +180,15 @@ record FirstStepped (s₀ : List ℕ) (count : ℕ) (s : List ℕ) (sending n : 
   staged : Staged left_row to_go_row n (next_in_row s₀ []) s₀ s
   done : Beside (NoneToGo s₀) sending n
 
--- the same of the circuits before c, which may lie behind the last
-pub record Stepping (s₀ : List ℕ) (count : ℕ) (s : List ℕ) (sending c : ℕ) : Type 0 where
-  first : FirstStepped s₀ count s sending (min c count)
+-- the same of the circuits before c, which is one of them
+pub record Here (s₀ : List ℕ) (count : ℕ) (s : List ℕ) (sending c : ℕ) : Type 0 where
+  first : FirstStepped s₀ count s sending c
+  below : c < count
+
+-- the same of the circuits that a walk has left behind
+pub record Stepping (s₀ : List ℕ) (acting count : ℕ) (s : List ℕ) (sending : ℕ) (walk : TakenPlaces) : Type 0 where
+  pub on : On acting count walk
+  first : FirstStepped s₀ count s sending walk.from
 
 module _ (s₀ : List ℕ) (p : Steppable s₀) (acting : ℕ) (a : Acting s₀ acting) (count : ℕ) where
   -- a circuit beside the mask of those that act keeps its registers
@@ -200,67 +198,69 @@ module _ (s₀ : List ℕ) (p : Steppable s₀) (acting : ℕ) (a : Acting s₀ 
       rests_stays s₀ p.long k few (after_by s₀ p.long k few rests (beside_rests s₀ acting a k l free))
 
   -- all circuits up to the next of the mask
-  stepping_next : (s : List ℕ) (sending n next : ℕ) → FirstStepped s₀ count s sending n → NextTaken acting n next
-      → Stepping s₀ count s sending next
-  stepping_next s sending n next g t = record {
-    first = record {
-      inside = omega arith;
-      whole = g.whole;
-      staged =
-          stage_jump left_row to_go_row n (min next count) (next_in_row s₀ []) s₀ s (omega arith)
-          (omega (arith, g.whole, p.framed.headed.circuits_high)) (omega (arith, g.inside, t.onward)) g.staged
-          (λ k b l. beside_stays k (omega (arith, g.whole)) (t.passed k b (omega arith)));
-      done = λ k l free. go k l free (dec_lt k n);
-    };
+  stepping_next : (s : List ℕ) (sending n next : ℕ) → FirstStepped s₀ count s sending n → NextTaken acting n next → next ≤ count
+      → FirstStepped s₀ count s sending next
+  stepping_next s sending n next g t h = record {
+    inside = h;
+    whole = g.whole;
+    staged =
+        stage_jump left_row to_go_row n next (next_in_row s₀ []) s₀ s (omega arith)
+        (omega (arith, g.whole, p.framed.headed.circuits_high)) t.onward g.staged
+        (λ k b l. beside_stays k (omega (arith, g.whole)) (t.passed k b l));
+    done = λ k l free. go k l free (dec_lt k n);
   }
     where
-      go : (k : ℕ) → k < min next count → bit_at sending k ≡ 0 → Dec (k < n) → NoneToGo s₀ k
+      go : (k : ℕ) → k < next → bit_at sending k ≡ 0 → Dec (k < n) → NoneToGo s₀ k
       go k l free (yes e) = g.done k e free
       go k l free (no ne) =
           let inside : k < circuits (sheet_in s₀) = omega (arith, g.whole) in
-          let passed = t.passed k (omega (arith, ne)) (omega arith) in
+          let passed = t.passed k (omega (arith, ne)) l in
           beside_stays k inside passed to_go_row (omega arith) (omega arith) ∙ a.none_to_go k inside passed
 
-  pub stepping_start : (z : List ℕ) → z ≡ sheet_in s₀ → count ≡ circuits z → (c : ℕ) → NextTaken acting 0 c → Stepping s₀ count s₀ 0 c
-  stepping_start z e q c t = stepping_next s₀ 0 0 c (record {
-    inside = omega arith;
-    whole = q ∙ ap circuits e;
-    staged = stage_start left_row to_go_row (next_in_row s₀ []) s₀;
-    done = λ k l. absurd (omega arith);
-  }) t
+  pub stepping_start : (z : List ℕ) → z ≡ sheet_in s₀ → count ≡ circuits z → (walk : TakenPlaces) → Begun acting count walk
+      → Stepping s₀ acting count s₀ 0 walk
+  stepping_start z e q walk b = record {
+    on = b.on;
+    first = record {
+      inside = omega arith;
+      whole = q ∙ ap circuits e;
+      staged = subst (λ (n : ℕ). Staged left_row to_go_row n (next_in_row s₀ []) s₀ s₀) (sym b.at_start) (stage_start left_row to_go_row (next_in_row s₀ []) s₀);
+      done = λ k l. absurd (omega (arith, b.at_start));
+    };
+  }
 
-module _ (s₀ : List ℕ) (p : Steppable s₀) (count : ℕ) (s : List ℕ) (sending c : ℕ) (w : Stepping s₀ count s sending c) where
-  pub stepping_length : length s ≡ length s₀
-  stepping_length = w.first.staged.same_length
+  module _ (s : List ℕ) (sending : ℕ) (walk : TakenPlaces) (w : Stepping s₀ acting count s sending walk) (after : TakenPlaces) where
+    -- behind the last of the mask all have stepped
+    module _ (t : Ended walk after) where
+      all_stepped : FirstStepped s₀ count s sending count
+      all_stepped = stepping_next s sending walk.from count w.first (none_left acting count walk w.on after t) (omega arith)
 
-  module _ (l : count ≤ c) where
-    all_done : min c count ≡ circuits (sheet_in s₀)
-    all_done = omega (arith, w.first.whole)
+      pub stepping_done : s ≡ stage left_row to_go_row (circuits (sheet_in s₀)) (next_in_row s₀ []) s₀
+      stepping_done =
+          staged_is left_row to_go_row count (next_in_row s₀ []) s₀ s p.long all_stepped.staged
+          ∙ ap (λ (n : ℕ). stage left_row to_go_row n (next_in_row s₀ []) s₀) all_stepped.whole
 
-    pub stepping_done : s ≡ stage left_row to_go_row (circuits (sheet_in s₀)) (next_in_row s₀ []) s₀
-    stepping_done =
-        staged_is left_row to_go_row (min c count) (next_in_row s₀ []) s₀ s p.long w.first.staged
-        ∙ ap (λ (n : ℕ). stage left_row to_go_row n (next_in_row s₀ []) s₀) all_done
+      pub stepping_rest : Beside (λ k. reg s to_go_row k ≡ 0) sending (circuits (sheet_in s₀))
+      stepping_rest k h free =
+          let inside : k < count = omega (arith, all_stepped.whole) in
+          all_stepped.staged.done to_go_row k (omega arith) (omega arith) inside ∙ all_stepped.done k inside free
 
-    pub stepping_rest : Beside (λ k. reg s to_go_row k ≡ 0) sending (circuits (sheet_in s₀))
-    stepping_rest k h free =
-        let inside : k < min c count = omega (arith, all_done) in
-        w.first.staged.done to_go_row k (omega arith) (omega arith) inside ∙ w.first.done k inside free
+    -- the circuits before the next of the mask have stepped
+    pub stepping_to : (c : ℕ) → Gave walk c after → Here s₀ count s sending c
+    stepping_to c t =
+        let q = next_place acting count walk w.on after c t in
+        record { first = stepping_next s sending walk.from c w.first q.next (omega (arith, q.below)); below = q.below }
 
-  module _ (l : c < count) where
+module _ (s₀ : List ℕ) (p : Steppable s₀) (count : ℕ) (s : List ℕ) (sending : ℕ) where
+  module _ (c : ℕ) (w : Here s₀ count s sending c) where
     here : FirstStepped s₀ count s sending c
-    here =
-        let q : min c count ≡ c = omega arith in
-        subst (FirstStepped s₀ count s sending) q w.first
+    here = w.first
 
     inside_own : c < circuits (sheet_in s₀)
-    inside_own = omega (arith, here.whole)
+    inside_own = omega (arith, here.whole, w.below)
 
     few : c < 64
     few = circuit_few (sheet_in s₀) p.framed c inside_own
-
-    pub stepping_onward : c + 1 ≤ 64
-    stepping_onward = omega (arith, few)
 
     sheet_same : sheet_in s ≡ sheet_in s₀
     sheet_same = staged_sheet left_row to_go_row c (next_in_row s₀ []) s₀ s here.staged
@@ -332,7 +332,7 @@ module _ (s₀ : List ℕ) (p : Steppable s₀) (count : ℕ) (s : List ℕ) (se
 
     wrote_same : Wrote left_row to_go_row c (λ row. next_in_row s₀ [] row c) s (sender_put (move_in s c) s c)
     wrote_same =
-        let w = wrote_circuit s (omega (arith, p.long, stepping_length)) c (omega (arith, few)) in
+        let w = wrote_circuit s (omega (arith, p.long, here.staged.same_length)) c (omega (arith, few)) in
         record {
           same_length = w.same_length;
           same_rest = w.same_rest;
@@ -340,16 +340,18 @@ module _ (s₀ : List ℕ) (p : Steppable s₀) (count : ℕ) (s : List ℕ) (se
           elsewhere = w.elsewhere;
         }
 
-    pub stepping_more : (acting : ℕ) → Acting s₀ acting → (after : List ℕ) → after ≡ sender_put (move_in s c) s c
-        → (more : ℕ) → (bit_at more c ≡ 0 → reg after to_go_row c ≡ 0) → (next : ℕ) → NextTaken acting (c + 1) next
-        → Stepping s₀ count after (bit_or sending more) next
-    stepping_more acting a after e more h next t =
+    pub stepping_more : (after : List ℕ) → after ≡ sender_put (move_in s c) s c → (more : ℕ) → (bit_at more c ≡ 0 → reg after to_go_row c ≡ 0)
+        → (acting : ℕ) (walk : TakenPlaces) → On acting count walk → walk.from ≡ c + 1 → Stepping s₀ acting count after (bit_or sending more) walk
+    stepping_more after e more h acting walk on f =
         let staged = stage_more left_row to_go_row c (next_in_row s₀ []) s₀ s after (omega arith) (omega (arith, few)) here.staged
         (subst (Wrote left_row to_go_row c (λ row. next_in_row s₀ [] row c) s) (sym e) wrote_same) in
-        stepping_next s₀ p acting a count after (bit_or sending more) (c + 1) next (record {
-          inside = omega arith;
-          whole = here.whole;
-          staged = staged;
-          done = beside_more (NoneToGo s₀) sending more c here.done
-              (λ free. sym (staged.done to_go_row c (omega arith) (omega arith) (omega arith)) ∙ h free);
-        }) t
+        record {
+          on = on;
+          first = subst (FirstStepped s₀ count after (bit_or sending more)) (sym f) (record {
+            inside = omega (arith, w.below);
+            whole = here.whole;
+            staged = staged;
+            done = beside_more (NoneToGo s₀) sending more c here.done
+                (λ free. sym (staged.done to_go_row c (omega arith) (omega arith) (omega arith)) ∙ h free);
+          });
+        }

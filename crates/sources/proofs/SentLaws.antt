@@ -5,12 +5,14 @@ use mathlib.Core.Bool.{Bool, true, false}
 use mathlib.Core.List.{List}
 use mathlib.Core.Path.{◌≡◌, sym, ◌∙◌, ap}
 use native.Mathlib.Omega.{arith}
+use Rattle.std.specs.declared.result.Result.{Result}
+use Rattle.std.specs.declared.result.Result.TheVariants.{Ok, Err}
 use Rattle.words.specs.Tests.{◌≤?◌}
 use Rattle.words.specs.Words.{word, pick}
 use Rattle.words.proofs.TestLaws.{and_left, is≤, yes≤, no≤}
+use Rattle.refusal.specs.declared.Refusal.{Refusal}
+use Rattle.refusal.specs.Numbers.{refusal_number, numbered}
 use Rattle.packet.specs.declared.Header.{Header}
-use Rattle.packet.specs.declared.Built.{Built}
-use Rattle.packet.specs.declared.Built.TheVariants.{Made, Refused}
 use Rattle.packet.specs.Header.{header_word, header_number, built_of}
 use Rattle.packet.proofs.HeaderLaws.{Fits, all_fit}
 use Rattle.sheet.specs.declared.circuits.Circuit.{Circuit}
@@ -53,23 +55,14 @@ module _ (s z : List ℕ) (g : Sendable s z) (c : ℕ) (inside : c < circuits z)
         let a = g.address_fits c inside some in
         record { kind_fits = omega arith; address_fits = omega arith; route_fits = omega (arith, same, p.route_read) }
 
-    whole : header_word kind address route ≡ head_in s c
-    whole =
-        ap (λ (x : ℕ). header_word x address route) p.kind_read
-        ∙ ap (λ (x : ℕ). header_word (reg s kind_row c) x route) p.address_read
-        ∙ ap (header_word (reg s kind_row c) (reg s write_row c)) p.route_read
-
-    module _ (b : Built) (e : b ≡ built_of (header_number kind address route) (header_word kind address route)) where
-      made : b ≡ Made (record { 0 = header_word kind address route })
+    module _ (b : Result Header Refusal) (e : numbered b ≡ built_of (header_number kind address route) (header_word kind address route)) where
+      made : numbered b ≡ Ok (record { 0 = header_word kind address route })
       made = e ∙ sym (all_fit kind address route fits)
 
-      pub header_made : (h : Header) → b ≡ Made h → h.0 ≡ head_in s c
-      header_made h q =
-          let same : h ≡ record { 0 = header_word kind address route } = cc (made, q) in
-          ap (λ (x : Header). x.0) same ∙ whole
-
-      pub header_refused : (n : ℕ) → b ≡ Refused n → ⊥
-      header_refused n q = let z : ◌≡◌ {A = ℕ} 0 1 = cc (made, q) in omega arith
+      pub header_refused : (n : Refusal) → b ≡ Err n → ⊥
+      header_refused n q =
+          let none : ◌≡◌ {A = Result Header ℕ} (Err (refusal_number n)) (Ok (record { 0 = header_word kind address route })) = ap numbered (sym q) ∙ made in
+          cc
 
 -- the memory word that was read
 pub read_is : (s z m : List ℕ) → Paired s z → (c : ℕ) (x : Circuit) (r a v : ℕ) → x ≡ circuit_at z c → r ≡ memory_words z

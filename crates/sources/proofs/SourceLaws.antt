@@ -1,13 +1,13 @@
 -- What the senders do and the marks that they send, from the registers that were read and the tests that were taken.
 -- Assumes nothing.
 use Prim.Native.Nat.{ℕ, ◌<◌, ◌≤◌}
-use mathlib.Core.Bool.{Bool, true, false, false≢true}
+use mathlib.Core.Bool.{Bool, true, false, false≢true, ◌||◌}
 use mathlib.Core.List.{List}
 use mathlib.Core.Path.{◌≡◌, refl, sym, ◌∙◌, ap}
 use native.Mathlib.Omega.{arith}
 use native.Mathlib.Decide.{ℕ_discrete}
 use lib.ListN.{length, take, drop, length-take, length-drop}
-use Rattle.words.specs.Tests.{◌and◌, ◌≤?◌}
+use Rattle.words.specs.Tests.{◌and◌, ◌or◌, ◌≤?◌}
 use Rattle.words.specs.Words.{word, pick}
 use Rattle.words.proofs.TestLaws.{and_no, and_on, yes=, no=, yes≤, no≤}
 use Rattle.sheet.specs.declared.circuits.Circuit.{Circuit}
@@ -20,6 +20,12 @@ use Rattle.network.specs.Inner.Machine.{slot_in, move_in, mark_of, sent_mark}
 use Rattle.network.specs.Inner.Paired.{Paired}
 use Rattle.sources.specs.Inner.Steps.{Sending}
 use Rattle.sources.specs.Inner.Acting.{opens_in, Acting}
+
+-- what `||` and `|` of two tests compute
+pub either_is : (a b : Bool) → (a || b) ≡ (a or b)
+unfolding ◌or◌
+either_is true b = refl
+either_is false b = refl
 
 -- a circuit opens a packet
 module _ (s : List ℕ) (c : ℕ) where

@@ -1,26 +1,36 @@
 -- The source wires, circuit by circuit: the marks and the words on them, and the faults of the sources.
 -- Assumes nothing.
-use Prim.Native.Nat.{ℕ, zero, suc, ◌+◌, ◌-◌, ◌<◌, ◌≤◌, min}
-use mathlib.Core.Bool.{Bool, true, false}
+use Prim.Native.Nat.{ℕ, zero, suc, ◌+◌, ◌-◌, ◌<◌, ◌≤◌}
+use mathlib.Core.Bool.{Bool, true, false, not, ◌||◌}
 use mathlib.Core.List.{List}
 use mathlib.Core.Path.{◌≡◌, refl, sym, subst, ◌∙◌, ap, ap₂}
 use native.Mathlib.Omega.{arith}
 use native.Mathlib.Decide.{ℕ_discrete}
 use native.Mathlib.Nat.{add-zero}
 use lib.Bits.{bit_or}
-use lib.ListN.{length, set}
+use lib.ListN.{set}
+use Rattle.std.specs.declared.result.Result.{Result}
+use Rattle.std.specs.declared.result.Result.TheVariants.{Ok, Err}
+use Rattle.std.specs.Result.{is_err}
+use Rattle.refusal.specs.declared.Refusal.{Refusal}
+use Rattle.refusal.specs.Numbers.{number_of}
+use Rattle.refusal.proofs.AnswerLaws.{is_some}
 use Rattle.words.specs.Tests.{any, ◌and◌, ◌or◌, ◌≤?◌, ◌=?◌}
+use Rattle.words.specs.Numbers.{unless}
 use Rattle.words.specs.Words.{word, pick, tab}
 use Rattle.words.proofs.TestLaws.{and_no, and_on, or_on, or_false, or_pairs, yes=, no=, yes≤, no≤}
 use Rattle.words.proofs.AllLaws.{any_more}
-use Rattle.words.proofs.WordLaws.{length_tab, tab_at}
+use Rattle.words.proofs.NumberLaws.{unless_no, unless_yes}
+use Rattle.words.proofs.WordLaws.{tab_at}
 use Rattle.words.proofs.TableLaws.{tab_same, tab_set}
 use Rattle.sheet.specs.declared.circuits.Circuit.{Circuit}
 use Rattle.sheet.specs.Sheet.{circuits, nodes, circuit_at}
 use Rattle.sheet.specs.Slots.{source_of}
 use Rattle.sheet.proofs.PassedLaws.{nodes_few, circuit_small}
 use Rattle.occupancy.specs.Inner.Occupancy.{bit_at, NextTaken}
+use Rattle.occupancy.specs.declared.TakenPlaces.{TakenPlaces}
 use Rattle.occupancy.proofs.MaskLaws.{union_free}
+use Rattle.occupancy.proofs.WalkLaws.{On, Begun, Gave, Ended, none_left, next_place}
 use Rattle.network.specs.Cycle.{rests, opens, sends}
 use Rattle.network.specs.Registers.{reg, sheet_in, left_row, to_go_row}
 use Rattle.network.specs.Inner.Machine.{slot_in, mark_of, sent_mark, sent_word, own_mark, first_mark, first_word, source_mark, source_word, crowds_in, reopens_in}
@@ -28,7 +38,7 @@ use Rattle.network.specs.Inner.Paired.{Sendable}
 use Rattle.network.proofs.FirstLaws.{word_empty}
 use Rattle.sources.specs.Inner.Acting.{Acting}
 use Rattle.sources.specs.Inner.Wires.{marks_before, words_before, put_free, crowds_at}
-use Rattle.sources.proofs.SourceLaws.{beside_mark, source_read}
+use Rattle.sources.proofs.SourceLaws.{either_is, beside_mark, source_read}
 use Rattle.sources.proofs.CrowdLaws.{first_new, first_old, first_idle, word_new, word_old, word_idle, own_here, own_other, own_empty, crowded_before, crowded_start, crowded_more}
 
 -- a wire that is taken, and one that is free
@@ -71,11 +81,12 @@ reopens_is : (s : List ℕ) (c : ℕ) → (sent_mark s c =? 1 and 1 ≤? reg s t
 unfolding sent_mark reopens_in
 reopens_is s c = reopens_by (1 ≤? slot_in s c) (1 ≤? reg s left_row c) (1 ≤? reg s to_go_row c) (reg s to_go_row c)
 
-pub reopens_yes : (mark remaining : ℕ) → mark ≡ 1 → (1 ≤? remaining) ≡ (mark =? 1 and 1 ≤? remaining)
-reopens_yes mark remaining h = and_on (yes= h) refl
+module _ (s : List ℕ) (c mark : ℕ) (e : mark ≡ sent_mark s c) where
+  pub reopens_yes : mark ≡ 1 → (remaining : ℕ) → remaining ≡ reg s to_go_row c → (1 ≤? remaining) ≡ reopens_in s c
+  reopens_yes h remaining d = and_on (yes= (sym e ∙ h)) (ap (λ (k : ℕ). 1 ≤? k) d) ∙ reopens_is s c
 
-pub reopens_no : (mark remaining : ℕ) → (mark ≡ 1 → ⊥) → false ≡ (mark =? 1 and 1 ≤? remaining)
-reopens_no mark remaining ne = and_no _ (no= ne)
+  pub reopens_no : (mark ≡ 1 → ⊥) → false ≡ reopens_in s c
+  reopens_no ne = and_no _ (no= (λ h. ne (e ∙ h))) ∙ reopens_is s c
 
 -- a circuit that puts nothing on its wire
 module _ (s : List ℕ) (c mark : ℕ) (e : mark ≡ sent_mark s c) (h : mark ≡ 0) where
@@ -194,20 +205,9 @@ module _ (s z : List ℕ) (g : Sendable s z) (c : ℕ) (l : c < circuits z) wher
             ∙ tab_same 16 sent later (λ n k. stays taken n (ℕ_discrete n source))
 
     -- both faults
-    pub put_fault : (crowds again r : Bool) (remaining : ℕ) → crowds ≡ (1 ≤? word marks x.read.node)
-        → again ≡ (mark =? 1 and 1 ≤? remaining) → remaining ≡ reg s to_go_row c → r ≡ crowds or again → r ≡ crowds_at s c or reopens_in s c
-    put_fault crowds again r remaining a b d t =
-        t ∙ ap₂ ◌or◌ (crowds_is crowds a)
-        (b ∙ ap₂ (λ (i k : ℕ). i =? 1 and 1 ≤? k) e d ∙ reopens_is s c)
-
--- the tables have sixteen words
-pub marks_length : (s marks : List ℕ) (c : ℕ) → marks ≡ marks_before s c → length marks ≡ 16
-unfolding marks_before
-marks_length s marks c e = ap length e ∙ length_tab 16 _
-
-pub words_length : (s m words : List ℕ) (c : ℕ) → words ≡ words_before s m c → length words ≡ 16
-unfolding words_before
-words_length s m words c e = ap length e ∙ length_tab 16 _
+    pub put_fault : (crowds again : Bool) → crowds ≡ (1 ≤? word marks x.read.node) → again ≡ reopens_in s c
+        → (crowds || again) ≡ crowds_at s c or reopens_in s c
+    put_fault crowds again a b = either_is crowds again ∙ ap₂ ◌or◌ (crowds_is crowds a) b
 
 -- the first n circuits are on the wires, and no mark is on the wires of the nodes beside a mask
 record FirstWired (s z m : List ℕ) (count : ℕ) (marks cells : List ℕ) (fault : Bool) (wires n : ℕ) : Type 0 where
@@ -218,9 +218,15 @@ record FirstWired (s z m : List ℕ) (count : ℕ) (marks cells : List ℕ) (fau
   fault_done : fault ≡ crowded_before s n or any n (reopens_in s)
   free : (node : ℕ) → bit_at wires node ≡ 0 → first_mark n (own_mark s node) ≡ 0
 
--- the same of the circuits before c, which may lie behind the last
-pub record Wiring (s z m : List ℕ) (count : ℕ) (marks cells : List ℕ) (fault : Bool) (wires c : ℕ) : Type 0 where
-  first : FirstWired s z m count marks cells fault wires (min c count)
+-- the same of the circuits before c, which is one of them
+pub record Here (s z m : List ℕ) (count : ℕ) (marks cells : List ℕ) (fault : Bool) (wires c : ℕ) : Type 0 where
+  first : FirstWired s z m count marks cells fault wires c
+  below : c < count
+
+-- the same of the circuits that a walk has left behind
+pub record Wiring (s z m : List ℕ) (acting count : ℕ) (marks cells : List ℕ) (fault : Bool) (wires : ℕ) (walk : TakenPlaces) : Type 0 where
+  pub on : On acting count walk
+  first : FirstWired s z m count marks cells fault wires walk.from
 
 module _ (s z m : List ℕ) (g : Sendable s z) (acting : ℕ) (p : Acting s acting) (count : ℕ) where
   same_circuits : circuits z ≡ circuits (sheet_in s)
@@ -265,94 +271,108 @@ module _ (s z m : List ℕ) (g : Sendable s z) (acting : ℕ) (p : Acting s acti
         (beside (n + d) (omega arith) (omega arith)))
 
     -- all circuits up to the next of the mask
-    wiring_next : (n next : ℕ) → FirstWired s z m count marks cells fault wires n → NextTaken acting n next
-        → Wiring s z m count marks cells fault wires next
-    wiring_next n next w t =
-        let q : n + (min next count - n) ≡ min next count = omega (arith, w.inside, t.onward) in
-        record {
-          first = subst (FirstWired s z m count marks cells fault wires) q
-              (first_over n (min next count - n) w (omega (arith, q)) (λ k a b. t.passed k a (omega (arith, q))));
-        }
+    wiring_next : (n next : ℕ) → FirstWired s z m count marks cells fault wires n → NextTaken acting n next → next ≤ count
+        → FirstWired s z m count marks cells fault wires next
+    wiring_next n next w t h =
+        let q : n + (next - n) ≡ next = omega (arith, t.onward) in
+        subst (FirstWired s z m count marks cells fault wires) q
+        (first_over n (next - n) w (omega (arith, q)) (λ k a b. t.passed k a (omega (arith, q))))
 
   pub wiring_start : (marks cells : List ℕ) → count ≡ circuits z → marks ≡ tab 16 (λ (n : ℕ). 0) → cells ≡ tab 16 (λ (n : ℕ). 0)
-      → (c : ℕ) → NextTaken acting 0 c → Wiring s z m count marks cells false 0 c
+      → (walk : TakenPlaces) → Begun acting count walk → Wiring s z m acting count marks cells false 0 walk
   unfolding marks_before words_before first_mark first_word any
-  wiring_start marks cells e a b c t = wiring_next marks cells false 0 0 c (record {
-    inside = omega arith;
-    whole = e;
-    marks_done = a;
-    words_done = b;
-    fault_done = or_on (crowded_start s) refl;
-    free = λ node f. refl;
-  }) t
+  wiring_start marks cells e a b walk h =
+      let zero : FirstWired s z m count marks cells false 0 0 = record {
+        inside = omega arith;
+        whole = e;
+        marks_done = a;
+        words_done = b;
+        fault_done = or_on (crowded_start s) refl;
+        free = λ node f. refl;
+      } in
+      record { on = h.on; first = subst (FirstWired s z m count marks cells false 0) (sym h.at_start) zero }
 
-  module _ (marks cells : List ℕ) (fault : Bool) (wires c : ℕ) (w : Wiring s z m count marks cells fault wires c) where
-    module _ (l : c < count) where
-      here : FirstWired s z m count marks cells fault wires c
-      here =
-          let q : min c count ≡ c = omega arith in
-          subst (FirstWired s z m count marks cells fault wires) q w.first
+  module _ (marks cells : List ℕ) (fault : Bool) (wires : ℕ) where
+    module _ (walk : TakenPlaces) (w : Wiring s z m acting count marks cells fault wires walk) where
+      module _ (after : TakenPlaces) where
+        -- the circuits before the next of the mask are on the wires
+        pub wiring_to : (c : ℕ) → Gave walk c after → Here s z m count marks cells fault wires c
+        wiring_to c t =
+            let q = next_place acting count walk w.on after c t in
+            record { first = wiring_next marks cells fault wires walk.from c w.first q.next (omega (arith, q.below)); below = q.below }
 
+        -- behind the last of the mask all are
+        module _ (t : Ended walk after) where
+          all_wired : FirstWired s z m count marks cells fault wires (circuits (sheet_in s))
+          all_wired =
+              let all_done : count ≡ circuits (sheet_in s) = w.first.whole ∙ same_circuits in
+              subst (FirstWired s z m count marks cells fault wires) all_done
+              (wiring_next marks cells fault wires walk.from count w.first (none_left acting count walk w.on after t) (omega arith))
+
+          pub wiring_fault : fault ≡ any (nodes (sheet_in s)) (crowds_in s) or any (circuits (sheet_in s)) (reopens_in s)
+          unfolding crowds_in
+          wiring_fault = all_wired.fault_done
+
+          -- its number, by whether a source was at fault
+          pub wiring_refused : fault ≡ true → 20 ≡ unless 20 (not (any (nodes (sheet_in s)) (crowds_in s) or any (circuits (sheet_in s)) (reopens_in s)))
+          wiring_refused h = unless_no 20 (ap not (sym wiring_fault ∙ h))
+
+          pub wiring_passed : fault ≡ false → 0 ≡ unless 20 (not (any (nodes (sheet_in s)) (crowds_in s) or any (circuits (sheet_in s)) (reopens_in s)))
+          wiring_passed h = unless_yes 20 (ap not (sym wiring_fault ∙ h))
+
+          pub wiring_marks : marks ≡ tab 16 (source_mark s)
+          unfolding marks_before source_mark
+          wiring_marks = all_wired.marks_done
+
+          pub wiring_words : cells ≡ tab 16 (source_word s m)
+          unfolding words_before source_word
+          wiring_words = all_wired.words_done
+
+          -- the wires beside the mask are empty
+          pub wiring_free : (n : ℕ) → n < 16 → bit_at wires n ≡ 0 → (source_mark s n ≡ 0) × (source_word s m n ≡ 0)
+          unfolding source_mark source_word
+          wiring_free n h f =
+              let empty = all_wired.free n f in
+              (empty, word_empty (own_mark s n) (sent_word s m) (circuits (sheet_in s)) empty)
+
+    module _ (c : ℕ) (w : Here s z m count marks cells fault wires c) where
       pub wiring_inside : c < circuits z
-      wiring_inside = omega (arith, here.whole)
-
-      pub wiring_onward : c + 1 ≤ 64
-      wiring_onward = omega (arith, wiring_inside, g.paired.framed.headed.circuits_high)
+      wiring_inside = omega (arith, w.first.whole, w.below)
 
       pub marks_here : marks ≡ marks_before s c
-      marks_here = here.marks_done
+      marks_here = w.first.marks_done
 
       pub words_here : cells ≡ words_before s m c
-      words_here = here.words_done
+      words_here = w.first.words_done
 
-      module _ (node : ℕ) (e : node ≡ source_of z c) where
-        node_own : source_of (sheet_in s) c ≡ node
-        node_own = sym (e ∙ ap (λ (x : List ℕ). source_of x c) g.paired.own)
+      module _ (x : Circuit) (e : x ≡ circuit_at z c) where
+        node_own : source_of (sheet_in s) c ≡ x.read.node
+        node_own = sym (source_read s z g.paired c x e)
 
-        pub node_fits : node < 64
+        pub node_fits : x.read.node < 64
         node_fits = omega (arith, source_few s z g c wiring_inside, node_own)
 
         -- a node beside the mask is not the circuit's source
-        free_more : (one : ℕ) → bit_at one node ≡ 1 → (k : ℕ) → bit_at (bit_or wires one) k ≡ 0 → first_mark (c + 1) (own_mark s k) ≡ 0
+        free_more : (one : ℕ) → bit_at one x.read.node ≡ 1 → (k : ℕ) → bit_at (bit_or wires one) k ≡ 0 → first_mark (c + 1) (own_mark s k) ≡ 0
         free_more one t k f =
             let both = union_free wires one k f in
             let apart : source_of (sheet_in s) c ≡ k → ⊥ = λ h.
-            (let z : bit_at one node ≡ 0 = subst (λ (x : ℕ). bit_at one x ≡ 0) (sym h ∙ node_own) both.1 in omega (arith, z, t)) in
-            sym (first_idle (own_mark s k) c (own_other s k c apart)) ∙ here.free k both.0
+            (let z : bit_at one x.read.node ≡ 0 = subst (λ (x : ℕ). bit_at one x ≡ 0) (sym h ∙ node_own) both.1 in omega (arith, z, t)) in
+            sym (first_idle (own_mark s k) c (own_other s k c apart)) ∙ w.first.free k both.0
 
-        pub wiring_more : (one : ℕ) → bit_at one node ≡ 1 → (marks' cells' : List ℕ) (more fault' : Bool) → marks' ≡ marks_before s (c + 1)
+        pub wiring_more : (one : ℕ) → bit_at one x.read.node ≡ 1 → (marks' cells' : List ℕ) (more fault' : Bool) → marks' ≡ marks_before s (c + 1)
             → cells' ≡ words_before s m (c + 1) → more ≡ crowds_at s c or reopens_in s c → fault' ≡ fault or more
-            → (next : ℕ) → NextTaken acting (c + 1) next → Wiring s z m count marks' cells' fault' (bit_or wires one) next
-        wiring_more one t marks' cells' more fault' a b d f next q =
-            wiring_next marks' cells' fault' (bit_or wires one) (c + 1) next
-            (first_more marks cells fault wires c here l marks' cells' more fault' (bit_or wires one) a b d f (free_more one t)) q
+            → (walk : TakenPlaces) → On acting count walk → walk.from ≡ c + 1
+            → Wiring s z m acting count marks' cells' fault' (bit_or wires one) walk
+        wiring_more one t marks' cells' more fault' a b d f walk on q = record {
+          on = on;
+          first = subst (FirstWired s z m count marks' cells' fault' (bit_or wires one)) (sym q)
+              (first_more marks cells fault wires c w.first w.below marks' cells' more fault' (bit_or wires one) a b d f (free_more one t));
+        }
 
-    pub wiring_marks_length : length marks ≡ 16
-    wiring_marks_length = marks_length s marks (min c count) w.first.marks_done
-
-    pub wiring_words_length : length cells ≡ 16
-    wiring_words_length = words_length s m cells (min c count) w.first.words_done
-
-    module _ (l : count ≤ c) where
-      all_done : min c count ≡ circuits (sheet_in s)
-      all_done = omega (arith, w.first.whole, same_circuits)
-
-      pub wiring_fault : fault ≡ any (nodes (sheet_in s)) (crowds_in s) or any (circuits (sheet_in s)) (reopens_in s)
-      unfolding crowds_in
-      wiring_fault = w.first.fault_done ∙ ap (λ (k : ℕ). crowded_before s k or any k (reopens_in s)) all_done
-
-      pub wiring_marks : marks ≡ tab 16 (source_mark s)
-      unfolding marks_before source_mark
-      wiring_marks = w.first.marks_done ∙ ap (marks_before s) all_done
-
-      pub wiring_words : cells ≡ tab 16 (source_word s m)
-      unfolding words_before source_word
-      wiring_words = w.first.words_done ∙ ap (words_before s m) all_done
-
-      -- the wires beside the mask are empty
-      pub wiring_free : (n : ℕ) → n < 16 → bit_at wires n ≡ 0 → (source_mark s n ≡ 0) × (source_word s m n ≡ 0)
-      unfolding source_mark source_word
-      wiring_free n h f =
-          let empty : first_mark (circuits (sheet_in s)) (own_mark s n) ≡ 0 =
-          ap (λ (k : ℕ). first_mark k (own_mark s n)) (sym all_done) ∙ w.first.free n f in
-          (empty, word_empty (own_mark s n) (sent_word s m) (circuits (sheet_in s)) empty)
+-- whether a source was at fault, from the answer's number
+pub refused_is : {A : Type 0} (r : Result A Refusal) (fault : Bool) → number_of r ≡ unless 20 (not fault) → is_err r ≡ fault
+refused_is (Ok x) true e = let z : ◌≡◌ {A = ℕ} 0 20 = e ∙ sym (unless_no 20 refl) in absurd (omega (arith, z))
+refused_is (Ok x) false e = refl
+refused_is (Err n) true e = refl
+refused_is (Err n) false e = absurd (is_some n (e ∙ sym (unless_yes 20 refl)))

@@ -10,7 +10,8 @@ use std::io;
 use std::io::{Error, ErrorKind, Read, Write};
 
 // Reads until the buffer is full or the input ends, and answers how many bytes stand at its start. The only error is that of a read, and
-// ends it at once; what was read before then stands at the buffer's start.
+// ends it at once; what was read before then stands at the buffer's start. std's `read_exact` takes an input that ends for an error, and does
+// not say what an error has left read.
 pub fn read_full<R: Read>(reader: &mut R, buffer: &mut [u8]) -> io::Result<usize>
     ensures bound { ReadsAtMost result buffer.new }
     ensures bytes { IfOk result (λ n. Consumes (R.remaining reader.old) (R.remaining reader.new) (take n buffer.new)) }

@@ -1,11 +1,15 @@
 -- The faults of a cycle, looked for one kind after the other.
 -- Assumes nothing.
 use Prim.Native.Nat.{ℕ}
-use mathlib.Core.Bool.{Bool, true, false}
+use mathlib.Core.Bool.{Bool, true, false, not}
 use mathlib.Core.Path.{◌≡◌, refl, sym, ◌∙◌, ap, ap₂}
 use mathlib.Core.List.{List}
 use Rattle.words.specs.Tests.{any, ◌or◌}
 use Rattle.words.proofs.AllLaws.{any_same, any_or}
+use Rattle.words.proofs.NumberLaws.{unless_no, unless_yes}
+use Rattle.words.specs.Numbers.{unless}
+use Rattle.network.specs.OneMachine.{cycle_fault}
+use native.Mathlib.Omega.{arith}
 use Rattle.sheet.specs.Sheet.{circuits, nodes}
 use Rattle.network.specs.Registers.{sheet_in}
 use Rattle.network.specs.Inner.Machine.{collides_in, unheld_in, unchosen_in, headless_in, crowds_in, strays_in, reopens_in, faulty_in}
@@ -97,8 +101,25 @@ module _ (s : List ℕ) where
       past_unheld =
           past_crossed ∙ ap (λ (b : Bool). (b or (crowded or strayed)) or reopened) d ∙ first_false _ _ ∙ last_first crowded strayed reopened
 
-      pub fault_wires : (crowded or reopened) ≡ true → true ≡ faulty_in s
+      fault_wires : (crowded or reopened) ≡ true → true ≡ faulty_in s
       fault_wires h = sym (past_unheld ∙ ap (λ (b : Bool). b or strayed) h ∙ true_or strayed)
 
-      pub fault_last : (crowded or reopened) ≡ false → (r : Bool) → r ≡ strayed → r ≡ faulty_in s
-      fault_last h r e = e ∙ sym (past_unheld ∙ ap (λ (b : Bool). b or strayed) h ∙ false_or strayed)
+      -- by the sources' number: a refusal is the cycle's
+      pub wires_refused : (n : ℕ) → (n ≡ 0 → ⊥) → n ≡ unless 20 (not (crowded or reopened)) → n ≡ cycle_fault s
+      unfolding cycle_fault
+      wires_refused n ne e = go (crowded or reopened) refl
+        where
+          go : (b : Bool) → (crowded or reopened) ≡ b → n ≡ unless 20 (not (faulty_in s))
+          go true h = e ∙ ap (λ (b : Bool). unless 20 (not b)) (h ∙ fault_wires h)
+          go false h = absurd (ne (e ∙ sym (unless_yes 20 (ap not h))))
+
+      wires_passed : 0 ≡ unless 20 (not (crowded or reopened)) → (crowded or reopened) ≡ false
+      wires_passed e = go (crowded or reopened) refl
+        where
+          go : (b : Bool) → (crowded or reopened) ≡ b → (crowded or reopened) ≡ false
+          go true h = let z : ◌≡◌ {A = ℕ} 0 20 = e ∙ sym (unless_no 20 (ap not h)) in absurd (omega (arith, z))
+          go false h = h
+
+      -- and where they have none, a stray word decides
+      pub fault_last : 0 ≡ unless 20 (not (crowded or reopened)) → (r : Bool) → r ≡ strayed → r ≡ faulty_in s
+      fault_last h r e = e ∙ sym (past_unheld ∙ ap (λ (b : Bool). b or strayed) (wires_passed h) ∙ false_or strayed)

@@ -2,69 +2,76 @@
 // cycle has a fault.
 #![tactic(auto)]
 
-ghost use Rattle.std.specs.Prelude.{true, false, ◌≡◌};
+ghost use Rattle.std.specs.Prelude.{◌≡◌, IfOk};
+ghost use Rattle.refusal.specs.Numbers.{number_of};
 ghost use Rattle.network.specs.Inner.Live.{Covered};
-ghost use Rattle.network.specs.Inner.Machine.{faulty_in};
+ghost use Rattle.network.specs.OneMachine.{cycle_fault};
 ghost use Rattle.tables.specs.Inner.Ready.{Ready};
 ghost use Rattle.tables.specs.Inner.Tables.{Tables, Empty};
 ghost use Rattle.tables.specs.Inner.Moving.{Moving};
 
-use network::Live;
+use network::{Live, ROW_WORDS};
+use refusal::Refusal;
 
-// Whether a cycle has a fault, and the masks of the circuits that act and of the nodes on whose source wires something may be.
-#[derive(Clone, Copy)]
+// The tables of a cycle: the slots that begin, by circuit, the marks and words on the source wires, by node, and those on the outputs.
+#[derive(Drop)]
 pub struct Prepared {
-    pub fault: bool,
+    pub slots: [u32; 64],
+    pub marks: [u32; 16],
+    pub cells: [u32; 16],
+    pub outs: [u32; ROW_WORDS],
+    pub values: [u32; ROW_WORDS],
+}
+
+// The circuits that act in a cycle, and the nodes on whose source wires something may be, each as a mask.
+#[derive(Clone, Copy)]
+pub struct Masks {
     pub acting: u64,
     pub wires: u64,
 }
 
-// Works out the tables of a cycle, lent as zeros: the slots that begin, the marks and words on the source wires, and those on the outputs.
-// Answers whether the cycle has a fault (number 20); then the tables are of no use. machine::step_live lends what it requires.
-pub fn prepare(
-    s: &[u32],
-    m: &[u32],
-    live: Live,
-    slots: &mut [u32],
-    marks: &mut [u32],
-    cells: &mut [u32],
-    outs: &mut [u32],
-    values: &mut [u32],
-) -> Prepared
-    requires { (Ready s.now m.now) × (Covered s.now live) × (Empty slots.old marks.old cells.old outs.old values.old) }
-    ensures fault { result.fault ≡ faulty_in s.now }
-    ensures tables { result.fault ≡ false → Tables s.now m.now slots.new marks.new cells.new outs.new values.new }
-    ensures calm { result.fault ≡ false → Moving s.now m.now result.acting result.wires }
-{
-    let z = network::sheet_of(s);
-    let nodes = sheet::columns_of(z) * sheet::rows_of(z);
-    let heads = live.heads;
-    if routers::cross_among(s, nodes, heads, outs, values) {
-        return faulty();
+impl Prepared {
+    // Tables of zeros.
+    pub fn blank() -> Prepared
+        ensures { Empty result.slots result.marks result.cells result.outs result.values }
+    {
+        Prepared {
+            slots: [0; 64],
+            marks: [0; 16],
+            cells: [0; 16],
+            outs: [0; ROW_WORDS],
+            values: [0; ROW_WORDS],
+        }
     }
-    if routers::has_unheld(s, nodes * 5) {
-        return faulty();
-    }
-    let acting = sources::acting_now(s, z, live.sending, slots);
-    let wired = sources::source_wires_among(s, z, m, slots, acting, marks, cells);
-    if wired.fault {
-        return faulty();
-    }
-    let stray = receivers::has_stray_among(s, nodes, sheet::memory_of(z), live.outs);
-    Prepared {
-        fault: stray,
-        acting: acting,
-        wires: wired.nodes,
-    }
-}
 
-// A fault, beside which the masks mean nothing.
-fn faulty() -> Prepared
-    ensures { result.fault ≡ true }
-{
-    Prepared {
-        fault: true,
-        acting: 0,
-        wires: 0,
+    // Works out the tables of a cycle, from zeros, unless it has a fault; then the tables are of no use. machine::step_live lends what it
+    // requires.
+    pub fn fill(&mut self, s: &[u32], m: &[u32], live: Live) -> Result<Masks, Refusal>
+        requires { (Ready s.now m.now) × (Covered s.now live) × (Empty self.old.slots self.old.marks self.old.cells self.old.outs self.old.values) }
+        ensures number { number_of result ≡ cycle_fault s.now }
+        ensures tables { IfOk result (λ masks. Tables s.now m.now self.new.slots self.new.marks self.new.cells self.new.outs self.new.values) }
+        ensures calm { IfOk result (λ masks. Moving s.now m.now masks.acting masks.wires) }
+    {
+        let z = network::sheet_of(s);
+        let nodes = sheet::nodes_of(z);
+        if routers::cross_among(s, nodes, live.heads, &mut self.outs, &mut self.values)
+            || routers::has_unheld(s, nodes * 5)
+        {
+            return Err(Refusal::CycleAtFault);
+        }
+        let acting = sources::acting_now(s, z, live.sending, &mut self.slots);
+        let wires = sources::source_wires_among(
+            s,
+            z,
+            m,
+            &self.slots,
+            acting,
+            &mut self.marks,
+            &mut self.cells,
+        )?;
+        if receivers::has_stray_among(s, nodes, sheet::memory_of(z), live.outs) {
+            return Err(Refusal::CycleAtFault);
+        }
+        Ok(Masks { acting, wires })
     }
 }

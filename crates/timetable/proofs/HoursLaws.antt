@@ -6,16 +6,17 @@ use mathlib.Core.List.{List}
 use mathlib.Core.Path.{◌≡◌, refl, sym, ◌∙◌, ap}
 use native.Mathlib.Omega.{arith}
 use native.Mathlib.Decide.{dec_lt}
+use Rattle.std.specs.Prelude.{Ok, Err, Some, None}
 use Rattle.words.specs.Tests.{◌<?◌, ◌=?◌, ◌≠?◌}
 use Rattle.words.specs.Words.{pick, least_from}
 use Rattle.words.specs.Numbers.{unless}
-use Rattle.words.proofs.TestLaws.{yes=, no=, yes≠, no≠, is=, is≠, is<, not≠}
-use Rattle.words.proofs.NumberLaws.{then_zero, unless_zero}
+use Rattle.words.proofs.TestLaws.{yes<, no<, yes=, no=, yes≠, no≠, is=, is≠, is<, not≠}
+use Rattle.words.proofs.NumberLaws.{then_zero, then_on, then_stop, unless_zero, unless_yes, unless_no}
 use Rattle.words.proofs.WordLaws.{least_from_is, least_from_none, least_from_most, least_from_low, least_from_passes, least_from_before}
-use Rattle.timetable.specs.declared.Hours.TheVariants.{Until, Always, Refused}
+use Rattle.timetable.specs.declared.Hours.TheVariants.{Until, Always}
 use Rattle.timetable.specs.Timetable.{week, timetable_fits, schedule_in, changes_in, Change, never, next_at, next_change, hours_number, hours_of, hours_answer, ChangeRight, NeverChanges}
-use Rattle.timetable.specs.Inner.Edges.{first_change}
-use Rattle.timetable.proofs.WalkLaws.{first_before, first_there, first_low, first_end}
+use Rattle.timetable.specs.Inner.Edges.{first_change, change_in}
+use Rattle.timetable.proofs.WalkLaws.{first_before, first_there, first_low, change_there, change_absent}
 
 -- a minute of the week, and the walks from it to the week's end and from the week's begin to it
 module _ (t : List ℕ) (minute : ℕ) (inside : minute < week) where
@@ -75,49 +76,60 @@ module _ (t : List ℕ) (minute : ℕ) where
       is< minute week
       (unless_zero 32 (minute <? week) (omega arith) (then_zero (unless 31 (timetable_fits t)) (unless 32 (minute <? week)) e).1)
 
-  pub refused_is : (n : ℕ) → n ≡ hours_number t minute → (n ≡ 0 → ⊥) → Refused n ≡ hours_answer t minute
+  pub refused_is : (n : ℕ) → n ≡ hours_number t minute → (n ≡ 0 → ⊥) → Err n ≡ hours_answer t minute
   refused_is zero e ne = absurd (ne refl)
   refused_is (suc n) e ne = ap (λ (k : ℕ). hours_of k (schedule_in t minute) (next_change t minute)) e
 
--- the answer of a minute that is no refusal, by the walks of the code
-module _ (t : List ℕ) (minute number schedule : ℕ) (asked : number ≡ hours_number t minute) (taken : number ≡ 0)
-    (known : schedule ≡ schedule_in t minute) where
-  inside : minute < week
-  inside = hours_inside t minute (sym asked ∙ taken)
+  -- the numbers, by what the code tests
+  pub unfit : timetable_fits t ≡ false → Err 31 ≡ hours_answer t minute
+  unfolding hours_number
+  unfit e = refused_is 31 (then_stop 31 _ (omega arith) e) (λ z. omega arith)
 
-  until_is : {next : ℕ} → next_at next ≡ next_change t minute → Until schedule next ≡ hours_answer t minute
-  until_is change = cc
+  pub outside : timetable_fits t ≡ true → week ≤ minute → Err 32 ≡ hours_answer t minute
+  unfolding hours_number
+  outside e l = refused_is 32 (then_on 31 e (unless_no 32 (no< l))) (λ z. omega arith)
+
+  number_none : timetable_fits t ≡ true → minute < week → 0 ≡ hours_number t minute
+  unfolding hours_number
+  number_none e l = then_on 31 e (unless_yes 32 (yes< l))
+
+-- the answer of a minute that is no refusal, by the walks of the code
+module _ (t : List ℕ) (minute schedule : ℕ) (fits : timetable_fits t ≡ true) (inside : minute < week) (known : schedule ≡ schedule_in t minute) where
+  answer_is : {change : Change} → change ≡ next_change t minute → hours_of 0 schedule change ≡ hours_answer t minute
+  answer_is {change} e =
+      ap (λ n. hours_of n schedule change) (number_none t minute fits inside)
+      ∙ ap (λ s. hours_of (hours_number t minute) s change) known
+      ∙ ap (hours_of (hours_number t minute) (schedule_in t minute)) e
 
   -- a walk for the schedule that was read
   for_minute : (from to : ℕ) {r : ℕ} → r ≡ first_change t from to schedule → r ≡ first_change t from to (schedule_in t minute)
   for_minute from to found = found ∙ ap (first_change t from to) known
 
-  -- the first finds no change in this week
-  none_left : (this : ℕ) → this ≡ first_change t minute week schedule → week ≤ this → week ≡ first_change t minute week (schedule_in t minute)
-  none_left this found l = first_end t minute week (schedule_in t minute) this (for_minute minute week found) (omega (arith, inside)) l
+  pub this_week_is : (this : ℕ) → change_in t minute week schedule ≡ Some this → Ok (Until schedule this) ≡ hours_answer t minute
+  this_week_is this found =
+      let there = change_there t minute week schedule this found in
+      answer_is (this_week t minute inside this (for_minute minute week there.0) there.1)
 
-  pub this_week_is : (this : ℕ) → this ≡ first_change t minute week schedule → this < week → Until schedule this ≡ hours_answer t minute
-  this_week_is this found l = until_is (this_week t minute inside this (for_minute minute week found) l)
+  module _ (none : change_in t minute week schedule ≡ None) where
+    none_left : week ≡ first_change t minute week (schedule_in t minute)
+    none_left = for_minute minute week (change_absent t minute week schedule none (omega arith))
 
-  pub next_week_is : (this next : ℕ) → this ≡ first_change t minute week schedule → week ≤ this
-      → next ≡ first_change t 0 minute schedule → next < minute → Until schedule next ≡ hours_answer t minute
-  next_week_is this next found l later m =
-      until_is (next_week t minute inside next (none_left this found l) (for_minute 0 minute later) m)
+    pub next_week_is : (next : ℕ) → change_in t 0 minute schedule ≡ Some next → Ok (Until schedule next) ≡ hours_answer t minute
+    next_week_is next found =
+        let there = change_there t 0 minute schedule next found in
+        answer_is (next_week t minute inside next none_left (for_minute 0 minute there.0) there.1)
 
-  pub always_is : (this next : ℕ) → this ≡ first_change t minute week schedule → week ≤ this
-      → next ≡ first_change t 0 minute schedule → minute ≤ next → Always schedule ≡ hours_answer t minute
-  always_is this next found l later m =
-      let none = no_change t minute inside (none_left this found l) (first_end t 0 minute _ next (for_minute 0 minute later) (omega arith) m) in
-      cc
+    pub always_is : change_in t 0 minute schedule ≡ None → Ok (Always schedule) ≡ hours_answer t minute
+    always_is absent = answer_is (no_change t minute inside none_left (for_minute 0 minute (change_absent t 0 minute schedule absent (omega arith))))
 
 -- what an answer was made of
-until_parts : (n s : ℕ) (change : Change) (schedule next : ℕ) → hours_of n s change ≡ Until schedule next
+until_parts : (n s : ℕ) (change : Change) (schedule next : ℕ) → hours_of n s change ≡ Ok (Until schedule next)
     → (n ≡ 0) × (s ≡ schedule) × (change ≡ next_at next)
 until_parts zero s never schedule next e = absurd (let z : ◌≡◌ {A = ℕ} 0 1 = cc in omega arith)
 until_parts zero s (next_at m) schedule next e = (refl, cc, cc)
 until_parts (suc n) s change schedule next e = absurd (let z : ◌≡◌ {A = ℕ} 0 1 = cc in omega arith)
 
-always_parts : (n s : ℕ) (change : Change) (schedule : ℕ) → hours_of n s change ≡ Always schedule
+always_parts : (n s : ℕ) (change : Change) (schedule : ℕ) → hours_of n s change ≡ Ok (Always schedule)
     → (n ≡ 0) × (s ≡ schedule) × (change ≡ never)
 always_parts zero s never schedule e = (refl, cc, refl)
 always_parts zero s (next_at m) schedule e = absurd (let z : ◌≡◌ {A = ℕ} 0 1 = cc in omega arith)

@@ -13,27 +13,38 @@ use Rattle.words.specs.Tests.{◌≤?◌, ◌<?◌, ◌=?◌, ◌and◌, all}
 use Rattle.words.proofs.TestLaws.{and_no, and_on, and_both, and_left, and_right, and_no_right, yes≤, no≤, yes<, no<, yes=, no=, is≤, is<}
 use Rattle.words.proofs.AllLaws.{all_none, all_more, all_fails, all_at}
 use Rattle.words.proofs.WordLaws.{last_of_at, last_of_none}
+use Rattle.timetable.specs.declared.windows.Window.{Window}
 use Rattle.timetable.specs.Timetable.{week, windows, start_at, length_at, schedule_at, end_at, window_fits, in_order, timetable_fits, covers, schedule_of, schedule_in, OneCovers}
-use Rattle.timetable.specs.Inner.Windows.{first_windows_fit}
+use Rattle.timetable.specs.Inner.Windows.{fits, first_windows_fit}
 use Rattle.timetable.specs.Inner.Edges.{EndedBefore, FirstBehind}
 
--- one window, by what the code reads of it
-module _ (t : List ℕ) (k : ℕ) where
+-- a window, by its words
+module _ (w : Window) where
   -- it has no minute
-  pub fits_empty : end_at t k ≤ start_at t k → false ≡ window_fits t k
-  unfolding window_fits end_at
-  fits_empty h = sym (and_no_right (start_at t k <? week) _ (sym (and_no _ (no≤ (omega arith)))))
+  pub fits_empty : w.minutes ≤ 0 → false ≡ fits w
+  unfolding fits
+  fits_empty h = sym (and_no_right (w.start <? week) _ (sym (and_no _ (no≤ (omega arith)))))
 
   -- it passes the week's end
-  pub fits_late : week < end_at t k → false ≡ window_fits t k
-  unfolding window_fits
-  fits_late h =
-      sym (and_no_right (start_at t k <? week) _ (and_no_right (1 ≤? length_at t k) _ (sym (and_no (schedule_at t k ≤? 7) (no≤ h)))))
+  pub fits_late : week < w.start + w.minutes → false ≡ fits w
+  unfolding fits
+  fits_late h = sym (and_no_right (w.start <? week) _ (and_no_right (1 ≤? w.minutes) _ (sym (and_no (w.schedule ≤? 7) (no≤ h)))))
 
   -- it has a minute and ends in time, and its schedule decides
-  pub fits_rest : start_at t k < end_at t k → end_at t k ≤ week → (schedule_at t k ≤? 7) ≡ window_fits t k
-  unfolding window_fits end_at
-  fits_rest a b = and_on (yes< (omega arith)) (and_on (yes≤ (omega arith)) (and_on (yes≤ b) refl))
+  pub fits_rest : 0 < w.minutes → w.start + w.minutes ≤ week → (w.schedule ≤? 7) ≡ fits w
+  unfolding fits
+  fits_rest a b = and_on (yes< (omega arith)) (and_on (yes≤ a) (and_on (yes≤ b) refl))
+
+  -- the words are those of window k
+  pub fits_is : (t : List ℕ) (k : ℕ) → w.start ≡ start_at t k → w.minutes ≡ length_at t k → w.schedule ≡ schedule_at t k
+      → fits w ≡ window_fits t k
+  unfolding fits window_fits end_at
+  fits_is t k a b c = rw (a, b, c) refl
+
+-- where window k ends, by its words
+pub end_is : (t : List ℕ) (k : ℕ) {end start minutes : ℕ} → end ≡ start + minutes → start ≡ start_at t k → minutes ≡ length_at t k → end ≡ end_at t k
+unfolding end_at
+end_is t k e a b = omega arith
 
 -- which minutes a window covers
 module _ (t : List ℕ) (k minute : ℕ) where

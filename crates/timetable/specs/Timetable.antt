@@ -1,11 +1,11 @@
 -- The weekly timetable (document 02, L13): up to 64 windows of three words each, starting minute of the week, length in minutes and
 -- schedule, sorted by start. A timetable without windows has no words.
-use Rattle.std.specs.Prelude.{ℕ, zero, suc, ◌+◌, ◌-◌, ◌*◌, ◌/◌, ◌%◌, ◌≤◌, ◌<◌, Bool, true, List, ◌≡◌, length}
+use Rattle.std.specs.Prelude.{ℕ, zero, suc, ◌+◌, ◌-◌, ◌*◌, ◌/◌, ◌%◌, ◌≤◌, ◌<◌, Bool, true, List, ◌≡◌, length, Result, Ok, Err}
 use Rattle.words.specs.Tests.{◌≤?◌, ◌<?◌, ◌=?◌, ◌≠?◌, ◌and◌, all}
 use Rattle.words.specs.Words.{word, pick, last_of, least_from}
 use Rattle.words.specs.Numbers.{unless, ◌then◌}
 use Rattle.timetable.specs.declared.Hours.{Hours}
-use Rattle.timetable.specs.declared.Hours.TheVariants.{Until, Always, Refused}
+use Rattle.timetable.specs.declared.Hours.TheVariants.{Until, Always}
 
 -- the minutes of a week: 0 to 10,079
 abbrev pub week : ℕ
@@ -71,12 +71,12 @@ unfoldable pub hours_number : List ℕ → ℕ → ℕ
 hours_number t minute = unless 31 (timetable_fits t) then unless 32 (minute <? week)
 
 -- the answer, one to one with the number and, where that is 0, the schedule and the change
-abbrev pub hours_of : ℕ → ℕ → Change → Hours
-hours_of zero schedule never = Always schedule
-hours_of zero schedule (next_at minute) = Until schedule minute
-hours_of (suc n) schedule change = Refused (suc n)
+abbrev pub hours_of : ℕ → ℕ → Change → Result Hours ℕ
+hours_of zero schedule never = Ok (Always schedule)
+hours_of zero schedule (next_at minute) = Ok (Until schedule minute)
+hours_of (suc n) schedule change = Err (suc n)
 
-abbrev pub hours_answer : List ℕ → ℕ → Hours
+abbrev pub hours_answer : List ℕ → ℕ → Result Hours ℕ
 hours_answer t minute = hours_of (hours_number t minute) (schedule_in t minute) (next_change t minute)
 
 -- the claim that two windows that cover one minute are one (proofs/TimetableLaws, `one_covers`)
@@ -97,11 +97,11 @@ pub record ChangesAt (t : List ℕ) (minute schedule next ahead : ℕ) : Type 0 
 -- (proofs/HoursLaws, `change_right`)
 abbrev pub ChangeRight : Type 0
 ChangeRight =
-    (t : List ℕ) (minute schedule next : ℕ) → hours_answer t minute ≡ Until schedule next
+    (t : List ℕ) (minute schedule next : ℕ) → hours_answer t minute ≡ Ok (Until schedule next)
     → ChangesAt t minute schedule next (changes_in t minute)
 
 -- and that a schedule that is answered for always is that of all 10,080 minutes (proofs/HoursLaws, `never_changes`)
 abbrev pub NeverChanges : Type 0
 NeverChanges =
-    (t : List ℕ) (minute schedule : ℕ) → hours_answer t minute ≡ Always schedule
+    (t : List ℕ) (minute schedule : ℕ) → hours_answer t minute ≡ Ok (Always schedule)
     → (m : ℕ) → m < week → schedule_in t m ≡ schedule

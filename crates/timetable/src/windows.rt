@@ -1,9 +1,10 @@
 // The windows of a timetable, and number 31.
-ghost use Rattle.std.specs.Prelude.{◌≡◌, ◌≤◌, ◌<◌};
-ghost use Rattle.timetable.specs.Timetable.{windows, start_at, schedule_at, end_at, window_fits, timetable_fits};
-ghost use Rattle.timetable.specs.Inner.Windows.{first_windows_fit};
+ghost use Rattle.std.specs.Prelude.{◌≡◌, ◌+◌, ◌<◌, true, false, MatchResult};
+ghost use Rattle.timetable.specs.Timetable.{windows, start_at, length_at, schedule_at, timetable_fits};
+ghost use Rattle.timetable.specs.Inner.Windows.{fits, first_windows_fit};
 
 use super::WEEK;
+use refusal::Refusal;
 
 // The most windows that a timetable has.
 const MOST_WINDOWS: usize = 64;
@@ -11,84 +12,97 @@ const MOST_WINDOWS: usize = 64;
 // The greatest schedule that a window can name.
 const LAST_SCHEDULE: u32 = 7;
 
-// How many windows there are; timetable_fits counts them where they are few, and a timetable that fits has few.
-pub fn windows_of(list: &[u32]) -> u32
-    requires { windows list.now ≤ 64 }
-    ensures { result ≡ windows list.now }
-{
-    (list.len() / 3) as u32
+// The words of a window: its starting minute, how many minutes it has, and its schedule.
+#[derive(Clone, Copy)]
+pub struct Window {
+    pub start: u32,
+    pub minutes: u32,
+    pub schedule: u32,
 }
 
-// The starting minute of window k. Whoever reads a window has compared its number with windows_of, here and below.
-pub fn start_at(list: &[u32], k: u32) -> u32
-    requires { k < windows list.now }
-    ensures { result ≡ start_at list.now k }
-{
-    list[3 * (k as usize)]
-}
-
-// The schedule of window k.
-pub fn schedule_at(list: &[u32], k: u32) -> u32
-    requires { k < windows list.now }
-    ensures { result ≡ schedule_at list.now k }
-{
-    list[3 * (k as usize) + 2]
-}
-
-// The first minute behind window k, in 64 bits, so that the sum cannot wrap.
-pub fn end_at(list: &[u32], k: u32) -> u64
-    requires { k < windows list.now }
-    ensures { result ≡ end_at list.now k }
-{
-    start_at(list, k) as u64 + list[3 * (k as usize) + 1] as u64
-}
-
-// Window k lies in the week, has a minute and names a schedule. A window that has a minute and ends within the week starts in it.
-fn window_fits(list: &[u32], k: u32) -> bool
-    requires { k < windows list.now }
-    ensures { result ≡ window_fits list.now k }
-{
-    let start = start_at(list, k) as u64;
-    let end = end_at(list, k);
-    if end <= start {
-        return false;
+impl Window {
+    // Window k. Whoever reads a window has compared its number with how many there are.
+    #[tactic(auto, unfolding(crate::specs::Timetable::windows, crate::specs::Timetable::start_at, crate::specs::Timetable::length_at, crate::specs::Timetable::schedule_at))]
+    pub(super) fn at(words: &[u32], k: usize) -> Window
+        requires { k < windows words.now }
+        ensures start { result.start ≡ start_at words.now k }
+        ensures minutes { result.minutes ≡ length_at words.now k }
+        ensures schedule { result.schedule ≡ schedule_at words.now k }
+    {
+        Window {
+            start: words[3 * k],
+            minutes: words[3 * k + 1],
+            schedule: words[3 * k + 2],
+        }
     }
-    if end > WEEK as u64 {
-        return false;
+
+    // The first minute behind it, in 64 bits, so that the sum cannot wrap.
+    pub(super) fn end(self) -> u64
+        ensures { result ≡ self.start + self.minutes }
+    {
+        u64::from(self.start) + u64::from(self.minutes)
     }
-    schedule_at(list, k) <= LAST_SCHEDULE
+
+    // It lies in the week, has a minute and names a schedule. A window that has a minute and ends within the week starts in it.
+    fn fits(self) -> bool
+        ensures { result ≡ fits self }
+    {
+        if self.minutes == 0 || self.end() > u64::from(WEEK) {
+            return false;
+        }
+        self.schedule <= LAST_SCHEDULE
+    }
 }
 
 // All windows fit, and each starts no earlier than the one before it has ended.
-fn windows_fit(list: &[u32], count: u32) -> bool
-    requires { count ≡ windows list.now }
-    ensures { result ≡ first_windows_fit list.now count }
+fn windows_fit(words: &[u32], count: usize) -> bool
+    requires { count ≡ windows words.now }
+    ensures { result ≡ first_windows_fit words.now count }
 {
-    let mut k: u32 = 0;
     let mut ended: u64 = 0;
-    while k < count {
-        if (start_at(list, k) as u64) < ended {
+    for k in 0..count {
+        let window = Window::at(words, k);
+        if u64::from(window.start) < ended || !window.fits() {
             return false;
         }
-        if window_fits(list, k) {
-            ended = end_at(list, k);
-            k += 1;
-        } else {
-            return false;
-        }
+        ended = window.end();
     }
     true
 }
 
 // Number 31: the words are windows, few enough, and all fit and are in order.
-pub fn timetable_fits(list: &[u32]) -> bool
-    ensures { result ≡ timetable_fits list.now }
+fn timetable_fits(words: &[u32]) -> bool
+    ensures { result ≡ timetable_fits words.now }
 {
-    if list.len() % 3 != 0 {
+    let count = words.len() / 3;
+    if words.len() % 3 != 0 || count > MOST_WINDOWS {
         return false;
     }
-    if list.len() / 3 > MOST_WINDOWS {
-        return false;
+    windows_fit(words, count)
+}
+
+// The words of a timetable that fits.
+#[derive(Clone, Copy)]
+pub struct Timetable<'a> {
+    pub words: &'a [u32],
+    ghost valid: { timetable_fits words.now ≡ true },
+}
+
+impl<'a> Timetable<'a> {
+    pub(super) fn new(words: &'a [u32]) -> Result<Timetable<'a>, Refusal>
+        ensures { MatchResult result (λ t. t.words.now ≡ words.now) (λ e. (e ≡ Refusal.WrongTimetable) × (timetable_fits words.now ≡ false)) }
+    {
+        if !timetable_fits(words) {
+            return Err(Refusal::WrongTimetable);
+        }
+        Ok(Timetable { words })
     }
-    windows_fit(list, windows_of(list))
+
+    // How many windows there are.
+    #[tactic(auto, unfolding(crate::specs::Timetable::windows))]
+    pub(super) fn count(&self) -> usize
+        ensures { result ≡ windows self.now.words.now }
+    {
+        self.words.len() / 3
+    }
 }

@@ -2,14 +2,15 @@
 -- pair of nodes of every grid. And the shorter way round as the code has it, which is arithmetic on a ring of any size.
 -- Assumes nothing.
 use Prim.Native.Nat.{ℕ, ◌+◌, ◌-◌, ◌*◌, ◌%◌, ◌<◌, ◌≤◌, min}
-use mathlib.Core.Bool.{Bool}
+use mathlib.Core.Bool.{Bool, true, false}
 use mathlib.Core.Path.{◌≡◌, refl, sym, ap, ap₂, subst, ◌∙◌}
 use native.Mathlib.Omega.{arith}
-use native.Mathlib.Nat.{le_of_suc-le-suc, mul_comm, mod-lt, mod_self, mod-eq_of_lt, add-mod_right, div-lt_iff_lt-mul, min-eq_left, min-eq_right}
+use native.Mathlib.Nat.{le_of_suc-le-suc, mul_comm, mod-lt, mod_self, mod-eq_of_lt, add-mod_right, div-lt_iff_lt-mul, min_comm}
 use lib.Dec.{T, eqb, ltb, eqb→eq, ltb→lt}
 use Rattle.words.proofs.Below.{every, every_at}
 use Rattle.words.specs.Words.{least_from}
-use Rattle.words.specs.Tests.{◌=?◌, ◌or◌, any}
+use Rattle.words.specs.Tests.{◌=?◌, ◌<?◌, ◌or◌, any}
+use Rattle.words.proofs.TestLaws.{is<, not<}
 use Rattle.torus.specs.Torus.{row_of, column_of, neighbour_of, walks, distance_of, shorter_way, round_distance, DistanceFormula}
 use Rattle.torus.specs.Inner.Grid.{InGrid}
 use Rattle.torus.proofs.NeighbourLaws.{every_node, at_node}
@@ -44,13 +45,6 @@ unfolding shorter_way
 vertical_most cols rows from to g h =
     le_of_suc-le-suc (ltb→lt _ 3 (at_pair (λ c r n m. ltb (shorter_way r (row_of c n) (row_of c m)) 3) tt cols rows from to g h))
 
--- no way is the shorter between a place and itself
-pub shorter_none : (n place : ℕ) → shorter_way n place place ≡ 0
-unfolding shorter_way
-shorter_none n place =
-    let whole : place + n - place ≡ n = omega arith in
-    rw (whole, mod_self n) refl
-
 -- the column and the row of a node are places of their rings
 pub column_inside : {cols rows node place : ℕ} → InGrid cols rows node → place ≡ column_of cols node → place < cols
 column_inside {cols} {rows} {node} g e = subst (λ k. k < cols) (sym e) (mod-lt node (omega (arith, g.cols_low)))
@@ -69,15 +63,35 @@ way_ahead n a b h l =
 pub way_round : (n a b : ℕ) → a < n → b < a → n - a + b ≡ (b + n - a) % n
 way_round n a b h l = sym (mod-eq_of_lt (omega arith)) ∙ ap (λ (k : ℕ). k % n) (omega arith)
 
--- the less of both ways
-module _ (n a b : ℕ) {on back : ℕ} (e : on ≡ (b + n - a) % n) (f : back ≡ (a + n - b) % n) where
-  pub way_on : on ≤ back → on ≡ shorter_way n a b
-  unfolding shorter_way
-  way_on l = sym (min-eq_left l) ∙ ap₂ min e f
+-- no way is the shorter between a place and itself
+pub shorter_none : (n place : ℕ) → shorter_way n place place ≡ 0
+unfolding shorter_way
+shorter_none n place =
+    let whole : place + n - place ≡ n = omega arith in
+    rw (whole, mod_self n) refl
 
-  pub way_back : back ≤ on → back ≡ shorter_way n a b
-  unfolding shorter_way
-  way_back l = sym (min-eq_right l) ∙ ap₂ min e f
+-- of the places' difference and the rest of the ring, the less is the shorter way
+pub shorter_is : (n a b way : ℕ) → a < n → b < n → way ≡ (a - b) + (b - a) → min way (n - way) ≡ shorter_way n a b
+unfolding shorter_way
+shorter_is n a b way ha hb e = go (a <? b) refl (b <? a) refl
+  where
+    min_zero : (k : ℕ) → min 0 k ≡ 0
+    min_zero k = omega arith
+
+    go : (x : Bool) → (a <? b) ≡ x → (y : Bool) → (b <? a) ≡ y → min way (n - way) ≡ min ((b + n - a) % n) ((a + n - b) % n)
+    go true p y q =
+        let l = is< a b p in
+        ap₂ min (let d : way ≡ b - a = omega arith in d ∙ way_ahead n a b hb (omega arith))
+        (let d : n - way ≡ n - b + a = omega arith in d ∙ way_round n b a hb l)
+    go false p true q =
+        let l = is< b a q in
+        min_comm way (n - way)
+        ∙ ap₂ min (let d : n - way ≡ n - a + b = omega arith in d ∙ way_round n a b ha l)
+        (let d : way ≡ a - b = omega arith in d ∙ way_ahead n b a ha (omega arith))
+    go false p false q =
+        let d : a ≡ b = omega (arith, not< a b p, not< b a q) in
+        let none : way ≡ 0 = omega arith in
+        ap (λ k. min k (n - way)) none ∙ min_zero (n - way) ∙ sym (shorter_none n b) ∙ ap (λ k. min ((b + n - k) % n) ((k + n - b) % n)) (sym d)
 
 -- the shorter ways between the columns and between the rows together are the distance
 pub ways_together : {cols rows from to a b c d in_columns in_rows : ℕ} → InGrid cols rows from → InGrid cols rows to

@@ -8,6 +8,9 @@ use native.Mathlib.Nat.{not-suc-le-zero, le_of_suc-le-suc, mod-lt, add-zero, zer
 use native.Mathlib.Decide.{ℕ_discrete}
 use native.Mathlib.Numerals.{add-one, sub-one}
 use native.Mathlib.Omega.{arith}
+use Rattle.std.specs.Prelude.{Option}
+use Rattle.std.specs.declared.option.Option.TheVariants.{Some, None}
+use mir.Val.{bool_byte}
 use lib.ListN.{length, get_or, set, replicate, length-set}
 use Rattle.words.specs.Tests.{◌and◌, ◌or◌, ◌=?◌}
 use Rattle.words.specs.Words.{pick}
@@ -67,15 +70,16 @@ link_high long output cycles e = go (long and is_vertical output) e
     go true q = omega arith
     go false q = omega arith
 
--- the cycles of a link as code tells them: by a vertical side of a long grid, by another side of it, and on any other grid
-pub link_vertical : (long : Bool) (output : ℕ) → long ≡ true → is_vertical output ≡ true → 1 ≡ link_cycles long output
-unfolding link_cycles ◌and◌
-link_vertical long output e v = rw (e, v) refl
+-- the cycles of a link as code tells them: a byte for the test
+pub link_told : (b long : Bool) (output : ℕ) → b ≡ (long and is_vertical output) → bool_byte b ≡ link_cycles long output
+unfolding link_cycles
+link_told b long output e = go b ∙ ap (λ t. pick t 1 0) e
+  where
+    go : (t : Bool) → bool_byte t ≡ pick t 1 0
+    go true = refl
+    go false = refl
 
-pub link_level : (long : Bool) (output : ℕ) → long ≡ true → is_vertical output ≡ false → 0 ≡ link_cycles long output
-unfolding link_cycles ◌and◌
-link_level long output e v = rw (e, v) refl
-
+-- none on a grid of the other kind
 pub link_short : (long : Bool) (output : ℕ) → long ≡ false → 0 ≡ link_cycles long output
 unfolding link_cycles ◌and◌
 link_short long output e = rw e refl
@@ -144,15 +148,14 @@ abbrev pub delays_of : List Use → List ℕ
 delays_of uses = map (λ (u : Use). u.delay) uses
 
 -- the answer where the two lists, the hops and those over long links are known so far, and the rest of the route goes in from a place on
-abbrev pub written : List ℕ → List ℕ → ℕ → ℕ → ℕ → Route → Path
-written wires delays at hops vertical (leads uses node more further) = record {
-  leads = true;
+abbrev pub written : List ℕ → List ℕ → ℕ → ℕ → ℕ → Route → Option Path
+written wires delays at hops vertical (leads uses node more further) = Some (record {
   node = node;
   hops = hops + more;
   vertical = vertical + further;
   wires = put_all wires at (wires_of uses);
   delays = put_all delays at (delays_of uses);
-}
+})
 written wires delays at hops vertical nowhere = path_of nowhere
 
 -- before the first router only the source wire is written
@@ -174,7 +177,7 @@ written_on wires delays at hops vertical link u (leads uses end more further) =
 written_on wires delays at hops vertical link u nowhere = refl
 
 -- the loop that fills the answer in: what is written so far, with what follows from here, is the answer
-pub record Going (answer : Path) (cols rows : ℕ) (long : Bool) (wires delays : List ℕ) (node entry delay rest hops vertical : ℕ) : Type 0 where
+pub record Going (answer : Option Path) (cols rows : ℕ) (long : Bool) (wires delays : List ℕ) (node entry delay rest hops vertical : ℕ) : Type 0 where
   pub here : InGrid cols rows node
   pub few : hops ≤ 8
   pub soon : delay ≤ 4 * (hops + 1)
@@ -197,18 +200,17 @@ going_start cols rows long node route g = record {
   rest_leads = written_start node (follow 8 cols rows long node 4 3 route);
 }
 
-module _ {answer : Path} {cols rows : ℕ} {long : Bool} {wires delays : List ℕ} {node entry delay rest hops vertical : ℕ}
+module _ {answer : Option Path} {cols rows : ℕ} {long : Bool} {wires delays : List ℕ} {node entry delay rest hops vertical : ℕ}
     (g : Going answer cols rows long wires delays node entry delay rest hops vertical) where
   -- out to the memory at the route's end, the last wire is written
   pub going_out : hops < 8 → {output : ℕ} → output ≡ output_of entry (first_code rest) → output ≡ memory_output → later_codes rest ≡ 0
-      → record {
-        leads = true;
+      → Some (record {
         node = node;
         hops = hops;
         vertical = vertical;
         wires = set wires (hops + 1) (node * 6 + 5);
         delays = set delays (hops + 1) delay;
-      } ≡ answer
+      }) ≡ answer
   unfolding put_all
   going_out h w e z =
       rw (add-zero hops, add-zero vertical) at
@@ -217,7 +219,7 @@ module _ {answer : Path} {cols rows : ℕ} {long : Bool} {wires delays : List �
 
   -- out to the memory with bits left, the route leads nowhere
   pub going_lost : hops < 8 → {output : ℕ} → output ≡ output_of entry (first_code rest) → output ≡ memory_output → (later_codes rest ≡ 0 → ⊥)
-      → path_of nowhere ≡ answer
+      → None ≡ answer
   going_lost h w e z =
       sym (ap (written wires delays (hops + 1) hops vertical) (follow_lost cols rows long node entry delay rest (8 - hops) (omega arith) (sym w ∙ e) z))
       ∙ g.rest_leads
@@ -261,7 +263,7 @@ module _ {answer : Path} {cols rows : ℕ} {long : Bool} {wires delays : List �
       (opposite_of output) (delay + (router_cycles + x)) (later_codes rest) (hops + 1) (vertical + x)) (sym c) (going_opposite h w ne e))
 
   -- after eight routers, the route leads nowhere
-  pub going_end : 8 ≤ hops → path_of nowhere ≡ answer
+  pub going_end : 8 ≤ hops → None ≡ answer
   going_end h =
       sym (ap (written wires delays (hops + 1) hops vertical) (follow_end cols rows long node entry delay rest (8 - hops) (omega arith)))
       ∙ g.rest_leads

@@ -4,7 +4,8 @@
 ghost use Rattle.std.specs.Prelude.{◌≡◌, true, false, ◌+◌, ◌*◌, ◌/◌, ◌%◌, ◌<◌};
 ghost use Rattle.torus.specs.Torus.{neighbour_of, is_vertical, distance_of, shorter_way};
 ghost use Rattle.torus.specs.Inner.Grid.{InGrid};
-ghost use Rattle.torus.specs.Route.{output_of, link_cycles, route_from, nowhere};
+ghost use Rattle.torus.specs.Route.{output_of, link_cycles, route_from, router_cycles};
+ghost use Rattle.words.specs.Words.{pick};
 ghost use Rattle.torus.specs.Inner.Paths.{path_of};
 
 // The entry side of a packet at its first router, and a router's output to its node's memory; 0 to 3 are the sides.
@@ -22,12 +23,10 @@ pub const ROUTER_CYCLES: u32 = 3;
 
 pub const CODES: u32 = 8;
 
-// Where a route leads: the node at its end, its hops, the wires that it uses with their delays, in the first hops + 2 places of the two lists,
-// and how many of the hops are over long links; or, where leads is false, nowhere. (An enum cannot hold lists. The last number stands behind
-// the lists: before them it makes the compiler copy them twice.)
+// Where a route leads: the node at its end, its hops, and the wires that it uses with their delays, in the first hops + 2 places of the two lists; and
+// how many of the hops are over long links.
 #[derive(Clone, Copy)]
 pub struct Path {
-    pub leads: bool,
     pub node: u32,
     pub hops: u32,
     pub wires: [u32; 9],
@@ -147,42 +146,21 @@ pub fn output_of(entry: u32, code: u32) -> u32
 pub fn is_vertical(side: u32) -> bool
     ensures { result ≡ is_vertical side }
 {
-    match side {
-        0 => true,
-        2 => true,
-        _ => false,
-    }
+    matches!(side, 0 | 2)
 }
 
-// The cycles that a link by a side takes where the vertical links are long: one by north and south, else none.
-pub fn link_cycles(side: u32) -> u32
-    ensures { result ≡ link_cycles true side }
+// The cycles that a link by a side takes: one by north and south where the vertical links are long, else none.
+pub fn link_cycles(long: bool, side: u32) -> u32
+    ensures { result ≡ link_cycles long side }
 {
-    if is_vertical(side) {
-        return 1;
-    }
-    0
+    u32::from(long && is_vertical(side))
 }
 
-// The answer for a route that leads nowhere.
-fn nowhere_path() -> Path
-    ensures { result ≡ path_of nowhere }
-{
-    Path {
-        leads: false,
-        node: 0,
-        hops: 0,
-        wires: [0u32; 9],
-        delays: [0u32; 9],
-        vertical: 0,
-    }
-}
-
-// Where a route leads from a source node on a grid without long links. Each hop takes as long there, so that the compiler knows every delay
-// and lays the routers out one after the other; with a link's cycles in the loop it would not, for grids of either kind.
-pub fn follow_short(cols: u32, rows: u32, source: u32, route: u32) -> Path
+// Where a route leads from a source node, if anywhere, on a grid whose vertical links are long or not. The kind is a constant, so that the compiler
+// knows every delay of a grid without long links and lays the routers out one after the other.
+pub fn follow<const LONG: bool>(cols: u32, rows: u32, source: u32, route: u32) -> Option<Path>
     requires { InGrid cols rows source }
-    ensures { result ≡ path_of (route_from cols rows false source route) }
+    ensures { result ≡ path_of (route_from cols rows LONG source route) }
 {
     let mut wires = [0u32; 9];
     let mut delays = [0u32; 9];
@@ -191,89 +169,42 @@ pub fn follow_short(cols: u32, rows: u32, source: u32, route: u32) -> Path
     let mut entry = NO_SIDE;
     let mut delay = ROUTER_CYCLES;
     let mut rest = route;
-    let mut hops: u32 = 0;
-    while hops < CODES {
-        let code = rest % 4;
+    let mut vertical: u32 = 0;
+    for hops in 0..CODES {
+        let output = output_of(entry, rest % 4);
         rest = rest / 4;
         let at = (hops + 1) as usize;
         delays[at] = delay;
-        let output = output_of(entry, code);
         if output == MEMORY_OUTPUT {
             if rest != 0 {
-                return nowhere_path();
+                return None;
             }
             wires[at] = node * WIRES_PER_NODE + MEMORY;
-            return Path {
-                leads: true,
-                node,
-                hops,
-                wires,
-                delays,
-                vertical: 0,
-            };
-        }
-        wires[at] = node * WIRES_PER_NODE + output;
-        node = neighbour(cols, rows, node, output);
-        entry = (output + 2) % 4;
-        delay += ROUTER_CYCLES;
-        hops += 1;
-    }
-    nowhere_path()
-}
-
-// Where a route leads from a source node on a grid whose vertical links are long.
-pub fn follow_long(cols: u32, rows: u32, source: u32, route: u32) -> Path
-    requires { InGrid cols rows source }
-    ensures { result ≡ path_of (route_from cols rows true source route) }
-{
-    let mut wires = [0u32; 9];
-    let mut delays = [0u32; 9];
-    wires[0] = source * WIRES_PER_NODE + SOURCE;
-    let mut node = source;
-    let mut entry = NO_SIDE;
-    let mut delay = ROUTER_CYCLES;
-    let mut rest = route;
-    let mut hops: u32 = 0;
-    let mut vertical: u32 = 0;
-    while hops < CODES {
-        let code = rest % 4;
-        rest = rest / 4;
-        let at = (hops + 1) as usize;
-        delays[at] = delay;
-        let by = output_of(entry, code);
-        if by == MEMORY_OUTPUT {
-            if rest > 0 {
-                return nowhere_path();
-            }
-            wires[at] = node * WIRES_PER_NODE + MEMORY;
-            return Path {
-                leads: true,
+            return Some(Path {
                 node,
                 hops,
                 wires,
                 delays,
                 vertical,
-            };
+            });
         }
-        wires[at] = node * WIRES_PER_NODE + by;
-        node = neighbour(cols, rows, node, by);
-        entry = (by + 2) % 4;
-        let link = link_cycles(by);
+        wires[at] = node * WIRES_PER_NODE + output;
+        node = neighbour(cols, rows, node, output);
+        entry = (output + 2) % 4;
+        let link = link_cycles(LONG, output);
         delay += ROUTER_CYCLES + link;
         vertical += link;
-        hops += 1;
     }
-    nowhere_path()
+    None
 }
 
-// The shorter way round between two places of a ring: the less of the way on and the way back, without a remainder by n.
+// The shorter way round between two places of a ring: the less of the way between them and the rest of the ring.
 fn ring_distance(n: u32, a: u32, b: u32) -> u32
     requires { (a < n) × (b < n) }
     ensures { result ≡ shorter_way n a b }
 {
-    let on = if a <= b { b - a } else { n - a + b };
-    let back = if b <= a { a - b } else { n - b + a };
-    if on < back { on } else { back }
+    let way = a.abs_diff(b);
+    way.min(n - way)
 }
 
 // The fewest vertical steps between two nodes: the shorter way round in rows.
@@ -291,4 +222,17 @@ pub fn distance(cols: u32, rows: u32, from: u32, to: u32) -> u32
 {
     let in_columns = ring_distance(cols, column(cols, rows, from), column(cols, rows, to));
     in_columns + vertical_distance(cols, rows, from, to)
+}
+
+// The cycles of the hops between two nodes: three for each step of their distance, and one more for each vertical one where the vertical links are long.
+pub fn span(cols: u32, rows: u32, long: bool, from: u32, to: u32) -> u32
+    requires { (InGrid cols rows from) × (InGrid cols rows to) }
+    ensures { result ≡ router_cycles * distance_of cols rows from to + pick long (shorter_way rows (from / cols) (to / cols)) 0 }
+{
+    let span = ROUTER_CYCLES * distance(cols, rows, from, to);
+    if long {
+        span + vertical_distance(cols, rows, from, to)
+    } else {
+        span
+    }
 }

@@ -4,3 +4,4 @@ pub mod WordLaws
 pub mod TableLaws
 pub mod Below
 pub mod NumberLaws
+pub mod RangeLaws

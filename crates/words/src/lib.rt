@@ -9,7 +9,7 @@ ghost use Rattle.words.specs.Tests.{between};
 pub fn get(s: &[u32], k: usize) -> u32
     ensures { result ≡ word s.now k }
 {
-    if k < s.len() { s[k] } else { 0 }
+    s.get(k).copied().unwrap_or(0)
 }
 
 // Stores word k; past the end nothing is stored.
@@ -25,8 +25,5 @@ pub fn put(s: &mut [u32], k: usize, v: u32)
 pub fn is_between(low: u32, high: u32, x: u32) -> bool
     ensures { result ≡ between low high x }
 {
-    if x < low {
-        return false;
-    }
-    x <= high
+    (low..=high).contains(&x)
 }

@@ -12,34 +12,30 @@ pub entries_of-entries-requires : goal.entries_of-entries-requires
 entries_of-entries-requires c = (c.requires.0.ranged.framed, c.requires.1)
 
 pub loop-i-init : goal.loop-i-init
-loop-i-init c = (
-  omega arith,
-  placing_start _ _ _ _ _ _ refl c.requires.0 c.requires.1 c.requires.2 c.requires.3 c.entries_of-entries.ensures
-      (ap (λ (n : ℕ). n + 6) c.schedule_period.ensures),
-)
+loop-i-init c =
+    placing_start _ _ _ _ _ _ refl c.requires.0 c.requires.1 c.requires.2 c.requires.3 c.entries_of-entries.ensures
+    (ap (λ (n : ℕ). n + 6) c.schedule_period.ensures)
 
 pub place_entry-requires : goal.place_entry-requires
-place_entry-requires c = placing_next _ _ _ _ _ c.loop-i.i _ c.loop-i.invariant.1 (omega arith) _ c.at.ensures
+place_entry-requires c = placing_next _ _ _ _ _ c.loop-i.i _ c.loop-i.invariant (omega arith) _ c.at.ensures
 
 pub loop-i-preserved : goal.loop-i-preserved
-loop-i-preserved c = (
-  omega arith,
-  placing_more _ _ _ _ _ c.loop-i.i _ c.loop-i.invariant.1 (omega arith) _ c.at.ensures _
-      c.place_entry.ensures c.if-place_entry.true,
-)
+loop-i-preserved c =
+    placing_more _ _ _ _ _ c.loop-i.i _ c.loop-i.invariant (omega arith) _ c.at.ensures _
+    c.place_entry.ensures c.if-not-place_entry.false
 
-pub shape_of-table-else-place_entry : goal.shape_of-table-else-place_entry
-shape_of-table-else-place_entry c =
-    failed_length _ _ _ _ _ c.loop-i.i _ c.loop-i.invariant.1 (omega arith) _ c.at.ensures _
-    c.place_entry.ensures c.if-place_entry.false
+pub shape_of-table-then-not-place_entry : goal.shape_of-table-then-not-place_entry
+shape_of-table-then-not-place_entry c =
+    failed_length _ _ _ _ _ c.loop-i.i _ c.loop-i.invariant (omega arith) _ c.at.ensures _
+    c.place_entry.ensures c.if-not-place_entry.true
 
-pub returns-else-place_entry : goal.returns-else-place_entry
-returns-else-place_entry c =
-    placing_fails _ _ _ _ _ c.loop-i.i _ c.loop-i.invariant.1 (omega arith) _ c.at.ensures _
-    c.place_entry.ensures c.if-place_entry.false
+pub returns-then-not-place_entry : goal.returns-then-not-place_entry
+returns-then-not-place_entry c =
+    placing_fails _ _ _ _ _ c.loop-i.i _ c.loop-i.invariant (omega arith) _ c.at.ensures _
+    c.place_entry.ensures c.if-not-place_entry.true
 
 pub shape_of-table : goal.shape_of-table
-shape_of-table c = placing_length _ _ _ _ _ _ _ c.loop-i.invariant.1
+shape_of-table c = placing_length _ _ _ _ _ _ _ c.loop-i.invariant
 
 pub returns : goal.returns
-returns c = placing_done _ _ _ _ _ c.loop-i.i _ c.loop-i.invariant.1 (omega arith) (omega arith)
+returns c = placing_done _ _ _ _ _ c.loop-i.i _ c.loop-i.invariant (omega arith) (omega arith)

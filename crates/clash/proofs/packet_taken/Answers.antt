@@ -6,7 +6,7 @@ use Rattle.clash.proofs.RunLaws.{packet_hit, packet_on, packet_clear}
 use Rattle.clash.proofs.packet_taken.Goals as goal
 
 pub loop-i-init : goal.loop-i-init
-loop-i-init c = (omega arith, rw sub-zero refl)
+loop-i-init c = rw sub-zero refl
 
 pub place_of-place-requires : goal.place_of-place-requires
 place_of-place-requires c = (c.requires.stride_small, c.requires.cycle_small)
@@ -22,14 +22,12 @@ run_taken-requires c = (
 pub returns-then-run_taken : goal.returns-then-run_taken
 returns-then-run_taken c =
     packet_hit _ _ _ _ _ _ c.loop-i.i c.loop-i-test.true _ c.place_of-place.ensures _
-    c.run_taken.ensures c.if-run_taken.true ∙ c.loop-i.invariant.1
+    c.run_taken.ensures c.if-run_taken.true ∙ c.loop-i.invariant
 
 pub loop-i-preserved : goal.loop-i-preserved
-loop-i-preserved c = (
-  omega arith,
-  packet_on _ _ _ _ _ _ c.loop-i.i c.loop-i-test.true _ c.place_of-place.ensures _
-      c.run_taken.ensures c.if-run_taken.false ∙ c.loop-i.invariant.1,
-)
+loop-i-preserved c =
+    packet_on _ _ _ _ _ _ c.loop-i.i c.loop-i-test.true _ c.place_of-place.ensures _
+    c.run_taken.ensures c.if-run_taken.false ∙ c.loop-i.invariant
 
 pub returns : goal.returns
-returns c = packet_clear _ _ _ _ _ _ c.loop-i.i c.loop-i-test.false _ ∙ c.loop-i.invariant.1
+returns c = packet_clear _ _ _ _ _ _ c.loop-i.i c.loop-i-test.false _ ∙ c.loop-i.invariant

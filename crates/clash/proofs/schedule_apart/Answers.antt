@@ -18,20 +18,20 @@ overflow_mul-places-2 c =
     let pre = c.requires in
     omega (arith, places_high _ pre.0 _ pre.1 _ _ c.nodes_of.ensures.0 c.nodes_of.ensures.1 c.schedule_period-cycles.ensures)
 
-pub apart_in_small-requires : goal.apart_in_small-requires
-apart_in_small-requires c =
+pub apart_in-requires : goal.apart_in-requires
+apart_in-requires c =
     let pre = c.requires in
     let count = c.nodes_of.ensures in
-    (pre.0, pre.1, roomy _ pre.0 _ pre.1 _ _ count.0 count.1 c.schedule_period-cycles.ensures 33 (omega arith))
+    (pre.0, pre.1, roomy _ pre.0 _ pre.1 _ _ count.0 count.1 c.schedule_period-cycles.ensures 33 (omega arith), omega arith)
 
-pub apart_in_middle-requires : goal.apart_in_middle-requires
-apart_in_middle-requires c =
+pub apart_in-requires-in-1025-to-16384 : goal.apart_in-requires-in-1025-to-16384
+apart_in-requires-in-1025-to-16384 c =
     let pre = c.requires in
     let count = c.nodes_of.ensures in
-    (pre.0, pre.1, roomy _ pre.0 _ pre.1 _ _ count.0 count.1 c.schedule_period-cycles.ensures 513 (omega arith))
+    (pre.0, pre.1, roomy _ pre.0 _ pre.1 _ _ count.0 count.1 c.schedule_period-cycles.ensures 513 (omega arith), omega arith)
 
-pub apart_in_large-requires : goal.apart_in_large-requires
-apart_in_large-requires c =
+pub apart_in-requires-in_default : goal.apart_in-requires-in_default
+apart_in-requires-in_default c =
     let pre = c.requires in
     let count = c.nodes_of.ensures in
     let high = places_high _ pre.0 _ pre.1 _ _ count.0 count.1 c.schedule_period-cycles.ensures in (
@@ -39,4 +39,5 @@ apart_in_large-requires c =
       pre.1,
       roomy _ pre.0 _ pre.1 _ _ count.0 count.1 c.schedule_period-cycles.ensures 3091
           (omega (arith, high)),
+      omega arith,
     )

@@ -11,8 +11,8 @@ use Rattle.sheet.specs.Sheet.{blank_sheet, meant, rows, memory_words, circuits, 
 use Rattle.sheet.specs.Rules.{first_broken, check_rules}
 use Rattle.sheet.proofs.MeantLaws.{itself, meant_none}
 use Rattle.sheet.proofs.CheckLaws.{idle_passes}
-use Rattle.session.specs.declared.Found.TheVariants.{Word as FoundWord}
-use Rattle.session.specs.Answers.{period_answer}
+use Rattle.std.specs.declared.result.Result.TheVariants.{Ok}
+use Rattle.session.specs.Answers.{found_of, period_answer}
 use Rattle.session.specs.Calls.{Call, cycle, number, loaded, lend, after_all}
 use Rattle.isolation.specs.Sessions.{Session, standing, Event, cycle_done}
 use Rattle.isolation.specs.Calendar.{calendar_after}
@@ -68,8 +68,8 @@ reckoned_number : (calendar_after blank_sheet (replicate 9 cycle_done)).number �
 unfolding schedule_place ◌and◌ ◌=?◌
 reckoned_number = refl
 
-pub second_period : period_answer (standing idle_by_none 9) ≡ FoundWord 1
+pub second_period : period_answer (standing idle_by_none 9) ≡ Ok 1
 second_period =
     demand3.period_number_is idle_by_none 9 (omega arith)
-    ∙ ap (λ (es : List Event). FoundWord (calendar_after blank_sheet es).number) (events_decided idle_by_none 9 (omega arith))
-    ∙ ap FoundWord reckoned_number
+    ∙ ap (λ (es : List Event). found_of 0 (calendar_after blank_sheet es).number) (events_decided idle_by_none 9 (omega arith))
+    ∙ ap (found_of 0) reckoned_number

@@ -22,9 +22,8 @@ use Rattle.sheet.specs.Rules.{region_fits, circuit_fits, rule4, precedes, circui
 use Rattle.sheet.specs.Rules.{each_entry, entry_fits, rule7_at, rule7, entry_precedes, rule8_at, rule8}
 use Rattle.sheet.specs.Rules.{entry_route, entry_leads, rule9, entry_ends, rule10, entry_occupied, rule11_at, rule11, serves, is_served, rule26}
 use Rattle.network.specs.Registers.{state_words}
-use Rattle.session.specs.declared.Found.TheVariants.{Word as FoundWord}
 use Rattle.soundness.specs.Sound.{kind_travels, lies_in}
-use Rattle.session.specs.Answers.{fetch_answer}
+use Rattle.session.specs.Answers.{found_of, fetch_answer}
 use Rattle.session.specs.declared.Transfer.{Transfer}
 use Rattle.session.specs.Calls.{Call, load, start, start_all, answers_all, store, fetch, left, period_number, what_landed, order, cycle, ask}
 use Rattle.sheet.proofs.MeantLaws.{itself}
@@ -336,7 +335,7 @@ module _ (s s' : List ℕ) (long : state_words ≤ length s) (long' : state_word
   unfolding circuit_at
   alike_read address i =
       (as_reckoned first 0 (omega arith)).read_region 0 address (omega arith) i
-      ∙ ap FoundWord (read_words address (in_high (its_record first 0).read address i))
+      ∙ ap (found_of 0) (read_words address (in_high (its_record first 0).read address i))
       ∙ sym ((as_reckoned second 1 (omega arith)).read_region 0 address (omega arith) i)
 
   alike_receive : (address : ℕ) → in_region (its_record first 0).receive address ≡ true
@@ -344,7 +343,7 @@ module _ (s s' : List ℕ) (long : state_words ≤ length s) (long' : state_word
   unfolding circuit_at
   alike_receive address i =
       (as_reckoned first 0 (omega arith)).receive_region 0 address (omega arith) i
-      ∙ ap FoundWord (receive_words address (in_high (its_record first 0).receive address i))
+      ∙ ap (found_of 0) (receive_words address (in_high (its_record first 0).receive address i))
       ∙ sym ((as_reckoned second 1 (omega arith)).receive_region 0 address (omega arith) i)
 
   -- the two sessions, on any lent states, are alike for the circuit up to 40 cycles

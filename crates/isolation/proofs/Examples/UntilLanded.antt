@@ -13,8 +13,8 @@ use Rattle.torus.specs.Torus.{neighbour_of, walks, distance_of}
 use Rattle.sheet.specs.Sheet.{rows, schedule_place, circuit_at, entries_of, entry_at, is_long}
 use Rattle.sheet.specs.Slots.{begins_at, entry_beginning, slot_length}
 use Rattle.soundness.specs.Sound.{kind_travels, lies_in}
-use Rattle.session.specs.declared.Found.TheVariants.{Word as FoundWord}
-use Rattle.session.specs.Answers.{left_answer}
+use Rattle.std.specs.declared.result.Result.TheVariants.{Ok}
+use Rattle.session.specs.Answers.{found_of, left_answer}
 use Rattle.session.specs.Calls.{Call, start, cycle, number}
 use Rattle.sheet.proofs.MeantLaws.{itself}
 use Rattle.isolation.specs.Sessions.{Session, standing, Event}
@@ -63,7 +63,7 @@ unfolding rows is_long vertical_of reckoned_landing leaves_in slot_length entry_
     distance_of least_from walks neighbour_of kind_travels lies_in unless ◌then◌ under_way
 none_owed = refl
 
-pub none_left : left_answer (standing session 4) 0 ≡ FoundWord 0
+pub none_left : left_answer (standing session 4) 0 ≡ Ok 0
 none_left =
     (as_reckoned session 0 (omega arith)).words_left 4 (omega arith)
-    ∙ ap (λ (es : List Event). FoundWord (owed (reckon sheet 0 memories es))) (events_decided session 4 (omega arith)) ∙ ap FoundWord none_owed
+    ∙ ap (λ (es : List Event). found_of 0 (owed (reckon sheet 0 memories es))) (events_decided session 4 (omega arith)) ∙ ap (found_of 0) none_owed

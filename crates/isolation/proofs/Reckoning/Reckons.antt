@@ -23,9 +23,10 @@ use Rattle.sheet.proofs.PassedLaws.{entry_small}
 use Rattle.sheet.proofs.VerdictLaws.{passed, routed}
 use Rattle.network.specs.View.{View, Landing, nothing, landed as landing}
 use Rattle.network.specs.Registers.{reg, left_row, to_go_row, row_count}
-use Rattle.session.specs.declared.Found.TheVariants.{Word as FoundWord}
+use Rattle.std.specs.Prelude.{Result, Option}
+use Rattle.std.specs.declared.option.Option.TheVariants.{None, Some}
+use Rattle.std.specs.declared.result.Result.TheVariants.{Ok, Err}
 use Rattle.session.specs.declared.Landed.{Landed}
-use Rattle.session.specs.declared.Landed.TheVariants.{Nothing, Word as LandedWord, Refused}
 use Rattle.session.specs.Answers.{found_of, landed_of, left_answer, fetch_answer, period_answer, landed_answer}
 use Rattle.soundness.specs.Sound.{kind_travels}
 use Rattle.session.proofs.NumberLaws.{not_holds}
@@ -68,42 +69,34 @@ module _ (z : List ℕ) (w : Lent) (f : Fine z w) where
 
   -- what fetch answers
   fetch_is : (node address : ℕ) → node < nodes z → address < memory_words z
-      → fetch_answer w node address ≡ FoundWord (word_at z w.memory node address)
+      → fetch_answer w node address ≡ Ok (word_at z w.memory node address)
   unfolding fetched
   fetch_is node address n l =
       ap (λ (k : ℕ). found_of k (fetched w.state w.memory node address)) (place_zero node address n l)
-      ∙ ap FoundWord (seen_memory z w f node address)
+      ∙ ap (found_of 0) (seen_memory z w f node address)
 
 -- the answer of what landed, from the machine's landing
-abbrev answered : Landing → Landed
-answered nothing = Nothing
-answered (landing kind address w) = LandedWord kind address w
-
-landed_is : (z : List ℕ) (w : Lent) (f : Fine z w) (node : ℕ) → node < nodes z → landed_answer w node ≡ answered ((seen w).landing node)
+landed_is : (z : List ℕ) (w : Lent) (f : Fine z w) (node : ℕ) → node < nodes z → landed_answer w node ≡ landed_of 0 ((seen w).landing node)
 unfolding last_landing
-landed_is z w f node n =
-    ap (λ (j : ℕ). landed_of j (last_landing w.state node)) (landed_zero z w f node n) ∙ go ((seen w).landing node)
-  where
-    go : (x : Landing) → landed_of 0 x ≡ answered x
-    go nothing = refl
-    go (landing kind address new) = refl
+landed_is z w f node n = ap (λ (j : ℕ). landed_of j (last_landing w.state node)) (landed_zero z w f node n)
 
 -- as far as it falls into a region
-answered_in : (r : Region) (x : Landing) → item_within r (answered x) ≡ item_in r x
+answered_in : (r : Region) (x : Landing) → item_within r (landed_of 0 x) ≡ item_in r x
 answered_in r nothing = refl
 answered_in r (landing kind address new) = refl
 
 -- and back: what falls into a region is what landed
-abbrev landed_item : Item → Landed
-landed_item none = Nothing
-landed_item (item kind address w) = LandedWord kind address w
+abbrev landed_item : Item → Result (Option Landed) ℕ
+landed_item none = Ok None
+landed_item (item kind address w) = Ok (Some (record { kind = kind; address = address; word = w }))
 
-landed_back : (r : Region) (x : Landed) (kind address w : ℕ) → item_within r x ≡ item kind address w → x ≡ LandedWord kind address w
-landed_back r Nothing kind address w e = absurd (false≢true (ap is_item e))
-landed_back r (Refused n) kind address w e = absurd (false≢true (ap is_item e))
-landed_back r (LandedWord kind' address' w') kind address w e = go (in_region r address') e
+landed_back : (r : Region) (x : Result (Option Landed) ℕ) (kind address w : ℕ) → item_within r x ≡ item kind address w
+    → x ≡ landed_item (item kind address w)
+landed_back r (Ok None) kind address w e = absurd (false≢true (ap is_item e))
+landed_back r (Err n) kind address w e = absurd (false≢true (ap is_item e))
+landed_back r (Ok (Some x)) kind address w e = go (in_region r x.address) e
   where
-    go : (b : Bool) → pick b (item kind' address' w') none ≡ item kind address w → LandedWord kind' address' w' ≡ LandedWord kind address w
+    go : (b : Bool) → pick b (item x.kind x.address x.word) none ≡ item kind address w → Ok (Some x) ≡ landed_item (item kind address w)
     go true q = ap landed_item q
     go false q = absurd (false≢true (ap is_item q))
 
@@ -116,19 +109,19 @@ refused_at (x ∷ calls) w h (suc k) l = refused_at calls (after x w) h.1 k (ome
 
 -- what holds of every session, whatever its sheet
 module _ (l : Session) where
-  pub period_number_is : (k : ℕ) → k ≤ length l.calls → period_answer (standing l k) ≡ FoundWord (calendar_at l k).number
+  pub period_number_is : (k : ℕ) → k ≤ length l.calls → period_answer (standing l k) ≡ Ok (calendar_at l k).number
   unfolding period_number_in
   period_number_is k p =
       let a = point_at l k in
       ap (λ (n : ℕ). found_of n (period_number_in (standing l k).state)) (state_zero l.sheet (standing l k) a.fine)
-      ∙ ap FoundWord (sym a.dated.number_is)
+      ∙ ap (found_of 0) (sym a.dated.number_is)
 
   pub landed_answered : (k node : ℕ) → k ≤ length l.calls → node < nodes l.sheet → landed_number (standing l k).state node ≡ 0
   landed_answered k node p inside = landed_zero l.sheet (standing l k) (point_at l k).fine node inside
 
-  pub landed_at_load : (node : ℕ) → node < nodes l.sheet → landed_answer (after_load l) node ≡ Nothing
+  pub landed_at_load : (node : ℕ) → node < nodes l.sheet → landed_answer (after_load l) node ≡ Ok None
   landed_at_load node inside =
-      landed_is l.sheet (after_load l) (fine_opened l) node inside ∙ ap answered (landing_opened l node inside)
+      landed_is l.sheet (after_load l) (fine_opened l) node inside ∙ ap (landed_of 0) (landing_opened l node inside)
 
   pub landed_kept : (k node : ℕ) → k < length l.calls → node < nodes l.sheet → (CycleAt l k → ⊥)
       → landed_answer (standing l (suc k)) node ≡ landed_answer (standing l k) node
@@ -141,7 +134,7 @@ module _ (l : Session) where
       go true e = let same = a_cycle _ e in absurd (c (p, same, never_refused l k p same))
       go false e =
           landed_is l.sheet (standing l (suc k)) (point_at l (suc k)).fine node inside
-          ∙ ap answered
+          ∙ ap (landed_of 0)
           (ap (λ (w : Lent). (seen w).landing node) (after_all_at l.calls k (after_load l) p)
           ∙ landing_kept l.sheet (standing l k) f node inside (get_or l.calls k cycle)
           (refused_at l.calls (after_load l) l.loads_refused k p) e)
@@ -188,7 +181,7 @@ module _ (l : Session) (circuit : ℕ) (inside : circuit < circuits l.sheet) whe
   fine_at : (k : ℕ) → Fine z (standing l k)
   fine_at k = (at_point k).point.fine
 
-  left_answer_is : (w : Lent) → Fine z w → left_answer w circuit ≡ FoundWord ((seen w).sender circuit).left
+  left_answer_is : (w : Lent) → Fine z w → left_answer w circuit ≡ Ok ((seen w).sender circuit).left
   unfolding words_left
   left_answer_is w f = ap (λ (k : ℕ). found_of k (words_left w.state circuit)) (left_zero z w f circuit inside)
 
@@ -245,7 +238,7 @@ module _ (l : Session) (circuit : ℕ) (inside : circuit < circuits l.sheet) whe
       ∙ ap (cycle_on z circuit k r).sent.leaving back ∙ leaving_before z circuit k r t earlier)
 
   lands : (k t kind address w : ℕ) → CycleAt l k → cycles_done l k ≡ t + flight_cycles z circuit
-      → (reckoned_at l circuit k).sent.leaving t ≡ item kind address w → answer_at_destination l circuit (suc k) ≡ LandedWord kind address w
+      → (reckoned_at l circuit k).sent.leaving t ≡ item kind address w → answer_at_destination l circuit (suc k) ≡ Ok (Some (record { kind = kind; address = address; word = w }))
   lands k t kind address w c e left =
       let counted : cycles_done l (suc k) ≡ cycles_done l k + 1 =
       ap (λ (d : Calendar). d.cycles) (calendar_after_is k c) ∙ next_cycles z (calendar_at l k) in
@@ -279,7 +272,7 @@ module _ (l : Session) (circuit : ℕ) (inside : circuit < circuits l.sheet) whe
     long_links = long_links;
     words_left = λ k p.
         let a = at_point k in
-        left_answer_is (standing l k) (fine_at k) ∙ ap FoundWord (sym a.now.sending.left_is);
+        left_answer_is (standing l k) (fine_at k) ∙ ap (found_of 0) (sym a.now.sending.left_is);
     lands = lands;
     landings = λ k p. landings k;
     busy = λ k read_address write_address count kind p e.
@@ -289,11 +282,11 @@ module _ (l : Session) (circuit : ℕ) (inside : circuit < circuits l.sheet) whe
     read_region = λ k address p i.
         fetch_is z (standing l k) (fine_at k) (source_of z circuit) address small.source_inside
         (omega (arith, in_high (circuit_at z circuit).read address i, small.read_ends))
-        ∙ ap FoundWord (sym ((at_point k).now.reads address i));
+        ∙ ap (found_of 0) (sym ((at_point k).now.reads address i));
     receive_region = λ k address p i.
         fetch_is z (standing l k) (fine_at k) (destination_of z circuit) address small.destination_inside
         (omega (arith, in_high (circuit_at z circuit).receive address i, small.receive_ends))
-        ∙ ap FoundWord (sym ((at_point k).now.receives address i));
+        ∙ ap (found_of 0) (sym ((at_point k).now.receives address i));
   }
 
   -- a word that is reckoned to leave is read in the read region

@@ -12,8 +12,9 @@ use Rattle.sheet.specs.Sheet.{period}
 use Rattle.sheet.specs.Slots.{slot_length}
 use Rattle.sheet.proofs.TimeLaws.{flight_same}
 use Rattle.soundness.specs.Sound.{kind_travels}
-use Rattle.session.specs.declared.Found.{Found}
-use Rattle.session.specs.declared.Found.TheVariants.{Word as FoundWord, Refused as FoundRefused}
+use Rattle.session.specs.Answers.{found_of}
+use Rattle.std.specs.Prelude.{Result}
+use Rattle.std.specs.declared.result.Result.TheVariants.{Ok, Err}
 use Rattle.isolation.specs.Sessions.{Session, Transfer, cycle_done}
 use Rattle.isolation.specs.Calendar.{Calendar, calendar_at_load, next_calendar, calendar_all, calendar_after, calendar_at, cycles_done, point_after, schedule_in}
 use Rattle.isolation.specs.Reckoning.{Reckoned, flight_cycles, leaves_in, cycle_on, at_load, reckon_all, reckon}
@@ -30,9 +31,9 @@ ReadsInRegion l circuit = (k : ℕ) → leaves_in (reckoned_at l circuit k) (cyc
     → in_region (its_record l circuit).read ((reckoned_at l circuit k).transfer.read_address + (reckoned_at l circuit k).sent.gone) ≡ true
 
 -- a found word's value
-abbrev value_of : Found → ℕ
-value_of (FoundWord w) = w
-value_of (FoundRefused n) = 0
+abbrev value_of : Result ℕ ℕ → ℕ
+value_of (Ok w) = w
+value_of (Err n) = 0
 
 -- a session's calendar and reckoning before cycle t
 abbrev pub calendar_before : Session → ℕ → Calendar
@@ -229,14 +230,14 @@ module _ (a b : Session) (c d n : ℕ) (ha : AsReckoned a c) (hb : AsReckoned b 
       record {
         landings = landing_at;
         words_left = ha.words_left (point_after a n) ia
-            ∙ ap₂ (λ (y : Transfer) (g : ℕ). FoundWord (y.count - g)) s.same_transfer s.same_gone
+            ∙ ap₂ (λ (y : Transfer) (g : ℕ). found_of 0 (y.count - g)) s.same_transfer s.same_gone
             ∙ sym (hb.words_left (point_after b n) ib);
         regions = record {
           read = λ address i. ha.read_region (point_after a n) address ia i
-              ∙ ap FoundWord (s.same_read_words address i)
+              ∙ ap (found_of 0) (s.same_read_words address i)
               ∙ sym (hb.read_region (point_after b n) address ib (to_read address i));
           receive = λ address i. ha.receive_region (point_after a n) address ia i
-              ∙ ap FoundWord (s.same_receive_words address i)
+              ∙ ap (found_of 0) (s.same_receive_words address i)
               ∙ sym (hb.receive_region (point_after b n) address ib (to_receive address i));
         };
         same_busy = λ read_address write_address count kind.

@@ -9,7 +9,7 @@ use Rattle.landings.proofs.OutputLaws.{heading_has}
 use Rattle.landings.specs.Output.{heading}
 use native.Mathlib.Omega.{arith}
 use Prim.Native.Nat.{ℕ}
-use mathlib.Core.Path.{refl, sym}
+use mathlib.Core.Path.{refl}
 use lib.ListN.{length-replicate}
 use Rattle.std.proofs.lemmas.Result.{on_ok_weaker, on_err_weaker}
 use Rattle.landings.proofs.OutputLaws.{none_listed}
@@ -20,9 +20,6 @@ use Rattle.landings.proofs.list.Goals as goal
 pub write_part-requires : goal.write_part-requires
 unfolding heading
 write_part-requires g c = heading_has _ c.requires.0.runs c.requires.1
-
-pub slice_bounds-write_pages-end : goal.slice_bounds-write_pages-end
-slice_bounds-write_pages-end g c = sym (length-replicate {A = ℕ} 65536 0)
 
 pub write_pages-requires : goal.write_pages-requires
 unfolding heading

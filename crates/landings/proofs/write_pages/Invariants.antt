@@ -7,8 +7,10 @@ use Rattle.landings.proofs.write_pages.Given as goal
 
 abbrev pub invariant-loop-time : goal.invariant-loop-time
 invariant-loop-time g l =
-    Paging l.bytes l.nodes l.last l.initial.s l.initial.m l.initial.buffer l.s l.m l.buffer l.place l.time
-    × Written (g.W.Write.contents l.initial.writer) (g.W.Write.contents l.writer) (printout l.bytes) l.initial.place l.place
+    record {
+      paging : Paging l.bytes l.nodes l.last l.s l.m l.place l.time;
+      written : Written (g.W.Write.contents l.initial.writer) (g.W.Write.contents l.writer) (printout l.bytes) l.initial.place l.place;
+    }
 
 abbrev pub decreases-loop-time : goal.decreases-loop-time
 decreases-loop-time g l = l.last - l.time

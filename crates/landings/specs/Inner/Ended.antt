@@ -1,10 +1,8 @@
 -- The lent words at the end of the program, which no caller sees.
 use Rattle.std.specs.Prelude.{◌≡◌, ℕ, ◌≤◌, List, length}
 use Rattle.session.specs.Calls.{Lent}
-use Rattle.landings.specs.declared.input.Message.{Message}
-use Rattle.landings.specs.declared.input.Message.TheVariants.{TooLarge, InputEnds, Refused, Runs}
 use Rattle.landings.specs.Input.{cycles_asked}
-use Rattle.landings.specs.Messages.{calls, refusal_of, message}
+use Rattle.landings.specs.Messages.{Message, TooLarge, InputEnds, Refused, Runs, calls, refusal_of, message}
 use Rattle.landings.specs.Lines.{cycles_on, carried_out}
 use Rattle.landings.specs.Output.{before_cycles, printout}
 

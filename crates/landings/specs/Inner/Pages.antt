@@ -4,9 +4,8 @@ use Rattle.std.specs.Prelude.{ℕ, ◌+◌, ◌≤◌, ◌<◌, List, ◌≡◌,
 use Rattle.sheet.specs.Sheet.{meant, nodes}
 use Rattle.network.specs.Registers.{state_words}
 use Rattle.session.specs.Calls.{Lent, lend, cycle, number}
-use Rattle.landings.specs.declared.input.Message.TheVariants.{Runs}
 use Rattle.landings.specs.Input.{sheet_of, memory_size, cycles_asked}
-use Rattle.landings.specs.Messages.{input_message, message}
+use Rattle.landings.specs.Messages.{Runs, input_message, message}
 use Rattle.landings.specs.Lines.{cycles_on}
 use Rattle.landings.specs.Output.{before_cycles}
 

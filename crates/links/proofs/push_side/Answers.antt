@@ -1,16 +1,9 @@
 -- `links::push_side` meets its contract: the mark and the word are read first; unless both are 0 they go to the place that is computed, which is a neighbour's.
 use native.Mathlib.Omega.{arith}
 use mathlib.Core.Path.{refl}
-use Rattle.torus.proofs.NeighbourLaws.{bounds}
 use Rattle.links.proofs.LinkLaws.{push_none, push_some}
 use Rattle.links.proofs.BesideLaws.{near_few, beside_none, beside_one}
 use Rattle.links.proofs.push_side.Goals as goal
-
-pub overflow_mul-from : goal.overflow_mul-from
-overflow_mul-from c = let b = bounds c.requires.0 in omega arith
-
-pub overflow_add-from : goal.overflow_add-from
-overflow_add-from c = let b = bounds c.requires.0 in omega arith
 
 pub returns-then-mark-word-eq0 : goal.returns-then-mark-word-eq0
 returns-then-mark-word-eq0 c = record { state = push_none _ _ _ _ _ _ _ _ c.reg-mark.ensures c.reg-word.ensures c.if-mark-word-eq0.true; live = beside_none _ _ }

@@ -1,11 +1,11 @@
 -- What one link and one extra register are written. Nobody has to believe these: the contracts of the whole stages say what the rows hold
 -- in the end.
-use Rattle.std.specs.Prelude.{ℕ, ◌+◌, ◌/◌, ◌%◌, ◌<◌, List, ◌≡◌}
+use Rattle.std.specs.Prelude.{ℕ, zero, suc, ◌+◌, ◌/◌, ◌%◌, ◌<◌, List, ◌≡◌}
 use Rattle.std.specs.Int.Bits.{bit_or}
 use Rattle.words.specs.Tests.{◌=?◌}
 use Rattle.words.specs.Words.{word, pick}
 use Rattle.occupancy.specs.Inner.Occupancy.{bit_at}
-use Rattle.torus.specs.Torus.{neighbour_of, opposite_of}
+use Rattle.torus.specs.Torus.{neighbour_of, opposite_of, is_vertical}
 use Rattle.network.specs.Registers.{reg, put, link_mark, link_word, out_mark, out_word, extra_mark, extra_word, at, row_count, row_words}
 use Rattle.network.specs.View.{source_input}
 use Rattle.network.specs.Inner.Live.{Stays}
@@ -36,16 +36,14 @@ pub record SidesEmpty (s : List ℕ) (node vertical : ℕ) : Type 0 where
   pub south : NoneAt s vertical (at node 2)
   pub west : NoneAt s out_mark (at node 3)
 
--- what comes out of the four links of a node
-abbrev pub pushed_all : List ℕ → ℕ → ℕ → ℕ → ℕ → List ℕ
-pushed_all s cols rows node vertical =
-    pushed_by
-    (pushed_by
-    (pushed_by
-    (pushed_by s cols rows node 0 vertical)
-    cols rows node 1 out_mark)
-    cols rows node 2 vertical)
-    cols rows node 3 out_mark
+-- the row of the marks that come out of a side's link, of which that of the vertical sides is given
+unfoldable pub side_row : ℕ → ℕ → ℕ
+side_row vertical side = pick (is_vertical side) vertical out_mark
+
+-- what comes out of so many links of a node, one after the other
+unfoldable pub pushed_sides : ℕ → List ℕ → ℕ → ℕ → ℕ → ℕ → List ℕ
+pushed_sides zero s cols rows node vertical = s
+pushed_sides (suc n) s cols rows node vertical = pushed_by (pushed_sides n s cols rows node vertical) cols rows node n (side_row vertical n)
 
 -- the extra register of output k
 unfoldable pub extended : List ℕ → ℕ → List ℕ

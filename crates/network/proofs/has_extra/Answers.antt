@@ -6,5 +6,5 @@ use Rattle.network.proofs.has_extra.Goals as goal
 pub returns-then-is_long : goal.returns-then-is_long
 returns-then-is_long c = c.is_vertical.ensures ∙ sym (extra_long _ _ (sym c.is_long.ensures ∙ c.if-is_long.true))
 
-pub returns : goal.returns
-returns c = sym (extra_short _ _ (sym c.is_long.ensures ∙ c.if-is_long.false))
+pub returns-else-is_long : goal.returns-else-is_long
+returns-else-is_long c = c.if-is_long.false ∙ sym (extra_short _ _ (sym c.is_long.ensures ∙ c.if-is_long.false))

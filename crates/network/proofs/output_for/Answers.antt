@@ -1,14 +1,9 @@
 -- `network::output_for` meets its contract: a route's first code is below 4, and the output is the torus's for it.
 use mathlib.Core.Path.{◌∙◌, ap}
-use native.Mathlib.Nat.{mod-lt}
-use native.Mathlib.Omega.{arith}
 use Rattle.packet.specs.Header.{first_code}
 use Rattle.torus.specs.Route.{output_of}
 use Rattle.network.specs.Cycle.{output_for}
 use Rattle.network.proofs.output_for.Goals as goal
-
-pub output_of-requires : goal.output_of-requires
-output_of-requires c = mod-lt _ (omega arith)
 
 pub returns : goal.returns
 unfolding output_for

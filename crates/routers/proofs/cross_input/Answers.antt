@@ -2,7 +2,8 @@
 -- Where it asks for none, only a payload word that has no choice is a fault.
 use mathlib.Core.Path.{refl}
 use native.Mathlib.Omega.{arith}
-use Rattle.routers.proofs.InputLaws.{no_payload, chosen, unchosen, asks_empty, asks_none, asks_past, crossed_none, crossed_unchosen, crossed_hit, crossed_first}
+use Rattle.words.specs.Tests.{◌≤?◌}
+use Rattle.routers.proofs.InputLaws.{no_payload, chosen, asks_empty, asks_past, crossed_none, crossed_choiceless, crossed_hit, crossed_first}
 use Rattle.routers.proofs.cross_input.Goals as goal
 
 pub returns-then-mark-eq0 : goal.returns-then-mark-eq0
@@ -10,16 +11,10 @@ returns-then-mark-eq0 c =
     crossed_none _ _ _ _ c.requires.1 c.requires.2 (no_payload _ _ _ c.reg-mark.ensures (omega arith))
     (asks_empty _ _ _ c.reg-mark.ensures (omega arith))
 
-pub returns-then-mark-lt-PAYLOAD_MARK : goal.returns-then-mark-lt-PAYLOAD_MARK
-returns-then-mark-lt-PAYLOAD_MARK c =
-    crossed_none _ _ _ _ c.requires.1 c.requires.2 (no_payload _ _ _ c.reg-mark.ensures (omega arith))
-    (asks_none _ _ _ c.reg-choice.ensures (omega arith))
-
 pub returns-then-choice-eq0 : goal.returns-then-choice-eq0
+unfolding ◌≤?◌
 returns-then-choice-eq0 c =
-    crossed_unchosen _ _ _ _ c.requires.1 c.requires.2
-    (unchosen _ _ _ c.reg-choice.ensures (omega arith) _ c.reg-mark.ensures (omega arith))
-    (asks_none _ _ _ c.reg-choice.ensures (omega arith))
+    crossed_choiceless _ _ _ _ c.requires.1 c.requires.2 _ c.reg-mark.ensures _ c.reg-choice.ensures c.if-choice-eq0.true _ c.from.ensures
 
 pub returns-then-choice-gt-OUTPUTS : goal.returns-then-choice-gt-OUTPUTS
 returns-then-choice-gt-OUTPUTS c =

@@ -1,11 +1,7 @@
 -- `routers::has_unheld` meets its contract: in the loop `faults` is not 0 where a place before `k` has such a word; the places are the inputs
 -- of all nodes. A state that is too short for its rows has no nodes.
-use Prim.Native.Nat.{◌≤◌, ◌-◌}
 use Rattle.routers.proofs.UnheldLaws.{Counting}
 use Rattle.routers.proofs.has_unheld.Given as goal
 
 abbrev pub invariant-loop-k : goal.invariant-loop-k
-invariant-loop-k l = (l.k ≤ l.count) × Counting l.s l.k l.faults
-
-abbrev pub decreases-loop-k : goal.decreases-loop-k
-decreases-loop-k l = l.count - l.k
+invariant-loop-k l = Counting l.s l.k l.faults

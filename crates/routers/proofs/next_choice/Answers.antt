@@ -4,14 +4,14 @@ use Rattle.network.proofs.StageLaws.{output_for_small}
 use Rattle.routers.proofs.HeadLaws.{choice_none, choice_own, choice_held}
 use Rattle.routers.proofs.next_choice.Goals as goal
 
-pub returns-then-mark-eq0 : goal.returns-then-mark-eq0
-returns-then-mark-eq0 c = choice_none _ _ _ _ _ c.reg-mark.ensures c.if-mark-eq0.true
+pub returns-in-0 : goal.returns-in-0
+returns-in-0 c = choice_none _ _ _ _ _ c.reg.ensures (omega arith)
 
 pub overflow_add-result : goal.overflow_add-result
 overflow_add-result c = omega (arith, output_for_small _ _ _ c.output_for.ensures)
 
-pub returns-then-mark-eq1 : goal.returns-then-mark-eq1
-returns-then-mark-eq1 c = choice_own _ _ _ _ _ c.reg-mark.ensures _ _ c.reg.ensures c.output_for.ensures c.if-mark-eq1.true
+pub returns-in-1 : goal.returns-in-1
+returns-in-1 c = choice_own _ _ _ _ _ c.reg.ensures _ _ c.reg-in-1.ensures c.output_for.ensures (omega arith)
 
-pub returns : goal.returns
-returns c = choice_held _ _ _ _ _ c.reg-mark.ensures _ c.reg-2.ensures c.if-mark-eq0.false c.if-mark-eq1.false
+pub returns-in_default : goal.returns-in_default
+returns-in_default c = choice_held _ _ _ _ _ c.reg.ensures _ c.reg-in_default.ensures (λ e. omega (arith, e)) (λ e. omega (arith, e))

@@ -1,13 +1,11 @@
--- `routers::unheld` meets its contract: the latch is tested first, and then the mark.
-use native.Mathlib.Omega.{arith}
-use Rattle.routers.proofs.UnheldLaws.{unheld_early, unheld_none, unheld_some}
+-- `routers::unheld` meets its contract: a test is 1 where it holds, else 0.
+use mathlib.Core.Path.{◌∙◌, ap}
+use Rattle.words.specs.Tests.{◌≤?◌, ◌=?◌}
+use Rattle.words.specs.Words.{pick}
+use Rattle.network.proofs.ChoiceLaws.{byte_picked}
+use Rattle.routers.proofs.PlaceLaws.{both_and}
 use Rattle.routers.proofs.unheld.Goals as goal
 
-pub returns-then-latch-ne0 : goal.returns-then-latch-ne0
-returns-then-latch-ne0 c = unheld_some _ _ c.if-latch-ne0.true
-
-pub returns-then-mark-ge2 : goal.returns-then-mark-ge2
-returns-then-mark-ge2 c = unheld_none _ _ (omega arith) (omega arith)
-
 pub returns : goal.returns
-returns c = unheld_early _ _ (omega arith)
+unfolding ◌≤?◌ ◌=?◌
+returns c = c.from.ensures ∙ byte_picked _ ∙ ap (λ t. pick t 1 0) (both_and _ _)

@@ -1,6 +1,6 @@
 -- What one input does to the two tables of the outputs' marks and words. Nobody has to believe this: the crossbar's own contract says
 -- what the tables hold in the end.
-use Rattle.std.specs.Prelude.{ℕ, ◌+◌, ◌*◌, ◌/◌, ◌%◌, ◌<◌, Bool, ◌≡◌, List, length}
+use Rattle.std.specs.Prelude.{ℕ, zero, suc, ◌+◌, ◌*◌, ◌/◌, ◌%◌, ◌<◌, Bool, ◌≡◌, List, length}
 use Rattle.words.specs.Tests.{any, ◌and◌, ◌or◌, ◌≤?◌, ◌=?◌}
 use Rattle.words.specs.Words.{word, pick}
 use Rattle.network.specs.Registers.{reg, head_mark, head_word, choice_row, row_words}
@@ -25,31 +25,20 @@ pub record Crossed (s : List ℕ) (k : ℕ) (marks cells marks' cells' : List �
       → (1 ≤? fault) ≡ any (n * 5) (λ p. 1 ≤? word marks p and 1 ≤? asking s k p) or unchosen_at s k
 
 -- nothing is in the header stages of the five inputs from input k on
-pub record HeadsEmpty (s : List ℕ) (k : ℕ) : Type 0 where
-  pub first : reg s head_mark k ≡ 0
-  pub second : reg s head_mark (k + 1) ≡ 0
-  pub third : reg s head_mark (k + 2) ≡ 0
-  pub fourth : reg s head_mark (k + 3) ≡ 0
-  pub fifth : reg s head_mark (k + 4) ≡ 0
+abbrev pub HeadsEmpty : List ℕ → ℕ → Type 0
+HeadsEmpty s k = (input : ℕ) → input < 5 → reg s head_mark (k + input) ≡ 0
 
--- the tables before and after the five inputs from input k on, with those between; faults is how many of the inputs have a fault
-pub record CrossedNode (s : List ℕ) (k : ℕ) (marks cells marks' cells' : List ℕ) (faults : ℕ) : Type 0 where
-  pub marks₁ : List ℕ
-  pub marks₂ : List ℕ
-  pub marks₃ : List ℕ
-  pub marks₄ : List ℕ
-  pub cells₁ : List ℕ
-  pub cells₂ : List ℕ
-  pub cells₃ : List ℕ
-  pub cells₄ : List ℕ
-  pub fault₁ : ℕ
-  pub fault₂ : ℕ
-  pub fault₃ : ℕ
-  pub fault₄ : ℕ
-  pub fault₅ : ℕ
-  pub first : Crossed s k marks cells marks₁ cells₁ fault₁
-  pub second : Crossed s (k + 1) marks₁ cells₁ marks₂ cells₂ fault₂
-  pub third : Crossed s (k + 2) marks₂ cells₂ marks₃ cells₃ fault₃
-  pub fourth : Crossed s (k + 3) marks₃ cells₃ marks₄ cells₄ fault₄
-  pub fifth : Crossed s (k + 4) marks₄ cells₄ marks' cells' fault₅
-  pub sum : faults ≡ fault₁ + fault₂ + fault₃ + fault₄ + fault₅
+-- input k behind others, with the tables and the faults that they left
+pub record CrossedMore (Before : List ℕ → List ℕ → ℕ → Type 0) (s : List ℕ) (k : ℕ) (marks' cells' : List ℕ) (faults' : ℕ) : Type 0 where
+  pub marks : List ℕ
+  pub cells : List ℕ
+  pub faults : ℕ
+  pub fault : ℕ
+  pub before : Before marks cells faults
+  pub last : Crossed s k marks cells marks' cells' fault
+  pub sum : faults' ≡ faults + fault
+
+-- the tables before so many inputs from input k on, one after the other, and behind them; faults is how many of the inputs have a fault
+unfoldable pub CrossedInputs : List ℕ → ℕ → List ℕ → List ℕ → ℕ → List ℕ → List ℕ → ℕ → Type 0
+CrossedInputs s k marks cells zero marks' cells' faults = (marks' ≡ marks) × (cells' ≡ cells) × (faults ≡ 0)
+CrossedInputs s k marks cells (suc n) marks' cells' faults = CrossedMore (CrossedInputs s k marks cells n) s (k + n) marks' cells' faults

@@ -1,10 +1,6 @@
 -- `routes::circuit_spans` meets its contract: each turn reads the next circuit's span, and the others stay 0.
-use Prim.Native.Nat.{◌-◌, ◌≤◌}
 use Rattle.routes.proofs.RouteRules.{Reading}
 use Rattle.routes.proofs.circuit_spans.Given as goal
 
 abbrev pub invariant-loop-k : goal.invariant-loop-k
-invariant-loop-k l = (l.k ≤ l.count) × (Reading l.z l.k l.spans)
-
-abbrev pub decreases-loop-k : goal.decreases-loop-k
-decreases-loop-k l = l.count - l.k
+invariant-loop-k l = Reading l.z l.k l.spans

@@ -12,7 +12,7 @@ pub entries_of-entries-requires : goal.entries_of-entries-requires
 entries_of-entries-requires c = (c.requires.0.ranged.framed, c.requires.1)
 
 pub loop-i-init : goal.loop-i-init
-loop-i-init c = (omega arith, sym (all_none _))
+loop-i-init c = sym (all_none _)
 
 pub entry_ends-requires : goal.entry_ends-requires
 entry_ends-requires c = (
@@ -24,12 +24,12 @@ entry_ends-requires c = (
 )
 
 pub loop-i-preserved : goal.loop-i-preserved
-loop-i-preserved c = (omega arith, all_more _ _ c.loop-i.invariant.1 (cc))
+loop-i-preserved c = all_more _ _ c.loop-i.invariant (cc)
 
-pub returns-else-entry_ends : goal.returns-else-entry_ends
-returns-else-entry_ends c =
+pub returns-then-not-entry_ends : goal.returns-then-not-entry_ends
+returns-then-not-entry_ends c =
     all_fails _ _ c.loop-i.i (omega arith) (cc) ∙ each_ending _ _ _ _ c.entries_of-entries.ensures
     c.schedule_period-period.ensures
 
 pub returns : goal.returns
-returns c = all_done _ _ _ c.loop-i.invariant.1 (omega arith) (omega arith) ∙ each_ending _ _ _ _ c.entries_of-entries.ensures c.schedule_period-period.ensures
+returns c = all_done _ _ _ c.loop-i.invariant (omega arith) (omega arith) ∙ each_ending _ _ _ _ c.entries_of-entries.ensures c.schedule_period-period.ensures

@@ -9,7 +9,7 @@ pub entries_of-entries-requires : goal.entries_of-entries-requires
 entries_of-entries-requires c = (c.requires.0.framed, c.requires.1)
 
 pub loop-i-init : goal.loop-i-init
-loop-i-init c = (omega arith, sym (all_none _))
+loop-i-init c = sym (all_none _)
 
 pub entry_leads-requires : goal.entry_leads-requires
 entry_leads-requires c = (
@@ -18,10 +18,10 @@ entry_leads-requires c = (
 )
 
 pub loop-i-preserved : goal.loop-i-preserved
-loop-i-preserved c = (omega arith, all_more _ _ c.loop-i.invariant.1 (cc))
+loop-i-preserved c = all_more _ _ c.loop-i.invariant (cc)
 
-pub returns-else-entry_leads : goal.returns-else-entry_leads
-returns-else-entry_leads c = all_fails _ _ c.loop-i.i (omega arith) (cc) ∙ each_is _ _ _ _ c.entries_of-entries.ensures
+pub returns-then-not-entry_leads : goal.returns-then-not-entry_leads
+returns-then-not-entry_leads c = all_fails _ _ c.loop-i.i (omega arith) (cc) ∙ each_is _ _ _ _ c.entries_of-entries.ensures
 
 pub returns : goal.returns
-returns c = all_done _ _ _ c.loop-i.invariant.1 (omega arith) (omega arith) ∙ each_is _ _ _ _ c.entries_of-entries.ensures
+returns c = all_done _ _ _ c.loop-i.invariant (omega arith) (omega arith) ∙ each_is _ _ _ _ c.entries_of-entries.ensures

@@ -1,5 +1,4 @@
 -- `routes::entries_lead` meets its contract: Number 9 at one schedule: each entry is tested.
-use Prim.Native.Nat.{◌-◌, ◌≤◌}
 use mathlib.Core.Bool.{true}
 use mathlib.Core.Path.{◌≡◌}
 use Rattle.words.specs.Tests.{all}
@@ -8,7 +7,4 @@ use Rattle.sheet.specs.Rules.{entry_leads}
 use Rattle.routes.proofs.entries_lead.Given as goal
 
 abbrev pub invariant-loop-i : goal.invariant-loop-i
-invariant-loop-i l = (l.i ≤ l.count) × (all l.i (λ k. entry_leads l.z (entry_at l.entries k)) ≡ true)
-
-abbrev pub decreases-loop-i : goal.decreases-loop-i
-decreases-loop-i l = l.count - l.i
+invariant-loop-i l = all l.i (λ k. entry_leads l.z (entry_at l.entries k)) ≡ true

@@ -1,10 +1,6 @@
 -- `scan::join_rows` meets its contract: in the loop a place before `k` whose word in the list is 0 is empty.
-use Prim.Native.Nat.{◌-◌}
 use Rattle.scan.proofs.ScanLaws.{Joining}
 use Rattle.scan.proofs.join_rows.Given as goal
 
 abbrev pub invariant-loop-k : goal.invariant-loop-k
-invariant-loop-k l = Joining l.s l.end l.joined l.k
-
-abbrev pub decreases-loop-k : goal.decreases-loop-k
-decreases-loop-k l = l.end - l.k
+invariant-loop-k l = Joining l.s l.k-end l.joined l.k

@@ -1,37 +1,26 @@
--- `soundness::is_sound` meets its contract: the sheet's length and verdict, then clause by clause.
-use mathlib.Core.Path.{refl, sym, ◌∙◌}
+-- `soundness::is_sound` meets its contract: the sheet with its length, then clause by clause.
+use Rattle.std.proofs.Common.{arith, sym, ◌∙◌}
+use Rattle.refusal.proofs.AnswerLaws.{passed, failed}
 use Rattle.sheet.proofs.VerdictLaws.{routed}
-use Rattle.soundness.proofs.SoundnessLaws.{long_sheet_is, sound_long, sound_refused, sound_unclocked, sound_unordered, sound_rest}
+use Rattle.soundness.proofs.ChainLaws.{chains}
+use Rattle.soundness.proofs.SoundnessLaws.{sound_long, sound_refused, sound_is}
 use Rattle.soundness.proofs.is_sound.Goals as goal
+use Rattle.soundness.proofs.is_sound.Goals.{then-get-gt-SHEET_WORDS-via-then-get-gt-SHEET_WORDS, then-get-gt-SHEET_WORDS-via-else-get-gt-SHEET_WORDS+then-is_err}
 
 pub returns-then-get-gt-SHEET_WORDS : goal.returns-then-get-gt-SHEET_WORDS
-returns-then-get-gt-SHEET_WORDS c = sound_long _ _ refl _ (long_sheet_is _ _ c.get.ensures) c.if-get-gt-SHEET_WORDS.true
+returns-then-get-gt-SHEET_WORDS c =
+    elim c.then-get-gt-SHEET_WORDS.branch [
+      | then-get-gt-SHEET_WORDS-via-then-get-gt-SHEET_WORDS w ↦ sound_long _ _ c.sheet_of-z.ensures _ c.get.ensures w.if-get-gt-SHEET_WORDS.true
+      | then-get-gt-SHEET_WORDS-via-else-get-gt-SHEET_WORDS+then-is_err w ↦ sound_refused _ _ c.sheet_of-z.ensures _ c.get.ensures w.if-get-gt-SHEET_WORDS.false (λ e. failed _ (sym w.is_err.ensures.value ∙ w.if-is_err.true) (w.check_rules.ensures ∙ e))
+    ]
 
-pub returns-then-rules_number-ne0 : goal.returns-then-rules_number-ne0
-returns-then-rules_number-ne0 c =
-    sound_refused _ _ c.sheet_of-z.ensures _ (long_sheet_is _ _ c.get.ensures) c.if-get-gt-SHEET_WORDS.false _
-    c.rules_number.ensures c.if-rules_number-ne0.true
+pub invariant_of-state : goal.invariant_of-state
+invariant_of-state c = record { own = c.sheet_of-z.ensures; framed = (routed _ (sym c.check_rules.ensures ∙ passed _ (sym c.is_err.ensures.value ∙ c.if-is_err.false))).ranged.framed }
 
-pub clock_sound-requires : goal.clock_sound-requires
-clock_sound-requires c = (c.sheet_of-z.ensures, (routed _ (sym c.rules_number.ensures ∙ c.if-rules_number-ne0.false)).ranged.framed)
+pub returns-then-extras_sound : goal.returns-then-extras_sound
+returns-then-extras_sound c =
+    let e = sound_is _ _ c.sheet_of-z.ensures _ c.get.ensures c.if-get-gt-SHEET_WORDS.false (sym c.check_rules.ensures ∙ passed _ (sym c.is_err.ensures.value ∙ c.if-is_err.false)) in grind (arith, chains)
 
-pub parts_sound-requires : goal.parts_sound-requires
-parts_sound-requires c =
-    (c.sheet_of-z.ensures, (routed _ (sym c.rules_number.ensures ∙ c.if-rules_number-ne0.false)).ranged.framed)
-
-pub returns-then-order_sound : goal.returns-then-order_sound
-returns-then-order_sound c =
-    sound_rest _ _ c.sheet_of-z.ensures _ (long_sheet_is _ _ c.get.ensures) c.if-get-gt-SHEET_WORDS.false _
-    c.rules_number.ensures c.if-rules_number-ne0.false c.clock_sound.ensures c.if-clock_sound.true
-    c.order_sound.ensures c.if-order_sound.true c.parts_sound.ensures
-
-pub returns-then-clock_sound : goal.returns-then-clock_sound
-returns-then-clock_sound c =
-    sound_unordered _ _ c.sheet_of-z.ensures _ (long_sheet_is _ _ c.get.ensures) c.if-get-gt-SHEET_WORDS.false _
-    c.rules_number.ensures c.if-rules_number-ne0.false c.clock_sound.ensures c.if-clock_sound.true
-    c.order_sound.ensures c.if-order_sound.false
-
-pub returns : goal.returns
-returns c =
-    sound_unclocked _ _ c.sheet_of-z.ensures _ (long_sheet_is _ _ c.get.ensures) c.if-get-gt-SHEET_WORDS.false _
-    c.rules_number.ensures c.if-rules_number-ne0.false c.clock_sound.ensures c.if-clock_sound.false
+pub returns-else-extras_sound : goal.returns-else-extras_sound
+returns-else-extras_sound c =
+    let e = sound_is _ _ c.sheet_of-z.ensures _ c.get.ensures c.if-get-gt-SHEET_WORDS.false (sym c.check_rules.ensures ∙ passed _ (sym c.is_err.ensures.value ∙ c.if-is_err.false)) in grind (arith, chains)

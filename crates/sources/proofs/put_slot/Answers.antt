@@ -4,7 +4,7 @@ use Rattle.sources.proofs.BeginLaws.{put_begins, put_not}
 use Rattle.sources.proofs.put_slot.Goals as goal
 
 pub returns-then-entry-cycle : goal.returns-then-entry-cycle
-returns-then-entry-cycle c = put_not _ _ _ _ c.if-entry-cycle.true
+returns-then-entry-cycle c = c.put.ensures ∙ put_begins _ _ _ _ c.if-entry-cycle.true
 
-pub returns : goal.returns
-returns c = c.put.ensures ∙ put_begins _ _ _ _ c.if-entry-cycle.false
+pub returns-else-entry-cycle : goal.returns-else-entry-cycle
+returns-else-entry-cycle c = put_not _ _ _ _ c.if-entry-cycle.false

@@ -1,23 +1,6 @@
 -- `sources::send_word` meets its contract: the four registers are read before the first of them is set.
-use native.Mathlib.Omega.{arith}
 use Rattle.sources.proofs.SenderLaws.{send_is}
 use Rattle.sources.proofs.send_word.Goals as goal
-
-pub overflow_sub-left : goal.overflow_sub-left
-overflow_sub-left c =
-    omega (arith, c.requires.0.some_left c.requires.1)
-
-pub overflow_add-read : goal.overflow_add-read
-overflow_add-read c =
-    omega (arith, c.requires.0.read_rises c.requires.1)
-
-pub overflow_add-write : goal.overflow_add-write
-overflow_add-write c =
-    omega (arith, c.requires.0.write_rises c.requires.1)
-
-pub overflow_sub-to_go : goal.overflow_sub-to_go
-overflow_sub-to_go c =
-    omega (arith, c.requires.1)
 
 pub returns : goal.returns
 returns c =

@@ -1,10 +1,12 @@
 -- `sources::source_wires` meets its contract: the mask has every circuit, so that nothing is asked beside it.
 use Rattle.std.proofs.Common.{arith}
+use mathlib.Core.Path.{◌∙◌}
 use Rattle.network.proofs.LiveLaws.{all_circuits}
+use Rattle.sources.proofs.WireLaws.{refused_is}
 use Rattle.sources.proofs.source_wires.Goals as goal
 
-pub source_wires_among-wired-requires : goal.source_wires_among-wired-requires
-source_wires_among-wired-requires c =
+pub source_wires_among-requires : goal.source_wires_among-requires
+source_wires_among-requires c =
     let few = c.requires.1.framed.headed.circuits_high in (
       c.requires.0,
       record {
@@ -15,3 +17,6 @@ source_wires_among-wired-requires c =
       c.requires.3,
       c.requires.4,
     )
+
+pub returns-clause-fault : goal.returns-clause-fault
+returns-clause-fault c = c.is_err.ensures.value ∙ refused_is _ _ c.source_wires_among.ensures.fault

@@ -1,8 +1,9 @@
 -- The edges of a timetable, by which the code walks through a week: between two of them the schedule stays (proofs/EdgeLaws,
 -- `same_between`).
-use Rattle.std.specs.Prelude.{ℕ, ◌+◌, ◌-◌, ◌≤◌, ◌<◌, Bool, List}
-use Rattle.words.specs.Tests.{◌=?◌, ◌≠?◌, ◌or◌, any}
-use Rattle.words.specs.Words.{least_from}
+use Rattle.std.specs.Prelude.{ℕ, ◌+◌, ◌-◌, ◌≤◌, ◌<◌, Bool, List, Some, None}
+use Rattle.std.specs.declared.option.Option.{Option}
+use Rattle.words.specs.Tests.{◌<?◌, ◌=?◌, ◌≠?◌, ◌or◌, any}
+use Rattle.words.specs.Words.{pick, least_from}
 use Rattle.timetable.specs.Timetable.{week, windows, start_at, end_at, schedule_in}
 
 -- some window starts or ends at a minute
@@ -24,3 +25,7 @@ FirstBehind t minute k = EndedBefore t minute k × (k < windows t → minute < e
 -- the least minute from one on, before another, whose schedule is not the one given; that other where there is none
 unfoldable pub first_change : List ℕ → ℕ → ℕ → ℕ → ℕ
 first_change t from to schedule = least_from (to - from) from (λ minute. schedule_in t minute ≠? schedule)
+
+-- that minute, where there is one
+unfoldable pub change_in : List ℕ → ℕ → ℕ → ℕ → Option ℕ
+change_in t from to schedule = pick (first_change t from to schedule <? to) (Some (first_change t from to schedule)) None

@@ -1,11 +1,13 @@
--- `torus::link_cycles` meets its contract: one cycle by a vertical side, none by another.
-use mathlib.Core.Bool.{true}
-use mathlib.Core.Path.{refl, sym, ◌∙◌}
-use Rattle.torus.proofs.RouteLaws.{link_vertical, link_level}
+-- `torus::link_cycles` meets its contract: one cycle by a vertical side of a long grid, none by another.
+use Rattle.std.proofs.Common.{◌∙◌}
+use Rattle.words.proofs.TestLaws.{and_on, and_no}
+use Rattle.torus.proofs.RouteLaws.{link_told}
 use Rattle.torus.proofs.link_cycles.Goals as goal
-
-pub returns-then-is_vertical : goal.returns-then-is_vertical
-returns-then-is_vertical c = link_vertical true _ refl (sym c.is_vertical.ensures ∙ c.if-is_vertical.true)
+use Rattle.torus.proofs.link_cycles.Goals.{then-long, else-long}
 
 pub returns : goal.returns
-returns c = link_level true _ refl (sym c.is_vertical.ensures ∙ c.if-is_vertical.false)
+returns c =
+    elim c.if-long.branch [
+      | then-long w ↦ c.from.ensures ∙ link_told _ _ _ (and_on w.if-long.true (w.from-is ∙ w.is_vertical.ensures))
+      | else-long w ↦ c.from.ensures ∙ link_told _ _ _ (w.from-is ∙ w.if-long.false ∙ and_no _ w.if-long.false)
+    ]

@@ -1,5 +1,6 @@
 -- A route as code answers it: the wires by numbers, in two lists with their delays.
-use Rattle.std.specs.Prelude.{ℕ, ◌+◌, ◌*◌, true, false, map, replicate}
+use Rattle.std.specs.Prelude.{ℕ, ◌+◌, ◌*◌, Option, map, replicate}
+use Rattle.std.specs.declared.option.Option.TheVariants.{Some, None}
 use Rattle.words.specs.Inner.Puts.{put_all}
 use Rattle.torus.specs.Route.{Wire, source, side, memory, Use, Route, leads, nowhere}
 use Rattle.torus.specs.declared.Path.{Path}
@@ -18,13 +19,12 @@ abbrev pub most_uses : ℕ
 most_uses = 9
 
 -- the answer, from where a route leads: a route of h hops uses the first h + 2 places of its two lists, and the others are 0
-abbrev pub path_of : Route → Path
-path_of (leads uses node hops vertical) = record {
-  leads = true;
+abbrev pub path_of : Route → Option Path
+path_of (leads uses node hops vertical) = Some (record {
   node = node;
   hops = hops;
   vertical = vertical;
   wires = put_all (replicate most_uses 0) 0 (map (λ (u : Use). wire_number u.wire) uses);
   delays = put_all (replicate most_uses 0) 0 (map (λ (u : Use). u.delay) uses);
-}
-path_of nowhere = record { leads = false; node = 0; hops = 0; vertical = 0; wires = replicate most_uses 0; delays = replicate most_uses 0 }
+})
+path_of nowhere = None

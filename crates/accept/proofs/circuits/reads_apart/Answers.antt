@@ -6,53 +6,53 @@ use mathlib.Core.Bool.{false≢true}
 use borrow.Author.Rules.{rules}
 use Rattle.accept.proofs.ArrangedLaws.{reads_start, reads_more, reads_done, order_four, source_few}
 use Rattle.accept.proofs.circuits.reads_apart.Goals as goal
-use Rattle.accept.proofs.circuits.reads_apart.Goals.{After-circuit_within-circuit}
+use Rattle.accept.proofs.circuits.reads_apart.Goals.{After-circuit_within-node}
 
 pub loop-k-init : goal.loop-k-init
 loop-k-init c = reads_start _
 
-pub circuit_within-circuit-requires : goal.circuit_within-circuit-requires
-circuit_within-circuit-requires c =
-    (c.requires.0, omega (arith, c.circuits_of-count.ensures))
+pub circuit_within-node-requires : goal.circuit_within-node-requires
+circuit_within-node-requires c =
+    (c.requires.0, omega (arith, c.circuits_of-k-end.ensures))
 
 pub overflow_cast-node : goal.overflow_cast-node
 overflow_cast-node c = search rules
 
 -- the source's number is small
 
-few : (c : After-circuit_within-circuit) → c.circuit_within-circuit.result.read.node < 16
+few : (c : After-circuit_within-node) → c.circuit_within-node.result.read.node < 16
 few c =
-    source_few _ c.requires.0 c.requires.1 c.loop-k.k (omega (arith, c.circuits_of-count.ensures)) _
-    c.circuit_within-circuit.ensures
+    source_few _ c.requires.0 c.requires.1 c.loop-k.k (omega (arith, c.circuits_of-k-end.ensures)) _
+    c.circuit_within-node.ensures
 
 pub offset_bounds-from-node : goal.offset_bounds-from-node
-offset_bounds-from-node c = omega (arith, few (goal.at.offset_bounds-from-node c).After-circuit_within-circuit)
+offset_bounds-from-node c = omega (arith, few (goal.at.offset_bounds-from-node c).After-circuit_within-node)
 
 pub bounds-from-node : goal.bounds-from-node
 bounds-from-node c =
-    omega (arith, few (goal.at.bounds-from-node c).After-circuit_within-circuit, c.requires.2.from_long)
+    omega (arith, few (goal.at.bounds-from-node c).After-circuit_within-node, c.requires.2.from_long)
 
 pub offset_bounds-to-node : goal.offset_bounds-to-node
-offset_bounds-to-node c = omega (arith, few (goal.at.offset_bounds-to-node c).After-circuit_within-circuit)
+offset_bounds-to-node c = omega (arith, few (goal.at.offset_bounds-to-node c).After-circuit_within-node)
 
 pub bounds-to-node : goal.bounds-to-node
 bounds-to-node c =
-    omega (arith, few (goal.at.bounds-to-node c).After-circuit_within-circuit, c.requires.2.to_long)
+    omega (arith, few (goal.at.bounds-to-node c).After-circuit_within-node, c.requires.2.to_long)
 
 pub read_apart-requires : goal.read_apart-requires
 read_apart-requires c =
-    (c.requires.0, order_four _ c.requires.1, omega (arith, c.circuits_of-count.ensures), c.requires.2.below _)
+    (c.requires.0, order_four _ c.requires.1, omega (arith, c.circuits_of-k-end.ensures), c.requires.2.below _)
 
 pub loop-k-preserved : goal.loop-k-preserved
 loop-k-preserved c =
-    reads_more _ _ _ c.loop-k.k c.loop-k.invariant c.requires.2 _ c.circuit_within-circuit.ensures
-    (c.read_apart.ensures c.if-read_apart.true)
+    reads_more _ _ _ c.loop-k.k c.loop-k.invariant c.requires.2 _ c.circuit_within-node.ensures
+    (c.read_apart.ensures c.if-not-read_apart.false)
 
-pub returns-else-read_apart : goal.returns-else-read_apart
-returns-else-read_apart c = λ e. absurd (false≢true e)
+pub returns-then-not-read_apart : goal.returns-then-not-read_apart
+returns-then-not-read_apart c = λ e. absurd (false≢true e)
 
 pub returns : goal.returns
 returns c =
     λ e.
     reads_done _ c.loop-k.k c.requires.0 c.requires.1 c.loop-k.invariant
-    (omega (arith, c.circuits_of-count.ensures))
+    (omega (arith, c.circuits_of-k-end.ensures))

@@ -1,5 +1,4 @@
 -- `accept::schedules::schedules_kept` meets its contract: the first schedule is kept, and each turn keeps one more in a table that was cleared.
-use Prim.Native.Nat.{◌-◌, ◌≤◌}
 use mathlib.Core.Path.{◌≡◌}
 use lib.ListN.{length}
 use Rattle.sheet.specs.Sheet.{schedules}
@@ -7,7 +6,4 @@ use Rattle.accept.specs.Inner.Placing.{KeptAll}
 use Rattle.accept.proofs.schedules.schedules_kept.Given as goal
 
 abbrev pub invariant-loop-j : goal.invariant-loop-j
-invariant-loop-j l = (l.count ≡ schedules l.z) × (l.j ≤ l.count) × (length l.table ≡ length l.initial.table) × (KeptAll l.z l.j)
-
-abbrev pub decreases-loop-j : goal.decreases-loop-j
-decreases-loop-j l = l.count - l.j
+invariant-loop-j l = (l.j-end ≡ schedules l.z) × (length l.table ≡ length l.initial.table) × (KeptAll l.z l.j)

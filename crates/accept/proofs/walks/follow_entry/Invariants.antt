@@ -9,9 +9,9 @@ use Rattle.accept.specs.Inner.Placing.{Placeable}
 use Rattle.accept.proofs.WalkLaws.{Walking}
 use Rattle.accept.proofs.walks.follow_entry.Given as goal
 
-abbrev pub invariant-loop-cycles : goal.invariant-loop-cycles
-invariant-loop-cycles l = (e : Entry) (p : Placeable (length l.initial.table) l.near l.z l.ends l.stride e) → l.q ≡ e.offset / 32 → l.slot ≡ slot_mask (e.offset % 32) e.size → l.initial.rest ≡ e.route
+abbrev pub invariant-loop-long : goal.invariant-loop-long
+invariant-loop-long l = (e : Entry) (p : Placeable (length l.initial.table) l.near l.z l.ends l.stride e) → l.q ≡ e.offset / 32 → l.slot ≡ slot_mask (e.offset % 32) e.size → l.initial.rest ≡ e.route
     → Walking (length l.initial.table) l.near l.z l.ends l.stride e p l.initial.table l.table l.node l.back l.left l.rest l.mask
 
-abbrev pub decreases-loop-cycles : goal.decreases-loop-cycles
-decreases-loop-cycles l = l.left
+abbrev pub decreases-loop-long : goal.decreases-loop-long
+decreases-loop-long l = l.left

@@ -31,5 +31,5 @@ returns-then-take_wire c = record {
       (c.follow_entry.ensures.placed y);
 }
 
-pub returns : goal.returns
-returns c = record { long = c.take_wire.ensures.same_length; placed = λ y. absurd (false≢true y) }
+pub returns-else-take_wire : goal.returns-else-take_wire
+returns-else-take_wire c = record { long = c.take_wire.ensures.same_length; placed = λ y. absurd (false≢true (sym c.if-take_wire.false ∙ y)) }

@@ -4,8 +4,8 @@ use Rattle.torus.proofs.NeighbourLaws.{bounds}
 use Rattle.accept.proofs.WorkingLaws.{putting_start, putting_more, putting_done, still_inside}
 use Rattle.accept.proofs.working.find_neighbours.Goals as goal
 
-pub overflow_mul-count : goal.overflow_mul-count
-overflow_mul-count c = let small = bounds c.requires.0 in omega (arith, small.grid_high)
+pub overflow_mul-node-end : goal.overflow_mul-node-end
+overflow_mul-node-end c = let small = bounds c.requires.0 in omega (arith, small.grid_high)
 
 pub loop-node-init : goal.loop-node-init
 loop-node-init c = putting_start _ _ _ c.requires.1
@@ -13,10 +13,6 @@ loop-node-init c = putting_start _ _ _ c.requires.1
 pub put_neighbours-requires : goal.put_neighbours-requires
 put_neighbours-requires c =
     (still_inside _ _ _ c.requires.0 c.loop-node-test.true, c.loop-node.invariant.long)
-
-pub overflow_add-node : goal.overflow_add-node
-overflow_add-node c =
-    let small = bounds c.requires.0 in omega (arith, small.grid_high, c.loop-node-test.true)
 
 pub loop-node-preserved : goal.loop-node-preserved
 loop-node-preserved c =

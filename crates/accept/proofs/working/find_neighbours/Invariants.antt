@@ -1,10 +1,6 @@
 -- `accept::working::find_neighbours` meets its contract: in the loop the neighbours of the nodes before `node` are put.
-use Prim.Native.Nat.{◌-◌}
 use Rattle.accept.proofs.WorkingLaws.{Putting}
 use Rattle.accept.proofs.working.find_neighbours.Given as goal
 
 abbrev pub invariant-loop-node : goal.invariant-loop-node
 invariant-loop-node l = Putting l.cols l.rows l.node l.initial.near l.near
-
-abbrev pub decreases-loop-node : goal.decreases-loop-node
-decreases-loop-node l = l.count - l.node

@@ -1,10 +1,6 @@
 -- `accept::working::longest_period` meets its contract: in the loop no period of the schedules before `j` exceeds `longest`.
-use Prim.Native.Nat.{◌-◌}
 use Rattle.accept.proofs.WorkingLaws.{Longest}
 use Rattle.accept.proofs.working.longest_period.Given as goal
 
 abbrev pub invariant-loop-j : goal.invariant-loop-j
 invariant-loop-j l = Longest l.z l.j l.longest
-
-abbrev pub decreases-loop-j : goal.decreases-loop-j
-decreases-loop-j l = l.count - l.j

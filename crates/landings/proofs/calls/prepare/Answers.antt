@@ -1,15 +1,10 @@
 -- `landings::calls::prepare` meets its contract: the memories are the input's, and a load and starts that are carried out leave sound words.
 use Rattle.landings.proofs.CallLaws.{memory_there, memory_is, prepared}
-use native.Mathlib.Omega.{arith}
 use Rattle.landings.proofs.calls.prepare.Goals as goal
 
 pub read_words-requires : goal.read_words-requires
 read_words-requires c =
     memory_there _ c.requires.own_sheet c.requires.runs c.requires.enough
-
-pub call_all-requires : goal.call_all-requires
-call_all-requires c =
-    (c.requires.runs, c.requires.own_sheet, omega (arith, c.requires.enough))
 
 pub returns : goal.returns
 returns c = let each = prepared _ _ _ c.requires.runs c.requires.zeros

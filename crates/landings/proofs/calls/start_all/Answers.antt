@@ -1,25 +1,24 @@
--- `landings::calls::start_all` meets its contract: each turn makes the next start; behind a refusal nothing is done.
+use Rattle.std.proofs.Common.{refl, sym, ◌∙◌, arith}
+use Rattle.refusal.proofs.AnswerLaws.{is_some, handed_on}
 use Rattle.landings.proofs.CallLaws.{start_none, start_more, start_refused, start_done_is}
-use native.Mathlib.Omega.{arith}
 use Rattle.landings.proofs.calls.start_all.Goals as goal
 
 pub loop-k-init : goal.loop-k-init
 loop-k-init c = start_none _ _ _ c.requires.4
 
-pub start_transfer-number-requires : goal.start_transfer-number-requires
-start_transfer-number-requires c = (c.loop-k.invariant.passes, omega arith)
-
-pub returns-then-number-ne0 : goal.returns-then-number-ne0
-returns-then-number-ne0 c = let each = start_refused _ _ _ _ _ _ c.loop-k.invariant c.loop-k-test.true (omega arith)
-    c.start_transfer-number.ensures.number c.start_transfer-number.ensures.state c.if-number-ne0.true in record { number = each.0; state = each.1 }
+pub returns-in_err-start_transfer : goal.returns-in_err-start_transfer
+returns-in_err-start_transfer c =
+    let kept = handed_on _ _ c.from_residual.ensures in
+    let start = c.in_err-start_transfer.ensures in
+    let each = start_refused _ _ _ _ _ _ c.loop-k.invariant c.loop-k-test.true (omega arith) (kept ∙ start.number) start.state (λ z. is_some _ (sym kept ∙ z)) in
+    record { number = each.0; state = each.1 }
 
 pub loop-k-preserved : goal.loop-k-preserved
 loop-k-preserved c =
-    start_more _ _ _ _ _ _ c.loop-k.invariant c.loop-k-test.true (omega arith)
-    c.start_transfer-number.ensures.number c.start_transfer-number.ensures.state c.if-number-ne0.false (omega arith)
-
-pub shape_of-s : goal.shape_of-s
-shape_of-s c = c.loop-k.invariant.long
+    let start = c.in_ok-start_transfer.ensures in
+    start_more _ _ _ _ _ _ c.loop-k.invariant c.loop-k-test.true (omega arith) start.number start.state refl
 
 pub returns : goal.returns
-returns c = let each = start_done_is _ _ _ _ _ c.loop-k.invariant (omega arith) in record { number = each.0; state = each.1 }
+returns c =
+    let each = start_done_is _ _ _ _ _ c.loop-k.invariant c.loop-k.auto.k-end (omega arith) in
+    record { number = each.0; state = each.1 }

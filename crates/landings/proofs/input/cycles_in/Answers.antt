@@ -9,9 +9,6 @@ overflow_add-at c = omega (arith, (transfers_there _ c.requires.0 _ c.requires.1
 pub word_in-requires : goal.word_in-requires
 word_in-requires c = (transfers_there _ c.requires.0 _ c.requires.1).0
 
-pub overflow_mul-word_in : goal.overflow_mul-word_in
-overflow_mul-word_in c = omega (arith, count_few _ c.requires.0 _ c.requires.1 c.word_in.ensures)
-
 pub overflow_add-at-2 : goal.overflow_add-at-2
 overflow_add-at-2 c =
     omega (

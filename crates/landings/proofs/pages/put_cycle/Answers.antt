@@ -1,25 +1,22 @@
--- `landings::pages::put_cycle` meets its contract: each turn puts the line of the next node of the mask behind those before; the nodes passed have none.
-use native.Mathlib.Omega.{arith}
-use Rattle.landings.proofs.PageLaws.{lines_begin, lines_turn, lines_done}
+use Rattle.occupancy.proofs.WalkLaws.{begun}
+use Rattle.landings.proofs.PageLaws.{walk_start, walk_room, walk_more, walk_done}
 use Rattle.landings.proofs.pages.put_cycle.Goals as goal
 
 pub loop-node-init : goal.loop-node-init
-loop-node-init c = lines_begin _ _ _ _ _ _ c.requires.2 _ c.next_taken-node.ensures
+loop-node-init c =
+    let first = c.places-node-items.ensures in
+    walk_start _ _ _ _ _ _ c.requires.2 _ (begun _ _ _ _ c.into_iter-node-iterator.ensures.into_iter_gives first.mask first.from first.end)
 
-pub next_taken-node-requires-in-loop-node : goal.next_taken-node-requires-in-loop-node
-next_taken-node-requires-in-loop-node c =
-    omega (arith, c.requires.0)
-
-pub loop-node-smaller : goal.loop-node-smaller
-loop-node-smaller c = omega (arith, c.next_taken-node-in-loop-node.ensures.onward)
+pub put_landing-place-requires : goal.put_landing-place-requires
+put_landing-place-requires c =
+    walk_room _ _ _ _ _ _ c.requires.2 _ _ _ c.loop-node.invariant c.next.new.self _ c.in-Some.ensures.steps c.requires.1
 
 pub loop-node-preserved : goal.loop-node-preserved
 loop-node-preserved c =
-    lines_turn _ _ _ _ _ _ c.requires.2 _ _ _ _ c.loop-node.invariant c.loop-node-test.true c.put_landing-place.ensures.place
-    c.put_landing-place.ensures.bytes c.next_taken-node-in-loop-node.ensures
-
-pub shape_of-buffer : goal.shape_of-buffer
-shape_of-buffer c = c.loop-node.invariant.long
+    let put = c.put_landing-place.ensures in
+    walk_more _ _ _ _ _ _ c.requires.2 _ _ _ c.loop-node.invariant c.next.new.self _ c.in-Some.ensures.steps put.place put.bytes
 
 pub returns : goal.returns
-returns c = let each = lines_done _ _ _ _ _ _ _ _ c.loop-node.invariant (omega arith) in record { place = each.0; bytes = each.1 }
+returns c =
+    let each = walk_done _ _ _ _ _ _ c.requires.2 _ _ _ c.loop-node.invariant c.next.new.self c.in-None.ensures.steps in
+    record { place = each.0; bytes = each.1 }

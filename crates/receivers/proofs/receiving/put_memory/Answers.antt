@@ -1,18 +1,10 @@
 -- `receivers::receiving::put_memory` meets its contract: a payload word is set at its place, and nothing else is.
 use Rattle.std.proofs.Common.{arith}
-use Rattle.receivers.proofs.UnitLaws.{memory_kept, memory_stored, place_small}
+use Rattle.receivers.proofs.UnitLaws.{memory_kept, memory_stored}
 use Rattle.receivers.proofs.receiving.put_memory.Goals as goal
 
 pub returns-then-memory_mark-lt2 : goal.returns-then-memory_mark-lt2
 returns-then-memory_mark-lt2 c = memory_kept _ _ _ c.memory_mark.ensures _ _ (omega arith)
-
-pub overflow_mul-node : goal.overflow_mul-node
-overflow_mul-node c =
-    omega (arith, place_small c.args.node c.args.room c.requires (omega arith))
-
-pub overflow_add-node : goal.overflow_add-node
-overflow_add-node c =
-    omega (arith, place_small c.args.node c.args.room c.requires (omega arith))
 
 pub returns : goal.returns
 returns c =

@@ -4,6 +4,5 @@ use Rattle.receivers.proofs.receiving.put_receive.Goals as goal
 
 pub returns : goal.returns
 returns c =
-    receive_is _ _ c.next_receive_mark-mark.ensures c.next_receive_kind-kind.ensures
-    c.next_receive_address-address.ensures c.put_reg.ensures c.put_reg-2.ensures
-    c.put_reg-3.ensures
+    let next = c.next_receiver-next.ensures in
+    receive_is _ _ next.mark next.kind next.address c.put_reg.ensures c.put_reg-2.ensures c.put_reg-3.ensures

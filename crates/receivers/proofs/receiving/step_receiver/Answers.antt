@@ -2,7 +2,7 @@
 -- the memory output the receive unit stays.
 use Rattle.std.proofs.Common.{arith}
 use Rattle.receivers.proofs.UnitLaws.{memory_kept}
-use Rattle.receivers.proofs.NodeLaws.{landing_kept, node_is, node_rests}
+use Rattle.receivers.proofs.NodeLaws.{landing_kept, node_rests}
 use Rattle.receivers.proofs.receiving.step_receiver.Goals as goal
 
 pub returns-then-memory_mark-eq0 : goal.returns-then-memory_mark-eq0
@@ -11,6 +11,3 @@ returns-then-memory_mark-eq0 c = record { state = node_rests _ _ _ _ c.requires 
 pub put_receive-requires : goal.put_receive-requires
 put_receive-requires c =
     landing_kept _ _ _ _ c.requires c.put_landing-2.ensures
-
-pub returns : goal.returns
-returns c = record { state = node_is _ _ c.put_landing-2.ensures c.put_receive.ensures; memory = c.put_memory.ensures }

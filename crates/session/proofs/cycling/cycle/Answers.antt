@@ -1,13 +1,13 @@
--- `session::cycling::cycle` meets its contract: a number of 12 to 14 is the answer, and nothing is written; else the words have passed.
-use Rattle.std.proofs.Common.{◌≡◌, arith}
+-- `session::cycling::cycle` meets its contract: a refusal by 12 to 14 leaves all words; else the words have passed.
+use Rattle.std.proofs.Common.{sym, ◌∙◌}
+use Rattle.refusal.proofs.AnswerLaws.{is_some, handed_on}
 use Rattle.session.proofs.CyclingLaws.{cycle_early}
-use Rattle.session.proofs.WritingLaws.{answer_refused, state_kept, memory_kept}
+use Rattle.session.proofs.WritingLaws.{state_kept, memory_kept}
 use Rattle.session.proofs.cycling.cycle.Goals as goal
 
-pub returns-then-number-ne0 : goal.returns-then-number-ne0
-returns-then-number-ne0 c =
-    let some : c.memory_number-number.result ≡ 0 → ⊥ = λ z. omega arith in
-    let e = cycle_early _ _ c.memory_number-number.ensures some in record { answer = answer_refused _ e some; state = state_kept _ _ e some; memory = memory_kept _ _ e some }
+pub returns-in_err-check_memory : goal.returns-in_err-check_memory
+returns-in_err-check_memory c =
+    let e = cycle_early _ _ c.in_err-check_memory.ensures (is_some _) in record { answer = handed_on _ _ c.from_residual.ensures ∙ e; state = state_kept _ _ e (is_some _); memory = memory_kept _ _ e (is_some _) }
 
 pub cycle_sound-requires : goal.cycle_sound-requires
-cycle_sound-requires c = omega (arith, c.memory_number-number.ensures)
+cycle_sound-requires c = sym c.in_ok-check_memory.ensures

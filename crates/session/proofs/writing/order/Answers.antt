@@ -1,13 +1,11 @@
--- `session::writing::order` meets its contract: the number decides between the order's registers set and nothing.
-use Rattle.session.proofs.WritingLaws.{answer_done, answer_refused, state_kept, state_written}
+-- `session::writing::order` meets its contract: a refusal leaves the state, and else the order's registers are set.
+use Rattle.std.proofs.Common.{refl}
+use Rattle.refusal.proofs.AnswerLaws.{is_some}
+use Rattle.session.proofs.WritingLaws.{state_kept, state_written}
 use Rattle.session.proofs.writing.order.Goals as goal
 
-pub returns-then-number-ne0 : goal.returns-then-number-ne0
-returns-then-number-ne0 c = record { answer = answer_refused _ c.order_number-number.ensures c.if-number-ne0.true; state = state_kept _ _ c.order_number-number.ensures c.if-number-ne0.true }
+pub returns-in_err-check_order-clause-state : goal.returns-in_err-check_order-clause-state
+returns-in_err-check_order-clause-state c = state_kept _ _ c.in_err-check_order.ensures (is_some _)
 
-pub returns : goal.returns
-returns c = record {
-  answer = answer_done _ c.order_number-number.ensures c.if-number-ne0.false;
-  state = state_written _ _ c.order_number-number.ensures
-      c.if-number-ne0.false c.put_order.ensures;
-}
+pub returns-clause-state : goal.returns-clause-state
+returns-clause-state c = state_written _ _ c.in_ok-check_order.ensures refl c.put_order.ensures

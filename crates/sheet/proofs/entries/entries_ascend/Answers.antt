@@ -1,24 +1,11 @@
--- `sheet::entries::entries_ascend` meets its contract. Number 8 at a schedule's entries: in the loop each one before `i` precedes the next.
-use mathlib.Core.Path.{sym, ◌∙◌, ap₂}
-use native.Mathlib.Omega.{arith}
-use Rattle.words.proofs.AllLaws.{all_none, all_more, all_done, all_fails}
+-- `sheet::entries::entries_ascend` meets its contract. Number 8 at the entries of a schedule: each is tested with the next.
+use Rattle.std.proofs.Common.{rules, refl, arith, ◌+◌}
+use Rattle.words.proofs.RangeLaws.{all_range}
+use Rattle.sheet.specs.Sheet.{entry_at}
 use Rattle.sheet.specs.Rules.{entry_precedes}
 use Rattle.sheet.proofs.entries.entries_ascend.Goals as goal
 
-pub loop-i-init : goal.loop-i-init
-loop-i-init c = (omega arith, sym (all_none _))
-
-pub loop-i-preserved : goal.loop-i-preserved
-loop-i-preserved c =
-    let l = c.loop-i in
-    let pair = ap₂ entry_precedes c.at.ensures c.at-in-loop-i.ensures in
-    (omega arith, all_more _ _ l.invariant.1 (sym (c.is_before.ensures ∙ pair) ∙ c.if-is_before.true))
-
-pub returns-else-is_before : goal.returns-else-is_before
-returns-else-is_before c =
-    let l = c.loop-i in
-    let pair = ap₂ entry_precedes c.at.ensures c.at-in-loop-i.ensures in
-    all_fails _ _ l.i (omega arith) (sym (c.is_before.ensures ∙ pair) ∙ c.if-is_before.false)
-
 pub returns : goal.returns
-returns c = all_done _ _ _ c.loop-i.invariant.1 (omega arith) (omega arith)
+returns c =
+    all_range (λ k. entry_precedes (entry_at c.args.entries.now k) (entry_at c.args.entries.now (k + 1))) refl (omega arith)
+    c.all.ensures.ran (λ x b q k. search rules)

@@ -1,4 +1,5 @@
 -- `sheet::entries::schedule_fits` meets its contract. Number 7 at one schedule: its period's range is tested first, then its entries.
+use mathlib.Core.Path.{◌∙◌}
 use Rattle.sheet.proofs.EntryLaws.{schedule_no, schedule_rest}
 use Rattle.sheet.proofs.entries.schedule_fits.Goals as goal
 
@@ -9,5 +10,5 @@ returns-then-is_between c =
     let entries = c.entries_of.ensures in
     schedule_rest _ _ _ period _ _ range c.if-is_between.true entries c.circuits_of.ensures c.entries_fit.ensures
 
-pub returns : goal.returns
-returns c = schedule_no _ _ _ c.schedule_period-period.ensures c.is_between.ensures c.if-is_between.false
+pub returns-else-is_between : goal.returns-else-is_between
+returns-else-is_between c = c.if-is_between.false ∙ schedule_no _ _ _ c.schedule_period-period.ensures c.is_between.ensures c.if-is_between.false

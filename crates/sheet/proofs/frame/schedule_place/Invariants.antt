@@ -1,12 +1,8 @@
--- `sheet::frame::schedule_place` meets its contract: in the loop `at` is the place of schedule `i`, which lies within the sheet by rule 3.
-use Prim.Native.Nat.{◌≤◌, ◌-◌}
+-- `sheet::frame::schedule_place` meets its contract: at each turn `at` is the place of the schedule that is counted, which lies within the sheet by rule 3.
 use mathlib.Core.Path.{◌≡◌}
 use Rattle.sheet.specs.Sheet.{schedule_place}
 use Rattle.sheet.specs.Inner.Passed.{Placed}
 use Rattle.sheet.proofs.frame.schedule_place.Given as goal
 
-abbrev pub invariant-loop-i : goal.invariant-loop-i
-invariant-loop-i l = (l.i ≤ l.j) × (l.at ≡ schedule_place l.z l.i) × Placed l.z l.at
-
-abbrev pub decreases-loop-i : goal.decreases-loop-i
-decreases-loop-i l = l.j - l.i
+abbrev pub invariant-loop : goal.invariant-loop
+invariant-loop l = (l.at ≡ schedule_place l.z l.counter) × Placed l.z l.at

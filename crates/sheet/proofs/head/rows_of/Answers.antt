@@ -5,5 +5,5 @@ use Rattle.sheet.proofs.head.rows_of.Goals as goal
 pub returns-then-word-ge-LONG_MARK : goal.returns-then-word-ge-LONG_MARK
 returns-then-word-ge-LONG_MARK c = rows_long _ _ c.get-word.ensures c.if-word-ge-LONG_MARK.true
 
-pub returns : goal.returns
-returns c = rows_short _ _ c.get-word.ensures c.if-word-ge-LONG_MARK.false
+pub returns-else-word-ge-LONG_MARK : goal.returns-else-word-ge-LONG_MARK
+returns-else-word-ge-LONG_MARK c = rows_short _ _ c.get-word.ensures c.if-word-ge-LONG_MARK.false

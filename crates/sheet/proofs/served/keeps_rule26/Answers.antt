@@ -7,7 +7,7 @@ use Rattle.sheet.proofs.ServedLaws.{unmarked, has_mark}
 use Rattle.sheet.proofs.served.keeps_rule26.Goals as goal
 
 pub loop-c-init : goal.loop-c-init
-loop-c-init c = (c.circuits_of-count.ensures, omega arith, sym (all_none _))
+loop-c-init c = (c.circuits_of-c-end.ensures, sym (all_none _))
 
 pub offset_bounds-marks-c : goal.offset_bounds-marks-c
 offset_bounds-marks-c c =
@@ -28,8 +28,8 @@ pub loop-c-preserved : goal.loop-c-preserved
 loop-c-preserved c =
     let few = c.requires.framed.headed.circuits_high in
     let served = has_mark _ _ c.served_marks-marks.ensures _ (omega (arith, c.loop-c.invariant.0, few)) c.if-marks-c-eq0.false in
-    (c.loop-c.invariant.0, omega arith, all_more _ _ c.loop-c.invariant.2 served)
+    (c.loop-c.invariant.0, all_more _ _ c.loop-c.invariant.1 served)
 
 pub returns : goal.returns
 unfolding rule26
-returns c = all_done _ _ _ c.loop-c.invariant.2 (omega (arith, c.loop-c.invariant.0)) (omega (arith, c.loop-c.invariant.0))
+returns c = all_done _ _ _ c.loop-c.invariant.1 (omega (arith, c.loop-c.invariant.0)) (omega (arith, c.loop-c.invariant.0))

@@ -8,19 +8,19 @@ use Rattle.sheet.proofs.served.mark_circuits.Goals as goal
 pub loop-i-init : goal.loop-i-init
 loop-i-init c = marking_start _ _ c.requires.places
 
-pub offset_bounds-marks-place : goal.offset_bounds-marks-place
-offset_bounds-marks-place c =
+pub offset_bounds-marks-at : goal.offset_bounds-marks-at
+offset_bounds-marks-at c =
     let inside = c.requires.inside c.loop-i.i (omega arith) in
-    omega (arith, inside, ap (λ (e : Entry). e.circuit) c.at-entry.ensures)
+    omega (arith, inside, ap (λ (e : Entry). e.circuit) c.at.ensures)
 
-pub bounds-marks-place : goal.bounds-marks-place
-bounds-marks-place c =
+pub bounds-marks-at : goal.bounds-marks-at
+bounds-marks-at c =
     let inside = c.requires.inside c.loop-i.i (omega arith) in
-    omega (arith, inside, ap (λ (e : Entry). e.circuit) c.at-entry.ensures, marking_length _ _ _ _ c.loop-i.invariant)
+    omega (arith, inside, ap (λ (e : Entry). e.circuit) c.at.ensures, marking_length _ _ _ _ c.loop-i.invariant)
 
 pub loop-i-preserved : goal.loop-i-preserved
 loop-i-preserved c =
-    marking_more _ _ _ _ c.loop-i.invariant (omega arith) _ c.at-entry.ensures
+    marking_more _ _ _ _ c.loop-i.invariant (omega arith) _ c.at.ensures
 
 pub shape_of-marks : goal.shape_of-marks
 shape_of-marks c = marking_length _ _ _ _ c.loop-i.invariant ∙ sym c.requires.places

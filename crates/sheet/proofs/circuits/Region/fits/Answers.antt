@@ -1,14 +1,14 @@
--- `sheet::circuits::Region::fits` meets its contract: the end in 64 bits is the definition's sum.
-use mathlib.Core.Path.{refl}
-use Rattle.words.specs.Tests.{◌≤?◌}
-use Rattle.words.proofs.TestLaws.{and_no, and_on, yes≤, no≤}
+-- `sheet::circuits::Region::fits` meets its contract: the two tests.
+use Rattle.std.proofs.Common.{arith}
+use Rattle.std.proofs.lemmas.Bool.Decides.{nat_tests}
+use Rattle.words.specs.Tests.{◌and◌, ◌≤?◌}
 use Rattle.sheet.specs.Rules.{region_fits}
 use Rattle.sheet.proofs.circuits.Region.fits.Goals as goal
 
-pub returns-then-self-lt1 : goal.returns-then-self-lt1
-unfolding region_fits
-returns-then-self-lt1 c = and_no _ (no≤ c.if-self-lt1.true)
+pub returns-then-self-ge1 : goal.returns-then-self-ge1
+unfolding region_fits ◌and◌ ◌≤?◌
+returns-then-self-ge1 c = grind (arith, nat_tests)
 
-pub returns : goal.returns
-unfolding region_fits ◌≤?◌
-returns c = and_on (yes≤ c.if-self-lt1.false) refl
+pub returns-else-self-ge1 : goal.returns-else-self-ge1
+unfolding region_fits ◌and◌ ◌≤?◌
+returns-else-self-ge1 c = grind (arith, nat_tests)

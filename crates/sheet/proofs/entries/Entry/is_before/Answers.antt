@@ -1,7 +1,10 @@
--- `sheet::entries::Entry::is_before` meets its contract. Number 8 at one entry and the next: the order is the definition's.
-use Rattle.sheet.specs.Rules.{entry_precedes}
+-- `sheet::entries::Entry::is_before` meets its contract: pairs are ordered as the rule has it.
+use Rattle.std.proofs.Common.{arith}
+use Rattle.std.proofs.lemmas.Bool.Decides.{nat_tests}
+use Rattle.words.specs.Tests.{◌and◌, ◌or◌, ◌<?◌, ◌=?◌}
+use Rattle.sheet.specs.Rules.{entry_precedes, precedes}
 use Rattle.sheet.proofs.entries.Entry.is_before.Goals as goal
 
 pub returns : goal.returns
-unfolding entry_precedes
-returns c = c.is_ordered.ensures
+unfolding entry_precedes precedes ◌and◌ ◌or◌ ◌<?◌ ◌=?◌
+returns c = grind (arith, nat_tests)
