@@ -7,14 +7,13 @@ use mathlib.Core.List.{List}
 use mathlib.Core.Path.{◌≡◌, refl, sym, ◌∙◌, ap, subst}
 use native.Mathlib.Omega.{arith}
 use native.Mathlib.Decide.{dec_lt}
-use native.Mathlib.Nat.{mul-le-mul, mul-pos, zero-div}
+use native.Mathlib.Nat.{mul-le-mul, zero-div}
 use lib.ListN.{length, set, replicate, length-set, length-replicate, get_or-eq_default}
 use Rattle.words.specs.Tests.{all, between, ◌and◌, ◌or◌, ◌<?◌, ◌=?◌}
 use Rattle.words.specs.Words.{word}
 use Rattle.words.proofs.TestLaws.{yes=, no=, yes≤, is≤, yes<, is<, and_both, and_left, and_right, or_yes, or_skip}
 use Rattle.words.proofs.WordLaws.{fill_more}
 use Rattle.words.proofs.AllLaws.{all_none, all_more, all_of, all_same}
-use Rattle.torus.specs.Inner.Grid.{InGrid}
 use Rattle.torus.specs.Inner.Paths.{wires_per_node}
 use Rattle.torus.specs.Inner.Delays.{last_delay}
 use Rattle.sheet.specs.declared.entries.Entry.{Entry}
@@ -379,12 +378,9 @@ period_in z j P p e y =
 
 -- what the tables are worked out of, from the columns and rows that were read
 module _ (z : List ℕ) (f : Framed z) (cols count : ℕ) (c : cols ≡ columns z) (r : count ≡ rows z) where
-  pub grid_read : (room : ℕ) → nodes z * wires_per_node ≤ room → (InGrid cols count 0) × (cols * count * wires_per_node ≤ room)
+  pub grid_read : (room : ℕ) → nodes z * wires_per_node ≤ room → cols * count * wires_per_node ≤ room
   grid_read room h =
-      let some : 0 < nodes z = mul-pos (omega (arith, f.headed.columns_low)) (omega (arith, f.headed.rows_low)) in (
-        subst (λ (n : ℕ). InGrid n count 0) (sym c) (subst (λ (n : ℕ). InGrid (columns z) n 0) (sym r) (in_grid z f.headed 0 some)),
-        omega (arith, h, ap (λ (n : ℕ). n * count * wires_per_node) c, ap (λ (n : ℕ). columns z * n * wires_per_node) r),
-      )
+      omega (arith, h, ap (λ (n : ℕ). n * count * wires_per_node) c, ap (λ (n : ℕ). columns z * n * wires_per_node) r)
 
   pub schedulable : (room : ℕ) (near ends : List ℕ) → rule4 z ≡ true → Neighbours cols count near → Ends z ends
       → ((j : ℕ) → j < schedules z → nodes z * wires_per_node * row_words (period z j) ≤ room)

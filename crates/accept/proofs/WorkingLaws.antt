@@ -135,17 +135,6 @@ pub putting_done : (cols rows n : ℕ) (before near : List ℕ) → Putting cols
 putting_done cols rows n before near g h =
     record { long = g.long; next = λ node side l s. g.done node side (omega arith) s }
 
--- the next node of a grid
-pub still_inside : (cols rows n : ℕ) → InGrid cols rows 0 → n < cols * rows → InGrid cols rows n
-still_inside cols rows n g h =
-    record {
-      cols_low = g.cols_low;
-      cols_high = g.cols_high;
-      rows_low = g.rows_low;
-      rows_high = g.rows_high;
-      inside = h;
-    }
-
 -- a neighbour's first wire has a small number
 pub neighbour_few : (cols rows node side next : ℕ) → InGrid cols rows node → next ≡ neighbour_of cols rows node side → next < 16
 neighbour_few cols rows node side next g e =

@@ -11,6 +11,8 @@ ghost use Rattle.std.specs.Prelude.{true, ◌≡◌};
 ghost use Rattle.sheet.specs.Rules.{verdict};
 ghost use Rattle.sheet.specs.Inner.Passed.{Framed};
 
+use sheet::{Circuits, Frame};
+
 // The numbers 1 to 3.
 fn keeps_frame(z: &[u32]) -> bool
     ensures { result ≡ true → Framed z.now }
@@ -22,5 +24,9 @@ fn keeps_frame(z: &[u32]) -> bool
 pub fn accepts(z: &[u32]) -> bool
     ensures { result ≡ true → verdict z.now ≡ 0 }
 {
-    keeps_frame(z) && circuits::keeps_circuits(z) && schedules::keeps_schedules(z)
+    if !keeps_frame(z) {
+        return false;
+    }
+    let frame = Frame { words: z };
+    circuits::keeps_circuits(frame) && schedules::keeps_schedules(Circuits { frame })
 }

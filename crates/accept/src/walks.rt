@@ -39,6 +39,7 @@ fn follow_entry(
     let mut back = torus::NO_SIDE;
     let mut rest = e.route;
     let mut left = ends / 65536;
+    // No turn is counted: the cycles that are left of the path end it.
     loop {
         let side = rest % 4;
         rest = rest / 4;

@@ -30,7 +30,8 @@ trait Transfers {
         ensures { result ≡ at_place self.now i };
 }
 
-// Starts one transfer on a state that has passed 12 and 13, which leaves it so: the loop begins with such a state.
+// Starts one transfer on a state that has passed 12 and 13, which leaves it so: the loop begins with such a state. The answer is a number, as
+// the words of answers are that C lends.
 fn start_one(s: &mut [u32], t: Transfer) -> u32
     requires { state_number s.old ≡ 0 }
     ensures answer { result ≡ transfer_number s.old t }

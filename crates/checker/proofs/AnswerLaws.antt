@@ -1,7 +1,7 @@
 -- The verdict from the numbers of its three groups of rules, and the answers from their numbers.
 -- Assumes nothing.
 use Prim.Native.Nat.{ℕ, zero, suc, ◌<◌, ◌≤◌}
-use mathlib.Core.Bool.{Bool, true}
+use mathlib.Core.Bool.{Bool}
 use mathlib.Core.List.{List, [], ◌++◌}
 use mathlib.Core.Path.{◌≡◌, refl, sym, ◌∙◌, ap, subst}
 use native.Mathlib.Omega.{arith}
@@ -10,25 +10,13 @@ use Rattle.words.specs.Words.{pick}
 use Rattle.words.proofs.TestLaws.{yes=, no=, yes<, no<, is<}
 use Rattle.words.proofs.NumberLaws.{then_zero, unless_zero, then_first, then_next, unless_no, unless_yes}
 use Rattle.sheet.specs.Sheet.{blank_sheet, meant, schedules, schedule_place, entries_of}
-use Rattle.sheet.specs.Rules.{rule4, frame_rules, circuit_rules, entry_rules, first_broken, verdict, sheet_number}
+use Rattle.sheet.specs.Rules.{frame_rules, circuit_rules, entry_rules, first_broken, verdict, sheet_number}
 use Rattle.sheet.specs.Inner.Passed.{Framed}
-use Rattle.sheet.proofs.PassedLaws.{headed, framed}
-use Rattle.sheet.proofs.VerdictLaws.{kept, append_kept, append_broken, passed_framed}
+use Rattle.sheet.proofs.VerdictLaws.{append_kept, append_broken, passed_framed}
 use Rattle.sheet.proofs.MeantLaws.{meant_none, meant_some, number_some}
 use Rattle.checker.specs.Answers.{entries_number, entries_part}
 
 module _ (z : List ℕ) where
-  -- what the first two groups settle
-  pub frame_kept : first_broken frame_rules z ≡ 0 → Framed z
-  frame_kept h =
-      let k₁ = kept z _ _ h (λ e. omega (arith, e)) in
-      let k₂ = kept z _ _ k₁.1 (λ e. omega (arith, e)) in
-      let k₃ = kept z _ _ k₂.1 (λ e. omega (arith, e)) in
-      framed z (headed z k₁.0 k₂.0) k₃.0
-
-  pub circuits_kept : first_broken circuit_rules z ≡ 0 → rule4 z ≡ true
-  circuits_kept h = (kept z _ _ h (λ e. omega (arith, e))).0
-
   -- the first group decides; it is kept, and the second decides; both are kept, and the third decides
   module _ (n : ℕ) (e : n ≡ first_broken frame_rules z) where
     pub frame_decides : (n ≡ 0 → ⊥) → n ≡ verdict z

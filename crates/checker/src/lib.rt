@@ -1,18 +1,21 @@
 // The checker: the verdict upon a sheet, and one schedule's entries handed back.
 #![tactic(auto)]
 
-ghost use Rattle.std.specs.Prelude.{◌≡◌, true};
+ghost use Rattle.std.specs.Prelude.{◌≡◌, IfOk};
 ghost use Rattle.refusal.specs.Numbers.{number_of};
 ghost use Rattle.sheet.specs.Sheet.{blank_sheet, meant, schedules};
-ghost use Rattle.sheet.specs.Rules.{frame_rules, circuit_rules, entry_rules, first_broken, rule4, sheet_number, check_number, verdict as sheet_verdict};
-ghost use Rattle.sheet.specs.Inner.Passed.{Framed};
+ghost use Rattle.sheet.specs.Rules.{frame_rules, circuit_rules, entry_rules, first_broken, sheet_number, check_number, verdict as sheet_verdict};
 ghost use Rattle.checker.specs.Answers.{entries_number, entries_part};
 
+use clash::RoutedSheet;
 use refusal::Refusal;
+use routes::Routes;
+use sheet::{Circuits, Frame};
 
 // The numbers 1 to 3.
-fn check_frame(z: &[u32]) -> Result<(), Refusal>
-    ensures { number_of result ≡ first_broken frame_rules z.now }
+fn check_frame(z: &[u32]) -> Result<Frame, Refusal>
+    ensures number { number_of result ≡ first_broken frame_rules z.now }
+    ensures words { IfOk result (λ frame. frame.words.now ≡ z.now) }
 {
     if !sheet::keeps_rule1(z) {
         return Err(Refusal::HeadMissing);
@@ -23,45 +26,50 @@ fn check_frame(z: &[u32]) -> Result<(), Refusal>
     if !sheet::keeps_rule3(z) {
         return Err(Refusal::WrongLength);
     }
-    Ok(())
+    Ok(Frame { words: z })
 }
 
-// The numbers 4 to 6; check_rules has tested those before.
-fn check_circuits(z: &[u32]) -> Result<(), Refusal>
-    requires { Framed z.now }
-    ensures { number_of result ≡ first_broken circuit_rules z.now }
+// The numbers 4 to 6.
+fn check_circuits(frame: Frame) -> Result<Circuits, Refusal>
+    ensures number { number_of result ≡ first_broken circuit_rules frame.entry.words.now }
+    ensures words { IfOk result (λ circuits. circuits.frame.words.now ≡ frame.entry.words.now) }
 {
-    if !sheet::keeps_rule4(z) {
+    if !frame.keeps_rule4() {
         return Err(Refusal::WrongCircuit);
     }
-    if !sheet::keeps_rule5(z) {
+    if !frame.keeps_rule5() {
         return Err(Refusal::CircuitsUnordered);
     }
-    if !sheet::keeps_rule6(z) {
+    let circuits = Circuits { frame };
+    if !circuits.keeps_rule6() {
         return Err(Refusal::RegionsOverlap);
     }
-    Ok(())
+    Ok(circuits)
 }
 
-// The numbers 7 to 11; check_rules has tested those before.
-fn check_schedules(z: &[u32]) -> Result<(), Refusal>
-    requires { (Framed z.now) × (rule4 z.now ≡ true) }
-    ensures { number_of result ≡ first_broken entry_rules z.now }
+// The numbers 7 to 11.
+fn check_schedules(circuits: Circuits) -> Result<(), Refusal>
+    ensures { number_of result ≡ first_broken entry_rules circuits.entry.frame.words.now }
 {
-    if !sheet::keeps_rule7(z) {
+    let frame = circuits.frame;
+    if !frame.keeps_rule7() {
         return Err(Refusal::EntryOutOfRange);
     }
-    if !sheet::keeps_rule8(z) {
+    if !frame.keeps_rule8() {
         return Err(Refusal::EntriesUnordered);
     }
-    let spans = routes::circuit_spans(z);
-    if !routes::keeps_rule9(z, &spans) {
+    let spans = routes::circuit_spans(circuits);
+    let routes = Routes {
+        frame,
+        spans: &spans,
+    };
+    if !routes.keeps_rule9() {
         return Err(Refusal::WrongRoute);
     }
-    if !routes::keeps_rule10(z, &spans) {
+    if !routes.keeps_rule10() {
         return Err(Refusal::EndsTooLate);
     }
-    if !clash::keeps_rule11(z) {
+    if !(RoutedSheet { frame }).keeps_rule11() {
         return Err(Refusal::WireTaken);
     }
     Ok(())
@@ -75,9 +83,9 @@ pub fn check_rules(z: &[u32]) -> Result<(), Refusal>
     if accept::accepts(z) {
         return Ok(());
     }
-    check_frame(z)?;
-    check_circuits(z)?;
-    check_schedules(z)
+    let frame = check_frame(z)?;
+    let circuits = check_circuits(frame)?;
+    check_schedules(circuits)
 }
 
 // The sheet that no words stand for: an idle network.

@@ -27,7 +27,7 @@ module _ (z : List ℕ) (r : Routed z) (j : ℕ) (h : j < schedules z) (count P 
       )
 
 -- a table of n zeros is free
-pub ready_zeros : (n : ℕ) (z : List ℕ) (j : ℕ) → Routed z → j < schedules z → HoldsAllWires n z (period z j + 6)
-    → (Routed z) × (j < schedules z) × (HoldsAllWires (length {A = ℕ} (replicate n 0)) z (period z j + 6)) × (Free (replicate n 0))
-ready_zeros n z j r h m =
-    (r, h, subst (λ (k : ℕ). HoldsAllWires k z (period z j + 6)) (sym (length-replicate {A = ℕ} n 0)) m, record { none = λ x. none_taken n x })
+pub ready_zeros : (n : ℕ) (z : List ℕ) (j : ℕ) → j < schedules z → HoldsAllWires n z (period z j + 6)
+    → (j < schedules z) × (HoldsAllWires (length {A = ℕ} (replicate n 0)) z (period z j + 6)) × (Free (replicate n 0))
+ready_zeros n z j h m =
+    (h, subst (λ (k : ℕ). HoldsAllWires k z (period z j + 6)) (sym (length-replicate {A = ℕ} n 0)) m, record { none = λ x. none_taken n x })

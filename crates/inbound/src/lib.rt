@@ -39,8 +39,7 @@ impl Place<'_> {
         requires { output < ports }
         ensures { one_more result ≡ bound_for furthest self.now.z.now (self.now.k / ports) output word }
     {
-        let cols = sheet::columns_of(self.z);
-        let rows = sheet::rows_of(self.z);
+        let grid = sheet::grid_of(self.z);
         let mut at = self.k / network::OUTPUTS;
         let mut by = output;
         let mut header = word;
@@ -48,7 +47,7 @@ impl Place<'_> {
             if by == network::MEMORY_OUTPUT {
                 return Some(at);
             }
-            at = torus::neighbour(cols, rows, at, by);
+            at = grid.neighbour(at, by);
             by = network::output_for((by + 2) % 4, header);
             header = Header(header).shifted().0;
         }

@@ -4,7 +4,6 @@
 ghost use Rattle.std.specs.Prelude.{◌≡◌, [], ◌+◌, ◌*◌, ◌<◌, ◌≤◌, length};
 ghost use Rattle.words.specs.Words.{pick, word as word_at};
 ghost use Rattle.occupancy.specs.Inner.Occupancy.{bit_at};
-ghost use Rattle.torus.specs.Inner.Grid.{InGrid};
 ghost use Rattle.sheet.specs.Sheet.{is_long, nodes as node_count};
 ghost use Rattle.sheet.specs.Inner.Passed.{Headed};
 ghost use Rattle.network.specs.Registers.{sheet_in, moving_words, row_words, link_mark, link_word, out_mark, extra_mark, extra_word};
@@ -14,6 +13,7 @@ ghost use Rattle.network.specs.Inner.Live.{EmptyBeside};
 ghost use Rattle.links.specs.Inner.Linking.{linked, pushed_by, KeptBeside, sourced, SourcesBeside, SidesEmpty, side_row, pushed_sides, extended};
 
 use network::{LINK_MARKS, LINK_WORDS, MOST_NODES, ROW_WORDS, put_reg, reg};
+use torus::Grid;
 
 // No sheet has more nodes than the largest grid, and no state has fewer words than its rows; each loop below returns at once where that
 // were not so, so that a compiler can know every place to be in its row, and every row in the state, and leave out the test at each access.
@@ -51,9 +51,9 @@ fn clear_links(s: &mut [u32], count: u32)
 
 // What comes out of a side's link, the mark from a row and the word from the row behind it, goes into the link register of the neighbour's
 // opposite side; where both are 0, that register is left empty. The answer is the mask of that neighbour, or of no node.
-fn push_side(s: &mut [u32], cols: u32, rows: u32, node: u32, side: u32, row: u32) -> u64
-    requires { (InGrid cols rows node) × (side < 4) × (row ≤ extra_mark) }
-    ensures state { s.new ≡ pushed_by s.old cols rows node side row }
+fn push_side(s: &mut [u32], grid: Grid, node: u32, side: u32, row: u32) -> u64
+    requires { (node < grid.cols * grid.rows) × (side < 4) × (row ≤ extra_mark) }
+    ensures state { s.new ≡ pushed_by s.old grid.cols grid.rows node side row }
     ensures live { KeptBeside result s.old s.new }
 {
     let from = node * 5 + side;
@@ -62,7 +62,7 @@ fn push_side(s: &mut [u32], cols: u32, rows: u32, node: u32, side: u32, row: u32
     if mark | word == 0 {
         return 0;
     }
-    let near = torus::neighbour(cols, rows, node, side);
+    let near = grid.neighbour(node, side);
     put_link(s, near * 5 + (side + 2) % 4, mark, word);
     occupancy::only(near)
 }
@@ -94,9 +94,9 @@ fn sides_joined(s: &[u32], node: u32, vertical: u32) -> u32
 
 // What comes out of a node's four links; of most nodes nothing does, and then no neighbour is looked for. The answer is the mask of the
 // neighbours that it goes to.
-fn push_sides(s: &mut [u32], cols: u32, rows: u32, node: u32, vertical: u32) -> u64
-    requires { (InGrid cols rows node) × (vertical ≤ extra_mark) × (moving_words ≤ length s.old) }
-    ensures state { s.new ≡ pushed_sides 4 s.old cols rows node vertical }
+fn push_sides(s: &mut [u32], grid: Grid, node: u32, vertical: u32) -> u64
+    requires { (node < grid.cols * grid.rows) × (vertical ≤ extra_mark) × (moving_words ≤ length s.old) }
+    ensures state { s.new ≡ pushed_sides 4 s.old grid.cols grid.rows node vertical }
     ensures live { KeptBeside result s.old s.new }
 {
     if sides_joined(s, node, vertical) == 0 {
@@ -104,7 +104,7 @@ fn push_sides(s: &mut [u32], cols: u32, rows: u32, node: u32, vertical: u32) -> 
     }
     let mut live: u64 = 0;
     for side in 0..4 {
-        live |= push_side(s, cols, rows, node, side, side_row(vertical, side));
+        live |= push_side(s, grid, node, side, side_row(vertical, side));
     }
     live
 }
@@ -135,9 +135,8 @@ pub fn step_links_among(s: &mut [u32], ends: u64, sources: u64, marks: &[u32], c
         return 0;
     }
     let z = network::sheet_of(s);
-    let cols = sheet::columns_of(z);
-    let rows = sheet::rows_of(z);
-    let nodes = sheet::nodes_of(z);
+    let grid = sheet::grid_of(z);
+    let nodes = grid.nodes();
     let vertical = vertical_row(z);
     if MOST_NODES < nodes {
         return 0;
@@ -145,7 +144,7 @@ pub fn step_links_among(s: &mut [u32], ends: u64, sources: u64, marks: &[u32], c
     clear_links(s, nodes * 5);
     let mut live: u64 = 0;
     for node in occupancy::places(ends, nodes) {
-        live |= push_sides(s, cols, rows, node, vertical);
+        live |= push_sides(s, grid, node, vertical);
     }
     push_sources(s, nodes, sources, marks, cells);
     live | sources

@@ -12,7 +12,7 @@ use refusal::Refusal;
 pub struct Header(pub u32);
 
 impl Header {
-    // The kinds.
+    // The kinds. Constants and no enum: document 01, "How each place should look", names that form.
     pub const DATA: u32 = 0;
 
     pub const CONFIGURATION: u32 = 1;

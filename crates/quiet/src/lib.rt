@@ -17,7 +17,8 @@ use network::{
     OUT_WORDS, ROW_WORDS, reg,
 };
 
-// The first words of a row joined by or: 0 where all of them are 0. A sound state has the rows, here and below.
+// The first words of a row joined by or, without a test and an exit at each, here and below: 0 where all of them are 0. A sound state has
+// the rows.
 fn row_joined(s: &[u32], row: u32, count: u32) -> u32
     requires { (row < row_count) × (count ≤ row_words) × (moving_words ≤ length s.now) }
     ensures { (result =? 0) ≡ all count (λ k. reg_of s.now row k =? 0) }

@@ -12,14 +12,17 @@ use network::{
     CLOCK_ROW, CYCLE_PLACE, IN_FORCE_PLACE, NUMBER_PLACE, ORDER_MARK_PLACE, ORDER_PERIOD_PLACE,
     ORDER_SCHEDULE_PLACE, put_reg, reg,
 };
+use sheet::Frame;
 
 // The period of the schedule in force. A sound state meets the requires, here and below.
 pub fn period_now(s: &[u32]) -> u32
     requires { Clocked s.now }
     ensures { result ≡ period (sheet_in s.now) (reg_of s.now clock_row in_force_place) }
 {
-    let z = network::sheet_of(s);
-    sheet::schedule_period(z, reg(s, CLOCK_ROW, IN_FORCE_PLACE))
+    let frame = Frame {
+        words: network::sheet_of(s),
+    };
+    frame.schedule_period(reg(s, CLOCK_ROW, IN_FORCE_PLACE))
 }
 
 // The order is due: the period turns, and the order is for the new one. step_clock hands on what it has worked out.

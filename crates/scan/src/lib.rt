@@ -22,7 +22,7 @@ fn join_rows(s: &[u32], places: u32, joined: &mut [u32])
     }
 }
 
-// A node's mask where one of its five places is not 0, else none.
+// A node's mask where one of its five places is not 0, else none. The five are joined by or and tested once, with no early exit.
 fn node_in(joined: &[u32], node: u32) -> u64
     requires { (node < 16) × (length joined.now ≡ row_words) }
     ensures { bit_at result node ≡ 0 → (k : ℕ) → k / 5 ≡ node → word_at joined.now k ≡ 0 }

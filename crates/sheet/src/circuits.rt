@@ -5,7 +5,8 @@ ghost use Rattle.sheet.specs.Sheet.{circuits, circuit_at};
 ghost use Rattle.sheet.specs.Rules.{region_fits, circuit_fits, circuit_precedes, precedes, apart, receive_apart, rule4, rule5, rule6};
 ghost use Rattle.sheet.specs.Inner.Passed.{Framed};
 
-use super::head::{circuits_of, memory_of, nodes_of};
+use super::frame::Frame;
+use super::head::{circuits_of, memory_of};
 
 // A region of a node's memory.
 #[derive(Clone, Copy)]
@@ -80,60 +81,69 @@ impl Circuit {
     }
 }
 
-// Number 4: each circuit joins two different nodes of the grid, and its two regions fit. The checker calls the rules in their
-// order, and so meets the requires, here and below.
-pub fn keeps_rule4(z: &[u32]) -> bool
-    requires { Framed z.now }
-    ensures { result ≡ rule4 z.now }
-{
-    let nodes = nodes_of(z);
-    let memory = memory_of(z);
-    (0..circuits_of(z)).all(|k| Circuit::at(z, k).fits(nodes, memory))
-}
-
-// Number 5: the circuits strictly ascend by destination and receive offset.
-pub fn keeps_rule5(z: &[u32]) -> bool
-    requires { Framed z.now }
-    ensures { result ≡ rule5 z.now }
-{
-    let pairs = circuits_of(z).saturating_sub(1);
-    (0..pairs).all(|k| Circuit::at(z, k).is_before(Circuit::at(z, k + 1)))
-}
-
-// Number 6 at circuit j's receive region and circuit k: apart from k's read region, and from another k's receive region.
-fn pair_apart_by_regions(z: &[u32], receive: Region, j: u32, k: u32) -> bool
-    requires { (Framed z.now) × (rule4 z.now ≡ true) × (j < circuits z.now) × (k < circuits z.now) × (receive ≡ (circuit_at z.now j).receive) }
-    ensures { result ≡ receive_apart z.now j k }
-{
-    let other = Circuit::at(z, k);
-    (j == k || receive.is_apart(other.receive)) && receive.is_apart(other.read)
-}
-
-// The same, first by the nodes: most pairs have none in common, which circuit k's first two words tell.
-fn pair_apart(z: &[u32], receive: Region, j: u32, k: u32) -> bool
-    requires { (Framed z.now) × (rule4 z.now ≡ true) × (j < circuits z.now) × (k < circuits z.now) × (receive ≡ (circuit_at z.now j).receive) }
-    ensures { result ≡ receive_apart z.now j k }
-{
-    let at = 5 + 6 * (k as usize);
-    if words::get(z, at) != receive.node && words::get(z, at + 1) != receive.node {
-        return true;
+impl Frame<'_> {
+    // Number 4: each circuit joins two different nodes of the grid, and its two regions fit.
+    pub fn keeps_rule4(self) -> bool
+        ensures { result ≡ rule4 self.entry.words.now }
+    {
+        let nodes = self.nodes();
+        let memory = memory_of(self.words);
+        (0..circuits_of(self.words)).all(|k| Circuit::at(self.words, k).fits(nodes, memory))
     }
-    pair_apart_by_regions(z, receive, j, k)
+
+    // Number 5: the circuits strictly ascend by destination and receive offset.
+    pub fn keeps_rule5(self) -> bool
+        ensures { result ≡ rule5 self.entry.words.now }
+    {
+        let pairs = circuits_of(self.words).saturating_sub(1);
+        (0..pairs).all(|k| Circuit::at(self.words, k).is_before(Circuit::at(self.words, k + 1)))
+    }
 }
 
-// Number 6 at circuit j's receive region.
-fn receive_apart(z: &[u32], j: u32) -> bool
-    requires { (Framed z.now) × (rule4 z.now ≡ true) × (j < circuits z.now) }
-    ensures { result ≡ all (circuits z.now) (receive_apart z.now j) }
-{
-    let receive = Circuit::at(z, j).receive;
-    (0..circuits_of(z)).all(|k| pair_apart(z, receive, j, k))
+// A sheet of which rule 4 is kept too: each circuit joins two nodes of the grid, and its regions fit.
+#[derive(Clone, Copy)]
+pub struct Circuits<'a> {
+    pub frame: Frame<'a>,
+    pub ghost fit: { rule4 frame.words.now ≡ true },
 }
 
-// Number 6: no receive region shares a word with another receive region or with a read region.
-pub fn keeps_rule6(z: &[u32]) -> bool
-    requires { (Framed z.now) × (rule4 z.now ≡ true) }
-    ensures { result ≡ rule6 z.now }
-{
-    (0..circuits_of(z)).all(|j| receive_apart(z, j))
+impl Circuits<'_> {
+    // Number 6 at circuit j's receive region and circuit k: apart from k's read region, and from another k's receive region.
+    fn pair_apart_by_regions(self, receive: Region, j: u32, k: u32) -> bool
+        requires { (j < circuits self.frame.words.now) × (k < circuits self.frame.words.now) × (receive ≡ (circuit_at self.frame.words.now j).receive) }
+        ensures { result ≡ receive_apart self.entry.frame.words.now j k }
+    {
+        let other = Circuit::at(self.frame.words, k);
+        (j == k || receive.is_apart(other.receive)) && receive.is_apart(other.read)
+    }
+
+    // The same, first by the nodes: most pairs have none in common, which circuit k's first two words tell.
+    fn pair_apart(self, receive: Region, j: u32, k: u32) -> bool
+        requires { (j < circuits self.frame.words.now) × (k < circuits self.frame.words.now) × (receive ≡ (circuit_at self.frame.words.now j).receive) }
+        ensures { result ≡ receive_apart self.entry.frame.words.now j k }
+    {
+        let at = 5 + 6 * (k as usize);
+        if words::get(self.frame.words, at) != receive.node
+            && words::get(self.frame.words, at + 1) != receive.node
+        {
+            return true;
+        }
+        self.pair_apart_by_regions(receive, j, k)
+    }
+
+    // Number 6 at circuit j's receive region.
+    fn receive_apart(self, j: u32) -> bool
+        requires { j < circuits self.frame.words.now }
+        ensures { result ≡ all (circuits self.entry.frame.words.now) (receive_apart self.entry.frame.words.now j) }
+    {
+        let receive = Circuit::at(self.frame.words, j).receive;
+        (0..circuits_of(self.frame.words)).all(|k| self.pair_apart(receive, j, k))
+    }
+
+    // Number 6: no receive region shares a word with another receive region or with a read region.
+    pub fn keeps_rule6(self) -> bool
+        ensures { result ≡ rule6 self.entry.frame.words.now }
+    {
+        (0..circuits_of(self.frame.words)).all(|j| self.receive_apart(j))
+    }
 }

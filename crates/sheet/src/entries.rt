@@ -3,9 +3,8 @@ ghost use Rattle.std.specs.Prelude.{◌≡◌, ◌+◌, ◌-◌, ◌*◌, ◌/�
 ghost use Rattle.words.specs.Tests.{all};
 ghost use Rattle.sheet.specs.Sheet.{schedules, entry_count, entry_at};
 ghost use Rattle.sheet.specs.Rules.{entry_fits, entry_precedes, rule7_at, rule7, rule8};
-ghost use Rattle.sheet.specs.Inner.Passed.{Framed};
 
-use super::frame::{entries_of, schedule_period};
+use super::frame::Frame;
 use super::head::{circuits_of, schedules_of};
 
 // An entry of a schedule: the slot of a circuit, and its packets' route.
@@ -57,24 +56,6 @@ fn entries_fit(entries: &[u32], circuits: u32, period: u32) -> bool
     (0..entries.len() / 4).all(|i| Entry::at(entries, i).fits(circuits, period))
 }
 
-// Number 7 at schedule j.
-fn schedule_fits(z: &[u32], j: u32) -> bool
-    requires { (Framed z.now) × (j < schedules z.now) }
-    ensures { result ≡ rule7_at z.now j }
-{
-    let period = schedule_period(z, j);
-    words::is_between(9, 1024, period) && entries_fit(entries_of(z, j), circuits_of(z), period)
-}
-
-// Number 7: each period and each entry's offset, length, circuit and route is in its range. The checker calls the rules in
-// their order, and so meets the requires, here and below.
-pub fn keeps_rule7(z: &[u32]) -> bool
-    requires { Framed z.now }
-    ensures { result ≡ rule7 z.now }
-{
-    (0..schedules_of(z)).all(|j| schedule_fits(z, j))
-}
-
 // Number 8 at the entries of a schedule.
 fn entries_ascend(entries: &[u32]) -> bool
     ensures { result ≡ all (entry_count entries.now - 1) (λ i. entry_precedes (entry_at entries.now i) (entry_at entries.now (i + 1))) }
@@ -83,10 +64,28 @@ fn entries_ascend(entries: &[u32]) -> bool
     (0..pairs).all(|i| Entry::at(entries, i).is_before(Entry::at(entries, i + 1)))
 }
 
-// Number 8: the entries of each schedule strictly ascend by offset and circuit.
-pub fn keeps_rule8(z: &[u32]) -> bool
-    requires { Framed z.now }
-    ensures { result ≡ rule8 z.now }
-{
-    (0..schedules_of(z)).all(|j| entries_ascend(entries_of(z, j)))
+impl Frame<'_> {
+    // Number 7 at schedule j.
+    fn schedule_fits(self, j: u32) -> bool
+        requires { j < schedules self.words.now }
+        ensures { result ≡ rule7_at self.entry.words.now j }
+    {
+        let period = self.schedule_period(j);
+        words::is_between(9, 1024, period)
+            && entries_fit(self.entries(j), circuits_of(self.words), period)
+    }
+
+    // Number 7: each period and each entry's offset, length, circuit and route is in its range.
+    pub fn keeps_rule7(self) -> bool
+        ensures { result ≡ rule7 self.entry.words.now }
+    {
+        (0..schedules_of(self.words)).all(|j| self.schedule_fits(j))
+    }
+
+    // Number 8: the entries of each schedule strictly ascend by offset and circuit.
+    pub fn keeps_rule8(self) -> bool
+        ensures { result ≡ rule8 self.entry.words.now }
+    {
+        (0..schedules_of(self.words)).all(|j| entries_ascend(self.entries(j)))
+    }
 }

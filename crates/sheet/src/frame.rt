@@ -1,11 +1,12 @@
 // The frame of a sheet: its head, where its schedules are, and the rules 1 to 3.
-ghost use Rattle.std.specs.Prelude.{◌≡◌, ◌+◌, ◌*◌, ◌<◌};
-ghost use Rattle.sheet.specs.Sheet.{schedules, schedule_place, period, entries_of};
+ghost use Rattle.std.specs.Prelude.{◌≡◌, ◌+◌, ◌*◌, ◌<◌, ◌≤◌};
+ghost use Rattle.sheet.specs.Sheet.{columns, rows, nodes, schedules, schedule_place, period, entries_of};
 ghost use Rattle.sheet.specs.Rules.{rule1, rule2, rule3};
 ghost use Rattle.sheet.specs.Inner.Passed.{Headed, Framed, Placed};
 ghost use Rattle.sheet.specs.Inner.Frame.{place_after};
 
-use super::head::{circuits_of, columns_of, memory_of, rows_of, schedules_of};
+use super::head::{circuits_of, columns_of, grid_of, memory_of, nodes_of, rows_of, schedules_of};
+use torus::Grid;
 
 // The most words that a sheet can have: a head, 64 circuits, and 8 schedules of 256 entries.
 pub const SHEET_WORDS: u32 = 5 + 6 * 64 + 8 * (2 + 4 * 256);
@@ -58,25 +59,69 @@ pub fn keeps_rule3(z: &[u32]) -> bool
     at == z.len()
 }
 
-// The place of schedule j. Whoever has checked the rules 1 to 3 meets the requires, here and below.
+// A sheet whose frame is right: the rules 1 to 3 are kept.
+#[derive(Clone, Copy)]
+pub struct Frame<'a> {
+    pub words: &'a [u32],
+    pub ghost framed: { Framed words.now },
+}
+
+impl<'a> Frame<'a> {
+    // The grid.
+    pub fn grid(self) -> Grid
+        ensures cols { result.cols ≡ columns self.entry.words.now }
+        ensures rows { result.rows ≡ rows self.entry.words.now }
+    {
+        grid_of(self.words)
+    }
+
+    // The number of nodes.
+    pub fn nodes(self) -> u32
+        ensures { (result ≡ nodes self.entry.words.now) × (result ≤ 16) }
+    {
+        nodes_of(self.words)
+    }
+
+    // The place of schedule j. Whoever counts the head's schedules meets the requires, here and below.
+    pub fn schedule_place(self, j: u32) -> usize
+        requires { j < schedules self.words.now }
+        ensures { (result ≡ schedule_place self.entry.words.now j) × Placed self.entry.words.now result }
+    {
+        let mut at = 5 + 6 * (circuits_of(self.words) as usize);
+        for _ in 0..j {
+            at = at + 2 + 4 * (words::get(self.words, at + 1) as usize);
+        }
+        at
+    }
+
+    // The period of schedule j.
+    pub fn schedule_period(self, j: u32) -> u32
+        requires { j < schedules self.words.now }
+        ensures { result ≡ period self.entry.words.now j }
+    {
+        let at = self.schedule_place(j);
+        words::get(self.words, at)
+    }
+
+    // The entries of schedule j, as that part of the sheet.
+    pub fn entries(self, j: u32) -> &'a [u32]
+        requires { j < schedules self.words.now }
+        ensures { result.now ≡ entries_of self.entry.words.now j }
+    {
+        let at = self.schedule_place(j);
+        let from = at + 2;
+        let to = at + 2 + 4 * (words::get(self.words, at + 1) as usize);
+        &self.words[from..to]
+    }
+}
+
+// The same of a sheet that is not at hand as a frame: what the crates above have is that its state is sound. Whoever has checked the rules 1 to 3, or
+// found a state sound, meets the requires, here and below.
 pub fn schedule_place(z: &[u32], j: u32) -> usize
     requires { (Framed z.now) × (j < schedules z.now) }
     ensures { (result ≡ schedule_place z.now j) × Placed z.now result }
 {
-    let mut at = 5 + 6 * (circuits_of(z) as usize);
-    for _ in 0..j {
-        at = at + 2 + 4 * (words::get(z, at + 1) as usize);
-    }
-    at
-}
-
-// The period of schedule j.
-pub fn schedule_period(z: &[u32], j: u32) -> u32
-    requires { (Framed z.now) × (j < schedules z.now) }
-    ensures { result ≡ period z.now j }
-{
-    let at = schedule_place(z, j);
-    words::get(z, at)
+    Frame { words: z }.schedule_place(j)
 }
 
 // The entries of schedule j, as that part of the sheet.
@@ -84,8 +129,5 @@ pub fn entries_of(z: &[u32], j: u32) -> &[u32]
     requires { (Framed z.now) × (j < schedules z.now) }
     ensures { result.now ≡ entries_of z.now j }
 {
-    let at = schedule_place(z, j);
-    let from = at + 2;
-    let to = at + 2 + 4 * (words::get(z, at + 1) as usize);
-    &z[from..to]
+    Frame { words: z }.entries(j)
 }

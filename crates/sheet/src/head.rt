@@ -3,6 +3,8 @@ ghost use Rattle.std.specs.Prelude.{◌≡◌, ◌*◌, ◌≤◌};
 ghost use Rattle.sheet.specs.Sheet.{columns, rows, is_long, memory_words, circuits, schedules, nodes};
 ghost use Rattle.sheet.specs.Inner.Passed.{Headed};
 
+use torus::Grid;
+
 // The columns of the grid.
 pub fn columns_of(z: &[u32]) -> u32
     ensures { result ≡ columns z.now }
@@ -53,12 +55,24 @@ pub fn schedules_of(z: &[u32]) -> u32
     words::get(z, 4)
 }
 
-// The number of nodes. Whoever has checked the rules 1 and 2 meets the requires, here and below.
+// The grid. Whoever has checked the rules 1 and 2 meets the requires, here and below.
+pub fn grid_of(z: &[u32]) -> Grid
+    requires { Headed z.now }
+    ensures cols { result.cols ≡ columns z.now }
+    ensures rows { result.rows ≡ rows z.now }
+{
+    Grid {
+        cols: columns_of(z),
+        rows: rows_of(z),
+    }
+}
+
+// The number of nodes.
 pub fn nodes_of(z: &[u32]) -> u32
     requires { Headed z.now }
     ensures { (result ≡ nodes z.now) × (result ≤ 16) }
 {
-    columns_of(z) * rows_of(z)
+    grid_of(z).nodes()
 }
 
 // The memory words of all nodes.

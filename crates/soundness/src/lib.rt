@@ -5,13 +5,12 @@ ghost use Rattle.std.specs.Prelude.{true, ◌≡◌, ◌*◌, ◌≤◌};
 ghost use Rattle.words.specs.Tests.{all, ◌and◌, ◌or◌, ◌≤?◌, ◌=?◌};
 ghost use Rattle.packet.specs.Header.{data_kind};
 ghost use Rattle.sheet.specs.Sheet.{circuits, is_long, nodes as nodes_of};
-ghost use Rattle.sheet.specs.Inner.Passed.{Framed};
 ghost use Rattle.network.specs.Registers.{reg as reg_of, sheet_in, link_mark, head_mark, out_mark, choice_row, receive_mark, receive_kind};
 ghost use Rattle.soundness.specs.Sound.{kind_travels, lies_in, clock_sound, order_sound, transfer_sound, cell_sound, router_sound, extra_sound, node_sound, sound};
 
 use network::reg;
 use packet::Header;
-use sheet::{Circuit, Region};
+use sheet::{Circuit, Frame, Region};
 
 // Data and interrupts travel.
 #[tactic(auto, using(crate::proofs::ChainLaws::chains), unfolding(crate::specs::Sound::kind_travels))]
@@ -116,9 +115,8 @@ fn node_sound(s: &[u32], n: u32) -> bool
 #[derive(Clone, Copy)]
 struct Passed<'a> {
     state: &'a [u32],
-    sheet: &'a [u32],
-    ghost own: { sheet.now ≡ sheet_in state.now },
-    ghost framed: { Framed sheet.now },
+    frame: Frame<'a>,
+    ghost own: { frame.words.now ≡ sheet_in state.now },
 }
 
 impl<'a> Passed<'a> {
@@ -128,9 +126,9 @@ impl<'a> Passed<'a> {
         ensures { result ≡ clock_sound self.now.state.now }
     {
         let schedule = reg(self.state, network::CLOCK_ROW, network::IN_FORCE_PLACE);
-        schedule < sheet::schedules_of(self.sheet)
+        schedule < sheet::schedules_of(self.frame.words)
             && reg(self.state, network::CLOCK_ROW, network::CYCLE_PLACE)
-                < sheet::schedule_period(self.sheet, schedule)
+                < self.frame.schedule_period(schedule)
     }
 
     // The order's mark is a known one, and a pending order's schedule exists.
@@ -145,7 +143,7 @@ impl<'a> Passed<'a> {
                     self.state,
                     network::CLOCK_ROW,
                     network::ORDER_SCHEDULE_PLACE,
-                ) < sheet::schedules_of(self.sheet))
+                ) < sheet::schedules_of(self.frame.words))
     }
 
     // Circuit c's transfer.
@@ -157,7 +155,7 @@ impl<'a> Passed<'a> {
         reg(s, network::TO_GO_ROW, c) <= left
             && (left == 0
                 || rest_sound(
-                    Circuit::at(self.sheet, c),
+                    Circuit::at(self.frame.words, c),
                     reg(s, network::KIND_ROW, c),
                     reg(s, network::READ_ROW, c),
                     reg(s, network::WRITE_ROW, c),
@@ -169,29 +167,29 @@ impl<'a> Passed<'a> {
     fn transfers_sound(&self) -> bool
         ensures { result ≡ all (circuits (sheet_in self.now.state.now)) (transfer_sound self.now.state.now) }
     {
-        (0..sheet::circuits_of(self.sheet)).all(|c| self.transfer_sound(c))
+        (0..sheet::circuits_of(self.frame.words)).all(|c| self.transfer_sound(c))
     }
 
     // The registers of each router: five inputs and outputs a node.
     fn routers_sound(&self) -> bool
         ensures { result ≡ all (nodes_of (sheet_in self.now.state.now) * 5) (router_sound self.now.state.now) }
     {
-        (0..sheet::nodes_of(self.sheet) * 5).all(|k| router_sound(self.state, k))
+        (0..self.frame.nodes() * 5).all(|k| router_sound(self.state, k))
     }
 
     // The extra registers of long vertical links; a grid without such links has none.
     fn extras_sound(&self) -> bool
         ensures { result ≡ all (nodes_of (sheet_in self.now.state.now) * 5) (extra_sound self.now.state.now) }
     {
-        !sheet::is_long(self.sheet)
-            || (0..sheet::nodes_of(self.sheet) * 5).all(|k| extra_sound(self.state, k))
+        !sheet::is_long(self.frame.words)
+            || (0..self.frame.nodes() * 5).all(|k| extra_sound(self.state, k))
     }
 
     // Each node's registers.
     fn nodes_sound(&self) -> bool
         ensures { result ≡ all (nodes_of (sheet_in self.now.state.now)) (node_sound self.now.state.now) }
     {
-        (0..sheet::nodes_of(self.sheet)).all(|n| node_sound(self.state, n))
+        (0..self.frame.nodes()).all(|n| node_sound(self.state, n))
     }
 }
 
@@ -205,7 +203,10 @@ pub fn is_sound(s: &[u32]) -> bool
     {
         return false;
     }
-    let state = Passed { state: s, sheet: z };
+    let state = Passed {
+        state: s,
+        frame: Frame { words: z },
+    };
     state.clock_sound()
         && state.order_sound()
         && state.transfers_sound()

@@ -13,7 +13,8 @@ ghost use Rattle.tables.specs.Inner.Moving.{Moving};
 use network::{Live, ROW_WORDS};
 use refusal::Refusal;
 
-// The tables of a cycle: the slots that begin, by circuit, the marks and words on the source wires, by node, and those on the outputs.
+// The tables of a cycle: the slots that begin, by circuit, the marks and words on the source wires, by node, and those on the outputs. Marks and
+// words are apart, as in the rows of the state that C lends: pairs would be put together at each reading and taken apart at each writing.
 #[derive(Drop)]
 pub struct Prepared {
     pub slots: [u32; 64],

@@ -1,4 +1,5 @@
 pub mod NeighbourLaws
+pub mod GridLaws
 pub mod DistanceLaws
 pub mod RouteLaws
 pub mod WalkLaws

@@ -1,47 +1,7 @@
--- `checker::schedules_number` meets its contract: Numbers 7 to 11: each test decides where those before it are passed, and they give what the later ones ask.
+-- `checker::check_schedules` meets its contract: Numbers 7 to 11: each test decides where those before it are passed, and they give what the later ones ask.
 use mathlib.Core.Path.{sym, ◌∙◌}
 use Rattle.sheet.proofs.VerdictLaws.{here, on, done}
 use Rattle.checker.proofs.check_schedules.Goals as goal
-
-pub circuit_spans-spans-requires : goal.circuit_spans-spans-requires
-circuit_spans-spans-requires c = (c.requires.0, c.requires.1)
-
-pub keeps_rule9-requires : goal.keeps_rule9-requires
-keeps_rule9-requires c = (
-  record {
-    framed = c.requires.0;
-    circuits_fit = c.requires.1;
-    entries_fit = sym c.keeps_rule7.ensures ∙ c.if-not-keeps_rule7.false;
-  },
-  c.circuit_spans-spans.ensures,
-)
-
-pub keeps_rule10-requires : goal.keeps_rule10-requires
-keeps_rule10-requires c = (
-  record {
-    ranged = record {
-      framed = c.requires.0;
-      circuits_fit = c.requires.1;
-      entries_fit = sym
-          c.keeps_rule7.ensures ∙ c.if-not-keeps_rule7.false;
-    };
-    routes_lead = sym c.keeps_rule9.ensures ∙ c.if-not-keeps_rule9.false;
-  },
-  c.circuit_spans-spans.ensures,
-)
-
-pub keeps_rule11-requires : goal.keeps_rule11-requires
-keeps_rule11-requires c =
-    record {
-      ranged = record {
-        framed = c.requires.0;
-        circuits_fit = c.requires.1;
-        entries_fit = sym
-            c.keeps_rule7.ensures ∙ c.if-not-keeps_rule7.false;
-      };
-      routes_lead = sym c.keeps_rule9.ensures ∙ c.if-not-keeps_rule9.false;
-      packets_end = sym c.keeps_rule10.ensures ∙ c.if-not-keeps_rule10.false;
-    }
 
 pub returns-then-not-keeps_rule7 : goal.returns-then-not-keeps_rule7
 returns-then-not-keeps_rule7 c =

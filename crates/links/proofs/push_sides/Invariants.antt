@@ -4,4 +4,4 @@ use Rattle.links.specs.Inner.Linking.{KeptBeside, pushed_sides}
 use Rattle.links.proofs.push_sides.Given as goal
 
 abbrev pub invariant-loop-side : goal.invariant-loop-side
-invariant-loop-side l = (l.s ≡ pushed_sides l.side l.initial.s l.cols l.rows l.node l.vertical) × KeptBeside l.live l.initial.s l.s
+invariant-loop-side l = (l.s ≡ pushed_sides l.side l.initial.s l.grid.cols l.grid.rows l.node l.vertical) × KeptBeside l.live l.initial.s l.s

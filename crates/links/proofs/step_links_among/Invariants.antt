@@ -4,4 +4,4 @@ use Rattle.links.proofs.LinkingLaws.{Linking}
 use Rattle.links.proofs.step_links_among.Given as goal
 
 abbrev pub invariant-loop-node : goal.invariant-loop-node
-invariant-loop-node l = Linking l.initial.s l.ends l.cols l.rows l.nodes l.vertical l.live l.node-iterator l.s
+invariant-loop-node l = Linking l.initial.s l.ends l.grid.cols l.grid.rows l.nodes l.vertical l.live l.node-iterator l.s

@@ -1,6 +1,5 @@
 -- `occupancy::take_run` meets its contract: the two words hold the union of the window and the mask.
 use native.Mathlib.Omega.{arith}
-use lib.ListN.{length-set}
 use Prim.Native.Nat.{◌/◌, ◌%◌}
 use Rattle.occupancy.specs.Inner.Occupancy.{slot_mask, take_run}
 use Rattle.occupancy.proofs.BitLaws.{mask_small}
@@ -15,9 +14,6 @@ overflow_cast-table-2 c = rw (c.window.ensures, c.slot_mask.ensures)
           (λ x. (c.slice_known-1.given x).fits)
           (mask_small (c.args.place % 32) c.args.size (omega arith)),
     ))
-
-pub bounds-table-q-2 : goal.bounds-table-q-2
-bounds-table-q-2 c = simp length-set (omega arith)
 
 pub returns : goal.returns
 unfolding take_run

@@ -4,8 +4,11 @@ use Rattle.routes.proofs.circuit_span.Goals as goal
 
 pub span-requires : goal.span-requires
 span-requires c =
-    nodes_inside _ c.requires.0 c.requires.1 _ c.requires.2 _ c.at-circuit.ensures _ _ c.columns_of.ensures c.rows_of.ensures
+    let s = c.args.circuits in
+    let both =
+    nodes_inside _ s.frame.framed s.fit _ c.requires _ c.at-circuit.ensures _ _ c.grid.ensures.cols c.grid.ensures.rows in
+    (both.0.inside, both.1.inside)
 
 pub returns : goal.returns
 returns c =
-    span_told _ _ _ c.at-circuit.ensures _ _ _ _ c.columns_of.ensures c.rows_of.ensures c.is_long.ensures c.span.ensures
+    span_told _ _ _ c.at-circuit.ensures _ _ _ _ c.grid.ensures.cols c.grid.ensures.rows c.is_long.ensures c.span.ensures

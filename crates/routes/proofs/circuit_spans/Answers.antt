@@ -9,7 +9,7 @@ loop-k-init c = reading_start _
 pub loop-k-preserved : goal.loop-k-preserved
 loop-k-preserved c =
     let few = c.circuits_of-k-end.ensures in
-    reading_more _ c.loop-k.k _ c.loop-k.invariant (omega arith) (omega (arith, c.requires.0.headed.circuits_high)) _ c.circuit_span.ensures
+    reading_more _ c.loop-k.k _ c.loop-k.invariant (omega arith) (omega (arith, c.args.circuits.frame.framed.headed.circuits_high)) _ c.circuit_span.ensures
 
 pub returns : goal.returns
 returns c = spans_done _ c.loop-k.k _ c.loop-k.invariant (omega (arith, c.circuits_of-k-end.ensures))

@@ -3,4 +3,4 @@ use Rattle.routes.proofs.RouteRules.{Reading}
 use Rattle.routes.proofs.circuit_spans.Given as goal
 
 abbrev pub invariant-loop-k : goal.invariant-loop-k
-invariant-loop-k l = Reading l.z l.k l.spans
+invariant-loop-k l = Reading l.circuits.frame.words.now l.k l.spans

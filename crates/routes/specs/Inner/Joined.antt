@@ -1,5 +1,5 @@
 -- What the rules 4 and 7 settle of an entry that the rules 9 and 10 ask: its circuit joins two nodes of the grid.
-use Rattle.std.specs.Prelude.{ℕ, ◌+◌, ◌*◌, ◌<◌, ◌≤◌, List, true, ◌≡◌}
+use Rattle.std.specs.Prelude.{ℕ, ◌+◌, ◌*◌, ◌<◌, ◌≤◌, List}
 use Rattle.words.specs.Tests.{◌<?◌}
 use Rattle.words.specs.Words.{pick, tab}
 use Rattle.torus.specs.Route.{router_cycles}
@@ -7,8 +7,6 @@ use Rattle.torus.specs.Inner.Grid.{InGrid}
 use Rattle.sheet.specs.declared.entries.Entry.{Entry}
 use Rattle.sheet.specs.Sheet.{columns, rows, circuits, circuit_at}
 use Rattle.sheet.specs.Flight.{hops_of, vertical_of}
-use Rattle.sheet.specs.Rules.{rule9}
-use Rattle.sheet.specs.Inner.Passed.{Ranged}
 
 pub record Joined (z : List ℕ) (e : Entry) : Type 0 where
   pub source_inside : InGrid (columns z) (rows z) (circuit_at z e.circuit).read.node
@@ -23,11 +21,6 @@ pub record Timed (z : List ℕ) (P : ℕ) (e : Entry) : Type 0 where
   pub size_low : 1 ≤ e.size
   pub size_high : e.size ≤ 16
   pub period_small : P ≤ 1024
-
--- the rules 1 to 7 and 9 are kept
-pub record Leading (z : List ℕ) : Type 0 where
-  pub ranged : Ranged z
-  pub routes_lead : rule9 z ≡ true
 
 -- the cycles of the hops between a circuit's nodes, which are a router's cycles fewer than its flight
 unfoldable pub circuit_span : List ℕ → ℕ → ℕ

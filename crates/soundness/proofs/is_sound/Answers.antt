@@ -15,7 +15,7 @@ returns-then-get-gt-SHEET_WORDS c =
     ]
 
 pub invariant_of-state : goal.invariant_of-state
-invariant_of-state c = record { own = c.sheet_of-z.ensures; framed = (routed _ (sym c.check_rules.ensures ∙ passed _ (sym c.is_err.ensures.value ∙ c.if-is_err.false))).ranged.framed }
+invariant_of-state c = record { framed = (routed _ (sym c.check_rules.ensures ∙ passed _ (sym c.is_err.ensures.value ∙ c.if-is_err.false))).ranged.framed }
 
 pub returns-then-extras_sound : goal.returns-then-extras_sound
 returns-then-extras_sound c =

@@ -1,4 +1,4 @@
--- What the functions of the grid require of a node.
+-- What the laws of the grid ask of a node; a Grid and a number below its nodes give it.
 use Rattle.std.specs.Prelude.{ℕ, ◌*◌, ◌<◌, ◌≤◌}
 
 -- a node of a grid of 2 to 4 columns and 2 to 4 rows

@@ -4,4 +4,4 @@ use Rattle.accept.proofs.ArrangedLaws.{Arranging}
 use Rattle.accept.proofs.circuits.circuits_arranged.Given as goal
 
 abbrev pub invariant-loop-k : goal.invariant-loop-k
-invariant-loop-k l = Arranging l.z l.k l.end l.from l.to
+invariant-loop-k l = Arranging l.frame.words.now l.k l.end l.from l.to

@@ -6,4 +6,4 @@ use Rattle.accept.proofs.circuits.keeps_circuits.Goals as goal
 pub returns-then-circuits_arranged : goal.returns-then-circuits_arranged
 returns-then-circuits_arranged c =
     let order = c.circuits_arranged.ensures.order c.if-circuits_arranged.true in
-    λ e. (order_four _ order, order_five _ c.requires order, c.reads_apart.ensures e)
+    λ e. (order_four _ order, order_five _ c.args.frame.framed order, c.reads_apart.ensures e)

@@ -3,4 +3,4 @@ use Rattle.accept.proofs.ArrangedLaws.{ReadApart}
 use Rattle.accept.proofs.circuits.read_apart.Given as goal
 
 abbrev pub invariant-loop-i : goal.invariant-loop-i
-invariant-loop-i l = ReadApart l.z l.k l.first l.i
+invariant-loop-i l = ReadApart l.circuits.frame.words.now l.k l.first l.i

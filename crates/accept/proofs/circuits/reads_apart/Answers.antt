@@ -11,10 +11,6 @@ use Rattle.accept.proofs.circuits.reads_apart.Goals.{After-circuit_within-node}
 pub loop-k-init : goal.loop-k-init
 loop-k-init c = reads_start _
 
-pub circuit_within-node-requires : goal.circuit_within-node-requires
-circuit_within-node-requires c =
-    (c.requires.0, omega (arith, c.circuits_of-k-end.ensures))
-
 pub overflow_cast-node : goal.overflow_cast-node
 overflow_cast-node c = search rules
 
@@ -22,7 +18,7 @@ overflow_cast-node c = search rules
 
 few : (c : After-circuit_within-node) → c.circuit_within-node.result.read.node < 16
 few c =
-    source_few _ c.requires.0 c.requires.1 c.loop-k.k (omega (arith, c.circuits_of-k-end.ensures)) _
+    source_few _ c.args.frame.framed c.requires.0 c.loop-k.k (omega (arith, c.circuits_of-k-end.ensures)) _
     c.circuit_within-node.ensures
 
 pub offset_bounds-from-node : goal.offset_bounds-from-node
@@ -30,22 +26,25 @@ offset_bounds-from-node c = omega (arith, few (goal.at.offset_bounds-from-node c
 
 pub bounds-from-node : goal.bounds-from-node
 bounds-from-node c =
-    omega (arith, few (goal.at.bounds-from-node c).After-circuit_within-node, c.requires.2.from_long)
+    omega (arith, few (goal.at.bounds-from-node c).After-circuit_within-node, c.requires.1.from_long)
 
 pub offset_bounds-to-node : goal.offset_bounds-to-node
 offset_bounds-to-node c = omega (arith, few (goal.at.offset_bounds-to-node c).After-circuit_within-node)
 
 pub bounds-to-node : goal.bounds-to-node
 bounds-to-node c =
-    omega (arith, few (goal.at.bounds-to-node c).After-circuit_within-node, c.requires.2.to_long)
+    omega (arith, few (goal.at.bounds-to-node c).After-circuit_within-node, c.requires.1.to_long)
+
+pub invariant_of-read_apart : goal.invariant_of-read_apart
+invariant_of-read_apart c = record { fit = order_four _ c.requires.0 }
 
 pub read_apart-requires : goal.read_apart-requires
 read_apart-requires c =
-    (c.requires.0, order_four _ c.requires.1, omega (arith, c.circuits_of-k-end.ensures), c.requires.2.below _)
+    (omega (arith, c.circuits_of-k-end.ensures), c.requires.1.below _)
 
 pub loop-k-preserved : goal.loop-k-preserved
 loop-k-preserved c =
-    reads_more _ _ _ c.loop-k.k c.loop-k.invariant c.requires.2 _ c.circuit_within-node.ensures
+    reads_more _ _ _ c.loop-k.k c.loop-k.invariant c.requires.1 _ c.circuit_within-node.ensures
     (c.read_apart.ensures c.if-not-read_apart.false)
 
 pub returns-then-not-read_apart : goal.returns-then-not-read_apart
@@ -54,5 +53,5 @@ returns-then-not-read_apart c = λ e. absurd (false≢true e)
 pub returns : goal.returns
 returns c =
     λ e.
-    reads_done _ c.loop-k.k c.requires.0 c.requires.1 c.loop-k.invariant
+    reads_done _ c.loop-k.k c.args.frame.framed c.requires.0 c.loop-k.invariant
     (omega (arith, c.circuits_of-k-end.ensures))

@@ -4,4 +4,4 @@ use Rattle.accept.proofs.ArrangedLaws.{ReadsApart}
 use Rattle.accept.proofs.circuits.reads_apart.Given as goal
 
 abbrev pub invariant-loop-k : goal.invariant-loop-k
-invariant-loop-k l = ReadsApart l.z l.k
+invariant-loop-k l = ReadsApart l.frame.words.now l.k

@@ -6,7 +6,7 @@ use Rattle.accept.proofs.schedules.keeps_schedule.Goals as goal
 
 pub place_entries-requires : goal.place_entries-requires
 place_entries-requires c =
-    let range = period_in c.args.z.now c.args.j _ c.schedule_period.ensures c.is_between.ensures c.if-is_between.true in
+    let range = period_in c.args.frame.words.now c.args.j _ c.schedule_period.ensures c.is_between.ensures c.if-is_between.true in
     (c.requires.0, range.0, range.1, c.requires.1)
 
 pub returns-else-is_between : goal.returns-else-is_between

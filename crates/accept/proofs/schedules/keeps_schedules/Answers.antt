@@ -15,7 +15,7 @@ pub overflow_mul-need-2 : goal.overflow_mul-need-2
 overflow_mul-need-2 c =
     omega (
       arith,
-      mul-le-mul {n₁ = c.nodes_of.result * 6} {m₁ = c.longest_period-longest.result / 32 + 2} {n₂ = 96} {m₂ = 34} (omega (arith, c.nodes_of.ensures.1)) (omega (arith, c.if-longest-gt1024.false)),
+      mul-le-mul {n₁ = c.nodes.result * 6} {m₁ = c.longest_period-longest.result / 32 + 2} {n₂ = 96} {m₂ = 34} (omega (arith, c.nodes.ensures.1)) (omega (arith, c.if-longest-gt1024.false)),
     )
 
 -- the tables hold all wires of the grid
@@ -24,25 +24,23 @@ wide e h = omega arith
 
 pub kept_in_tables-requires : goal.kept_in_tables-requires
 kept_in_tables-requires c =
-    let room = room_each c.args.z.now _ _ _ (ap (λ (n : ℕ). n * wires_per_node) c.nodes_of.ensures.0) c.longest_period-longest.ensures (omega arith) in
-    (c.requires.0, c.requires.1, omega arith, few_wires _ c.requires.0 room, omega arith, room)
+    let room = room_each c.args.circuits.frame.words.now _ _ _ (ap (λ (n : ℕ). n * wires_per_node) c.nodes.ensures.0) c.longest_period-longest.ensures (omega arith) in
+    (omega arith, few_wires _ c.args.circuits.frame.framed room, omega arith, room)
 
 pub kept_in_tables-requires-in-65-to-512 : goal.kept_in_tables-requires-in-65-to-512
 kept_in_tables-requires-in-65-to-512 c =
-    let room = room_each c.args.z.now _ _ _ (ap (λ (n : ℕ). n * wires_per_node) c.nodes_of.ensures.0) c.longest_period-longest.ensures (omega arith) in
-    (c.requires.0, c.requires.1, omega arith, wide c.nodes_of.ensures.0 c.nodes_of.ensures.1, omega arith, room)
+    let room = room_each c.args.circuits.frame.words.now _ _ _ (ap (λ (n : ℕ). n * wires_per_node) c.nodes.ensures.0) c.longest_period-longest.ensures (omega arith) in
+    (omega arith, wide c.nodes.ensures.0 c.nodes.ensures.1, omega arith, room)
 
 pub kept_in_tables-requires-in-513-to-1152 : goal.kept_in_tables-requires-in-513-to-1152
 kept_in_tables-requires-in-513-to-1152 c =
-    let room = room_each c.args.z.now _ _ _ (ap (λ (n : ℕ). n * wires_per_node) c.nodes_of.ensures.0) c.longest_period-longest.ensures (omega arith) in
-    (c.requires.0, c.requires.1, omega arith, wide c.nodes_of.ensures.0 c.nodes_of.ensures.1, omega arith, room)
+    let room = room_each c.args.circuits.frame.words.now _ _ _ (ap (λ (n : ℕ). n * wires_per_node) c.nodes.ensures.0) c.longest_period-longest.ensures (omega arith) in
+    (omega arith, wide c.nodes.ensures.0 c.nodes.ensures.1, omega arith, room)
 
 pub kept_in_tables-requires-in_default : goal.kept_in_tables-requires-in_default
 kept_in_tables-requires-in_default c = (
-  c.requires.0,
-  c.requires.1,
   omega arith,
-  wide c.nodes_of.ensures.0 c.nodes_of.ensures.1,
+  wide c.nodes.ensures.0 c.nodes.ensures.1,
   omega arith,
-  λ j h. room_largest _ c.requires.0 j (omega (arith, c.longest_period-longest.ensures j h, c.if-longest-gt1024.false)),
+  λ j h. room_largest _ c.args.circuits.frame.framed j (omega (arith, c.longest_period-longest.ensures j h, c.if-longest-gt1024.false)),
 )

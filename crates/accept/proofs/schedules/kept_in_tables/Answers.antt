@@ -4,4 +4,4 @@ use Rattle.accept.proofs.schedules.kept_in_tables.Goals as goal
 
 pub kept_in-requires : goal.kept_in-requires
 kept_in-requires g c =
-    (c.requires.0, c.requires.1, zeros_long g.row.WIRES _ c.requires.3, zeros_free g.row.WORDS, λ j h. zeros_long g.row.WORDS _ (c.requires.5 j h))
+    (zeros_long g.row.WIRES _ c.requires.1, zeros_free g.row.WORDS, λ j h. zeros_long g.row.WORDS _ (c.requires.3 j h))

@@ -9,12 +9,10 @@ use Rattle.accept.proofs.ScheduleLaws.{accepting_start, accepting_more, acceptin
 use Rattle.accept.proofs.schedules.place_entries.Goals as goal
 
 pub schedule_period-period-requires : goal.schedule_period-period-requires
-schedule_period-period-requires c =
-    (c.requires.0.framed, c.requires.0.here)
+schedule_period-period-requires c = c.requires.0.here
 
-pub entries_of-entries-requires : goal.entries_of-entries-requires
-entries_of-entries-requires c =
-    (c.requires.0.framed, c.requires.0.here)
+pub entries-entries-requires : goal.entries-entries-requires
+entries-entries-requires c = c.requires.0.here
 
 pub loop-i-init : goal.loop-i-init
 loop-i-init c =
@@ -23,16 +21,16 @@ loop-i-init c =
 pub overflow_mul-key : goal.overflow_mul-key
 overflow_mul-key c =
     let g = c.loop-i.invariant c.requires.0 c.requires.1 c.requires.2 in
-    let q = c.at-e.ensures ∙ ap (λ (l : List ℕ). entry_at l (c.loop-i.i)) c.entries_of-entries.ensures in
-    let t = fits_read c.args.z.now c.args.j _ _ _ c.circuits_of-circuits.ensures c.schedule_period-period.ensures
+    let q = c.at-e.ensures ∙ ap (λ (l : List ℕ). entry_at l (c.loop-i.i)) c.entries-entries.ensures in
+    let t = fits_read c.args.frame.words.now c.args.j _ _ _ c.circuits_of-circuits.ensures c.schedule_period-period.ensures
     c.fits.ensures c.if-not-fits.false in
     omega (arith, key_small _ _ _ _ _ _ _ _ _ _ _ g _ q t)
 
 pub overflow_add-key : goal.overflow_add-key
 overflow_add-key c =
     let g = c.loop-i.invariant c.requires.0 c.requires.1 c.requires.2 in
-    let q = c.at-e.ensures ∙ ap (λ (l : List ℕ). entry_at l (c.loop-i.i)) c.entries_of-entries.ensures in
-    let t = fits_read c.args.z.now c.args.j _ _ _ c.circuits_of-circuits.ensures c.schedule_period-period.ensures
+    let q = c.at-e.ensures ∙ ap (λ (l : List ℕ). entry_at l (c.loop-i.i)) c.entries-entries.ensures in
+    let t = fits_read c.args.frame.words.now c.args.j _ _ _ c.circuits_of-circuits.ensures c.schedule_period-period.ensures
     c.fits.ensures c.if-not-fits.false in
     omega (arith, key_small _ _ _ _ _ _ _ _ _ _ _ g _ q t)
 
@@ -48,16 +46,16 @@ returns-then-key-least c =
 pub offset_bounds-ends-e : goal.offset_bounds-ends-e
 offset_bounds-ends-e c =
     let g = c.loop-i.invariant c.requires.0 c.requires.1 c.requires.2 in
-    let q = c.at-e.ensures ∙ ap (λ (l : List ℕ). entry_at l (c.loop-i.i)) c.entries_of-entries.ensures in
-    let t = fits_read c.args.z.now c.args.j _ _ _ c.circuits_of-circuits.ensures c.schedule_period-period.ensures
+    let q = c.at-e.ensures ∙ ap (λ (l : List ℕ). entry_at l (c.loop-i.i)) c.entries-entries.ensures in
+    let t = fits_read c.args.frame.words.now c.args.j _ _ _ c.circuits_of-circuits.ensures c.schedule_period-period.ensures
     c.fits.ensures c.if-not-fits.false in
     omega (arith, ends_fits _ _ _ _ _ _ _ _ _ _ _ g _ q t, c.requires.0.ends_are.long)
 
 pub bounds-ends-e : goal.bounds-ends-e
 bounds-ends-e c =
     let g = c.loop-i.invariant c.requires.0 c.requires.1 c.requires.2 in
-    let q = c.at-e.ensures ∙ ap (λ (l : List ℕ). entry_at l (c.loop-i.i)) c.entries_of-entries.ensures in
-    let t = fits_read c.args.z.now c.args.j _ _ _ c.circuits_of-circuits.ensures c.schedule_period-period.ensures
+    let q = c.at-e.ensures ∙ ap (λ (l : List ℕ). entry_at l (c.loop-i.i)) c.entries-entries.ensures in
+    let t = fits_read c.args.frame.words.now c.args.j _ _ _ c.circuits_of-circuits.ensures c.schedule_period-period.ensures
     c.fits.ensures c.if-not-fits.false in
     ends_fits _ _ _ _ _ _ _ _ _ _ _ g _ q t
 
@@ -68,24 +66,24 @@ overflow_add-period c =
 pub overflow_add-e : goal.overflow_add-e
 overflow_add-e c =
     let g = c.loop-i.invariant c.requires.0 c.requires.1 c.requires.2 in
-    let q = c.at-e.ensures ∙ ap (λ (l : List ℕ). entry_at l (c.loop-i.i)) c.entries_of-entries.ensures in
-    let t = fits_read c.args.z.now c.args.j _ _ _ c.circuits_of-circuits.ensures c.schedule_period-period.ensures
+    let q = c.at-e.ensures ∙ ap (λ (l : List ℕ). entry_at l (c.loop-i.i)) c.entries-entries.ensures in
+    let t = fits_read c.args.frame.words.now c.args.j _ _ _ c.circuits_of-circuits.ensures c.schedule_period-period.ensures
     c.fits.ensures c.if-not-fits.false in
     omega (arith, sum_small _ _ _ _ _ _ _ _ _ _ _ g _ q t _ refl)
 
 pub overflow_sub-e : goal.overflow_sub-e
 overflow_sub-e c =
     let g = c.loop-i.invariant c.requires.0 c.requires.1 c.requires.2 in
-    let q = c.at-e.ensures ∙ ap (λ (l : List ℕ). entry_at l (c.loop-i.i)) c.entries_of-entries.ensures in
-    let t = fits_read c.args.z.now c.args.j _ _ _ c.circuits_of-circuits.ensures c.schedule_period-period.ensures
+    let q = c.at-e.ensures ∙ ap (λ (l : List ℕ). entry_at l (c.loop-i.i)) c.entries-entries.ensures in
+    let t = fits_read c.args.frame.words.now c.args.j _ _ _ c.circuits_of-circuits.ensures c.schedule_period-period.ensures
     c.fits.ensures c.if-not-fits.false in
     omega (arith, sizes _ _ _ _ _ _ _ _ _ _ _ g _ q t _ refl)
 
 pub overflow_add-e-in-loop-i : goal.overflow_add-e-in-loop-i
 overflow_add-e-in-loop-i c =
     let g = c.loop-i.invariant c.requires.0 c.requires.1 c.requires.2 in
-    let q = c.at-e.ensures ∙ ap (λ (l : List ℕ). entry_at l (c.loop-i.i)) c.entries_of-entries.ensures in
-    let t = fits_read c.args.z.now c.args.j _ _ _ c.circuits_of-circuits.ensures c.schedule_period-period.ensures
+    let q = c.at-e.ensures ∙ ap (λ (l : List ℕ). entry_at l (c.loop-i.i)) c.entries-entries.ensures in
+    let t = fits_read c.args.frame.words.now c.args.j _ _ _ c.circuits_of-circuits.ensures c.schedule_period-period.ensures
     c.fits.ensures c.if-not-fits.false in
     omega (arith, sum_small _ _ _ _ _ _ _ _ _ _ _ g _ q t _ refl)
 
@@ -101,23 +99,23 @@ returns-then-period-e c =
 pub place_entry-requires : goal.place_entry-requires
 place_entry-requires c =
     let g = c.loop-i.invariant c.requires.0 c.requires.1 c.requires.2 in
-    let q = c.at-e.ensures ∙ ap (λ (l : List ℕ). entry_at l (c.loop-i.i)) c.entries_of-entries.ensures in
-    let t = fits_read c.args.z.now c.args.j _ _ _ c.circuits_of-circuits.ensures c.schedule_period-period.ensures
+    let q = c.at-e.ensures ∙ ap (λ (l : List ℕ). entry_at l (c.loop-i.i)) c.entries-entries.ensures in
+    let t = fits_read c.args.frame.words.now c.args.j _ _ _ c.circuits_of-circuits.ensures c.schedule_period-period.ensures
     c.fits.ensures c.if-not-fits.false in
     (placeable_next _ _ _ _ _ _ _ _ _ _ _ g _ q t _ refl _ (ap (λ (x : ℕ). x / 32 + 2) c.schedule_period-period.ensures), c.is_long-long.ensures)
 
 pub overflow_add-least : goal.overflow_add-least
 overflow_add-least c =
     let g = c.loop-i.invariant c.requires.0 c.requires.1 c.requires.2 in
-    let q = c.at-e.ensures ∙ ap (λ (l : List ℕ). entry_at l (c.loop-i.i)) c.entries_of-entries.ensures in
-    let t = fits_read c.args.z.now c.args.j _ _ _ c.circuits_of-circuits.ensures c.schedule_period-period.ensures
+    let q = c.at-e.ensures ∙ ap (λ (l : List ℕ). entry_at l (c.loop-i.i)) c.entries-entries.ensures in
+    let t = fits_read c.args.frame.words.now c.args.j _ _ _ c.circuits_of-circuits.ensures c.schedule_period-period.ensures
     c.fits.ensures c.if-not-fits.false in
     omega (arith, key_small _ _ _ _ _ _ _ _ _ _ _ g _ q t)
 
 pub loop-i-preserved : goal.loop-i-preserved
 loop-i-preserved c =
-    let q = c.at-e.ensures ∙ ap (λ (l : List ℕ). entry_at l c.loop-i.i) c.entries_of-entries.ensures in
-    let t = fits_read c.args.z.now c.args.j _ _ _ c.circuits_of-circuits.ensures c.schedule_period-period.ensures
+    let q = c.at-e.ensures ∙ ap (λ (l : List ℕ). entry_at l c.loop-i.i) c.entries-entries.ensures in
+    let t = fits_read c.args.frame.words.now c.args.j _ _ _ c.circuits_of-circuits.ensures c.schedule_period-period.ensures
     c.fits.ensures c.if-not-fits.false in
     λ p l h.
     accepting_more _ _ _ _ _ p l h _ _ _ (c.loop-i.invariant p l h) _ q t _ refl (omega (arith, c.if-key-least.false))
@@ -152,5 +150,5 @@ returns c =
     let g = c.loop-i.invariant c.requires.0 c.requires.1 c.requires.2 in record {
       long = g.room_is;
       kept = λ y.
-          accepting_done _ _ _ _ _ _ _ _ _ _ _ g (omega (arith, ap (λ (l : List ℕ). entry_count l) c.entries_of-entries.ensures));
+          accepting_done _ _ _ _ _ _ _ _ _ _ _ g (omega (arith, ap (λ (l : List ℕ). entry_count l) c.entries-entries.ensures));
     }

@@ -7,5 +7,5 @@ use Rattle.accept.proofs.ScheduleLaws.{Accepting}
 use Rattle.accept.proofs.schedules.place_entries.Given as goal
 
 abbrev pub invariant-loop-i : goal.invariant-loop-i
-invariant-loop-i turn = (p : Schedulable (length turn.initial.table) turn.near turn.z turn.ends turn.j) (l : 9 ≤ period_of turn.z turn.j) (h : period_of turn.z turn.j ≤ 1024)
-    → Accepting (length turn.initial.table) turn.near turn.z turn.ends turn.j p l h turn.i turn.least turn.table
+invariant-loop-i turn = (p : Schedulable (length turn.initial.table) turn.near turn.frame.words.now turn.ends turn.j) (l : 9 ≤ period_of turn.frame.words.now turn.j) (h : period_of turn.frame.words.now turn.j ≤ 1024)
+    → Accepting (length turn.initial.table) turn.near turn.frame.words.now turn.ends turn.j p l h turn.i turn.least turn.table

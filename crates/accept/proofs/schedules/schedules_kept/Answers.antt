@@ -20,7 +20,7 @@ loop-j-init c = (
 
 pub keeps_schedule-requires-in-loop-j : goal.keeps_schedule-requires-in-loop-j
 keeps_schedule-requires-in-loop-j c = (
-  subst (λ (n : ℕ). Schedulable n c.args.near.now c.args.z.now c.args.ends.now c.loop-j.j)
+  subst (λ (n : ℕ). Schedulable n c.args.near.now c.args.frame.words.now c.args.ends.now c.loop-j.j)
       (sym (c.fill.ensures.len ∙ c.loop-j.invariant.1 ∙ c.keeps_schedule.ensures.long))
       (c.requires.0 c.loop-j.j (omega (arith, c.loop-j.invariant.0))),
   subst Free (sym (c.fill.ensures.after (λ y e. e))) (zeros_free _),
@@ -42,4 +42,4 @@ shape_of-table c = c.loop-j.invariant.1 ∙ c.keeps_schedule.ensures.long
 
 pub returns : goal.returns
 returns c =
-    λ y. subst (KeptAll c.args.z.now) (omega (arith, c.loop-j.invariant.0)) c.loop-j.invariant.2
+    λ y. subst (KeptAll c.args.frame.words.now) (omega (arith, c.loop-j.invariant.0)) c.loop-j.invariant.2

@@ -6,4 +6,4 @@ use Rattle.accept.specs.Inner.Placing.{KeptAll}
 use Rattle.accept.proofs.schedules.schedules_kept.Given as goal
 
 abbrev pub invariant-loop-j : goal.invariant-loop-j
-invariant-loop-j l = (l.j-end ≡ schedules l.z) × (length l.table ≡ length l.initial.table) × (KeptAll l.z l.j)
+invariant-loop-j l = (l.j-end ≡ schedules l.frame.words.now) × (length l.table ≡ length l.initial.table) × (KeptAll l.frame.words.now l.j)

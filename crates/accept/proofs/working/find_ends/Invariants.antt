@@ -4,4 +4,4 @@ use Rattle.accept.proofs.WorkingLaws.{Finding}
 use Rattle.accept.proofs.working.find_ends.Given as goal
 
 abbrev pub invariant-loop-k : goal.invariant-loop-k
-invariant-loop-k l = Finding l.z l.k l.ends
+invariant-loop-k l = Finding l.circuits.frame.words.now l.k l.ends

@@ -3,4 +3,4 @@ use Rattle.accept.proofs.WorkingLaws.{Longest}
 use Rattle.accept.proofs.working.longest_period.Given as goal
 
 abbrev pub invariant-loop-j : goal.invariant-loop-j
-invariant-loop-j l = Longest l.z l.j l.longest
+invariant-loop-j l = Longest l.frame.words.now l.j l.longest

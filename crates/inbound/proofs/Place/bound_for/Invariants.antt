@@ -6,4 +6,4 @@ use Rattle.inbound.proofs.Place.bound_for.Given as goal
 
 abbrev pub invariant-loop : goal.invariant-loop
 invariant-loop l =
-    Walking (bound_for furthest l.self.z.now (l.self.k / 5) l.output l.word) l.self.z.now l.cols l.rows l.at l.by l.header (furthest - l.counter)
+    Walking (bound_for furthest l.self.z.now (l.self.k / 5) l.output l.word) l.self.z.now l.grid.cols l.grid.rows l.at l.by l.header (furthest - l.counter)

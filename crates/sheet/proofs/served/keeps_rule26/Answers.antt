@@ -9,25 +9,17 @@ use Rattle.sheet.proofs.served.keeps_rule26.Goals as goal
 pub loop-c-init : goal.loop-c-init
 loop-c-init c = (c.circuits_of-c-end.ensures, sym (all_none _))
 
-pub offset_bounds-marks-c : goal.offset_bounds-marks-c
-offset_bounds-marks-c c =
-    omega (arith, c.loop-c.invariant.0, c.requires.framed.headed.circuits_high)
-
-pub bounds-marks-c : goal.bounds-marks-c
-bounds-marks-c c =
-    omega (arith, c.loop-c.invariant.0, c.requires.framed.headed.circuits_high)
-
 pub returns-then-marks-c-eq0 : goal.returns-then-marks-c-eq0
 unfolding rule26
 returns-then-marks-c-eq0 c =
     let few = c.requires.framed.headed.circuits_high in
     all_fails _ _ c.loop-c.c (omega (arith, c.loop-c.invariant.0))
-    (unmarked _ _ c.served_marks-marks.ensures _ (omega (arith, c.loop-c.invariant.0, few)) c.if-marks-c-eq0.true)
+    (unmarked _ _ c.mark_served.ensures _ (omega (arith, c.loop-c.invariant.0, few)) c.if-marks-c-eq0.true)
 
 pub loop-c-preserved : goal.loop-c-preserved
 loop-c-preserved c =
     let few = c.requires.framed.headed.circuits_high in
-    let served = has_mark _ _ c.served_marks-marks.ensures _ (omega (arith, c.loop-c.invariant.0, few)) c.if-marks-c-eq0.false in
+    let served = has_mark _ _ c.mark_served.ensures _ (omega (arith, c.loop-c.invariant.0, few)) c.if-marks-c-eq0.false in
     (c.loop-c.invariant.0, all_more _ _ c.loop-c.invariant.1 served)
 
 pub returns : goal.returns

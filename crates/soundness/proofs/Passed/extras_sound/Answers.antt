@@ -12,4 +12,4 @@ returns-then-not-is_long c =
     ap not c.if-not-is_long.true ∙ extras_short s.state.now _ (sym (ap is_long s.own) ∙ sym c.is_long.ensures ∙ c.if-not-is_long.true)
 
 pub returns-else-not-is_long : goal.returns-else-not-is_long
-returns-else-not-is_long c = let s = c.args.self.now in all_range (extra_sound s.state.now) refl (ap (λ (n : ℕ). n * 5) (c.nodes_of.ensures.0 ∙ ap nodes s.own)) c.all.ensures.ran (λ x b q k. search rules)
+returns-else-not-is_long c = let s = c.args.self.now in all_range (extra_sound s.state.now) refl (ap (λ (n : ℕ). n * 5) (c.nodes.ensures.0 ∙ ap nodes s.own)) c.all.ensures.ran (λ x b q k. search rules)

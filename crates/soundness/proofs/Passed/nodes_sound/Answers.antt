@@ -6,4 +6,4 @@ use Rattle.soundness.specs.Sound.{node_sound}
 use Rattle.soundness.proofs.Passed.nodes_sound.Goals as goal
 
 pub returns : goal.returns
-returns c = let s = c.args.self.now in all_range (node_sound s.state.now) refl (c.nodes_of.ensures.0 ∙ ap nodes s.own) c.all.ensures.ran (λ x b q k. search rules)
+returns c = let s = c.args.self.now in all_range (node_sound s.state.now) refl (c.nodes.ensures.0 ∙ ap nodes s.own) c.all.ensures.ran (λ x b q k. search rules)

@@ -1,6 +1,0 @@
--- `clash::apart_in` meets its contract: a table of zeros is free.
-use Rattle.clash.proofs.RoomLaws.{ready_zeros}
-use Rattle.clash.proofs.apart_in.Goals as goal
-
-pub entries_apart-requires : goal.entries_apart-requires
-entries_apart-requires g c = ready_zeros g.row.WORDS _ _ c.requires.0 c.requires.1 c.requires.2
