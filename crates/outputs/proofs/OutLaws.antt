@@ -1,14 +1,11 @@
 -- The out registers: the five of a node, place by place and row by row, and those of all nodes of a mask, one node after the other.
 -- Assumes nothing.
-use Prim.Native.Nat.{ℕ, zero, suc, ◌+◌, ◌*◌, ◌<◌, ◌≤◌}
+use Prim.Native.Nat.{ℕ, ◌+◌, ◌*◌, ◌<◌, ◌≤◌}
 use mathlib.Core.List.{List}
 use mathlib.Core.Path.{◌≡◌, refl, sym, subst, ◌∙◌, ap}
 use native.Mathlib.Omega.{arith}
 use native.Mathlib.Decide.{ℕ_discrete, dec_lt}
-use lib.ListN.{length, take, drop, set, length-drop}
-use lib.Seq.{paste, paste-zero, paste-suc, length-take-le, get_or-take, get_or-drop}
-use borrow.Rule.Slice.PartMut.{put_mid}
-use Rattle.std.proofs.lemmas.Slice.{put_mid-paste}
+use lib.ListN.{length, drop, set}
 use Rattle.words.specs.Words.{word}
 use Rattle.occupancy.specs.declared.TakenPlaces.{TakenPlaces}
 use Rattle.occupancy.proofs.WalkLaws.{Gave}
@@ -21,13 +18,13 @@ use Rattle.outputs.specs.Inner.Written.{NodeOuts}
 use Rattle.links.proofs.WalkLaws.{StaysBeside, Walked, walk_inside, walk_at, walk_more}
 
 -- the places of a row from place k to the one before end have what the table has there, and nothing else changed
-record Copied (row k end : ℕ) (table s now : List ℕ) : Type 0 where
-  same_length : length now ≡ length s
-  same_rest : drop moving_words now ≡ drop moving_words s
-  copied : (j : ℕ) → k ≤ j → j < end → reg now row j ≡ word table j
-  beside : (other j : ℕ) → other < row_count → j < row_words → (other ≡ row → k ≤ j → j < end → ⊥) → reg now other j ≡ reg s other j
+pub record Copied (row k end : ℕ) (table s now : List ℕ) : Type 0 where
+  pub same_length : length now ≡ length s
+  pub same_rest : drop moving_words now ≡ drop moving_words s
+  pub copied : (j : ℕ) → k ≤ j → j < end → reg now row j ≡ word table j
+  pub beside : (other j : ℕ) → other < row_count → j < row_words → (other ≡ row → k ≤ j → j < end → ⊥) → reg now other j ≡ reg s other j
 
-copied_none : (row k : ℕ) (table s : List ℕ) → Copied row k k table s s
+pub copied_none : (row k : ℕ) (table s : List ℕ) → Copied row k k table s s
 copied_none row k table s = record {
   same_length = refl;
   same_rest = refl;
@@ -56,53 +53,17 @@ module _ (row k : ℕ) (table s : List ℕ) (rl : row < row_count) (long : movin
           ap (reg (put now row end w) row) e ∙ put_same now row end w (omega (arith, g.same_length)) ∙ sym (ap (word table) e)
       go j a b (no ne) = put_other now row end w row j (λ e. ne (omega arith)) ∙ g.copied j a (omega (arith, ne))
 
-  -- with place and end as code has them
-  copied_more : (end next place : ℕ) (now : List ℕ) → k ≤ end → end < row_words → end + 1 ≡ next → row * row_words + end ≡ place
-      → Copied row k end table s now → Copied row k next table s (set now place (word table end))
-  copied_more end next place now kl el e p g =
-      subst (λ (i : ℕ). Copied row k i table s (set now place (word table end))) e
-      (subst (λ (i : ℕ). Copied row k (end + 1) table s (set now i (word table end))) p (copied_put end now kl el g))
+  -- with the place as code has it
+  pub copied_more : (end : ℕ) (now : List ℕ) → k ≤ end → end < row_words → Copied row k end table s now
+      → Copied row k (end + 1) table s (set now (row * row_words + end) (word table end))
+  copied_more end now kl el g = copied_put end now kl el g
 
--- as many places as are pasted
-module _ (row k : ℕ) (table s part : List ℕ) (rl : row < row_count) (kl : k + 4 < row_words) (long : moving_words ≤ length s) (five : length part ≡ 5)
-    (same : (i : ℕ) → i < 5 → word part i ≡ word table (k + i)) where
-  copied_paste : (i : ℕ) → i ≤ 5 → Copied row k (k + i) table s (paste s (row * row_words + k) part i)
-  copied_paste zero l =
-      let none : k ≡ k + 0 = omega arith in
-      subst (λ (n : ℕ). Copied row k n table s (paste s (row * row_words + k) part 0)) none
-      (subst (Copied row k k table s) (paste-zero s (row * row_words + k) part) (copied_none row k table s))
-  copied_paste (suc i) l =
-      let before = copied_paste i (omega arith) in
-      subst (Copied row k (k + suc i) table s)
-      (ap (set (paste s (row * row_words + k) part i) (row * row_words + k + i)) (sym (same i (omega arith)))
-      ∙ paste-suc s (row * row_words + k) part i 0 (omega arith) (omega arith))
-      (copied_more row k table s rl long (k + i) (k + suc i) (row * row_words + k + i) _ (omega arith) (omega arith) (omega arith) (omega arith) before)
-
--- five places of a row, as a part of the words that was set to a part of the table
-copied_five : (row k : ℕ) (table s : List ℕ) (at size count : ℕ) (part : List ℕ) → row < row_count → k + 4 < row_words → moving_words ≤ length s
-    → length table ≡ row_words → at ≡ row * row_words + k → size ≡ 5 → count ≡ 5 → part ≡ take count (drop k table)
-    → Copied row k (k + 5) table s (put_mid at size s part)
-copied_five row k table s at size count part rl kl long whole a n c e =
-    let cut : part ≡ take 5 (drop k table) = e ∙ ap (λ (i : ℕ). take i (drop k table)) c in
-    let enough : 5 ≤ length (drop k table) = omega (arith, length-drop k table) in
-    let five : length (take 5 (drop k table)) ≡ 5 = length-take-le 5 (drop k table) enough in
-    let place : row * row_words + k ≡ at = omega arith in
-    subst (λ (i : ℕ). Copied row k (k + 5) table s (put_mid i size s part)) place
-    (subst (Copied row k (k + 5) table s)
-    (sym (put_mid-paste (row * row_words + k) size s part (take 5 (drop k table)) 5 cut (sym n) (sym five)))
-    (copied_paste row k table s (take 5 (drop k table)) rl kl long five
-    (λ i l. get_or-take 5 (drop k table) i 0 l ∙ get_or-drop k table i 0) 5 (omega arith)))
-
--- the marks, then the words
-pub outs_set : (k : ℕ) (marks cells s : List ℕ) (at₁ size₁ count₁ at₂ size₂ count₂ : ℕ) (part₁ part₂ : List ℕ) → k + 4 < row_words → moving_words ≤ length s
-    → length marks ≡ row_words → length cells ≡ row_words
-    → at₁ ≡ out_mark * row_words + k → size₁ ≡ 5 → count₁ ≡ 5 → part₁ ≡ take count₁ (drop k marks)
-    → at₂ ≡ out_word * row_words + k → size₂ ≡ 5 → count₂ ≡ 5 → part₂ ≡ take count₂ (drop k cells)
-    → NodeOuts k marks cells s (put_mid at₂ size₂ (put_mid at₁ size₁ s part₁) part₂)
-outs_set k marks cells s at₁ size₁ count₁ at₂ size₂ count₂ part₁ part₂ kl long ml cl a₁ n₁ c₁ e₁ a₂ n₂ c₂ e₂ =
-    let first = copied_five out_mark k marks s at₁ size₁ count₁ part₁ (omega arith) kl long ml a₁ n₁ c₁ e₁ in
-    let second =
-    copied_five out_word k cells (put_mid at₁ size₁ s part₁) at₂ size₂ count₂ part₂ (omega arith) kl (omega (arith, first.same_length)) cl a₂ n₂ c₂ e₂ in
+-- both rows, as the loops over five places leave them
+pub outs_set : (k end : ℕ) (marks cells s between now : List ℕ) (end' : ℕ) → end ≡ k + 5 → end' ≡ k + 5 → k + 4 < row_words → Copied out_mark k end marks s between
+    → Copied out_word k end' cells between now → NodeOuts k marks cells s now
+outs_set k end marks cells s between now end' e e' kl g h =
+    let first = subst (λ (i : ℕ). Copied out_mark k i marks s between) e g in
+    let second = subst (λ (i : ℕ). Copied out_word k i cells between now) e' h in
     record {
       same_length = second.same_length ∙ first.same_length;
       same_rest = second.same_rest ∙ first.same_rest;

@@ -15,10 +15,12 @@ fn step_node_outs(s: &mut [u32], k: usize, marks: &[u32], cells: &[u32])
     requires { (k + 4 < row_words) × (moving_words ≤ length s.old) × (length marks.now ≡ row_words) × (length cells.now ≡ row_words) }
     ensures { NodeOuts k marks.now cells.now s.old s.new }
 {
-    let marks_at = OUT_MARKS + k;
-    let words_at = OUT_WORDS + k;
-    s[marks_at..marks_at + 5].copy_from_slice(&marks[k..k + 5]);
-    s[words_at..words_at + 5].copy_from_slice(&cells[k..k + 5]);
+    for at in k..k + 5 {
+        s[OUT_MARKS + at] = marks[at];
+    }
+    for at in k..k + 5 {
+        s[OUT_WORDS + at] = cells[at];
+    }
 }
 
 // The out registers of all nodes, of which those beside the mask have what they should have already. A cycle that has no fault meets the

@@ -1,6 +1,6 @@
 -- Whether a state is still: words joined by or are 0 where all of them are, row by row and place by place.
 -- Assumes nothing.
-use Prim.Native.Nat.{ℕ, ◌+◌, ◌-◌, ◌*◌, ◌<◌}
+use Prim.Native.Nat.{ℕ, ◌+◌, ◌*◌}
 use mathlib.Core.Bool.{Bool, true, false, false≢true}
 use mathlib.Core.List.{List}
 use mathlib.Core.Path.{◌≡◌, refl, sym, ◌∙◌, ap}
@@ -8,8 +8,6 @@ use native.Mathlib.Omega.{arith}
 use native.Mathlib.Numerals.{add-one}
 use native.Mathlib.Decide.{ℕ_discrete}
 use lib.Bits.{bit_or, or_zero_l, or_add_and, and_le_r}
-use lib.ListN.{take, drop}
-use Rattle.std.proofs.lemmas.List.{get_or-take, get_or-drop}
 use Rattle.words.specs.Tests.{all, ◌and◌, ◌=?◌}
 use Rattle.words.specs.Words.{word}
 use Rattle.words.proofs.TestLaws.{and_no, and_on, and_left, yes=, no=}
@@ -50,12 +48,10 @@ joined_start p = yes= refl
 pub joined_more : (p : ℕ → Bool) (joined here k : ℕ) → (joined =? 0) ≡ all k p → (here =? 0) ≡ p k → (bit_or joined here =? 0) ≡ all (k + 1) p
 joined_more p joined here k e h = or_next _ joined here e ∙ ap (λ (t : Bool). all k p and t) h ∙ all_next p k
 
--- a word of a row, among its first words
-pub row_word : (s : List ℕ) (row count k : ℕ) → k < count
-    → (word (take (row * row_words + count - row * row_words) (drop (row * row_words) s)) k =? 0) ≡ (reg s row k =? 0)
+-- a word of a row
+pub row_word : (s : List ℕ) (row k : ℕ) → (word s (row * row_words + k) =? 0) ≡ (reg s row k =? 0)
 unfolding reg
-row_word s row count k l =
-    ap (λ (w : ℕ). w =? 0) (get_or-take _ (drop (row * row_words) s) k 0 (omega arith) ∙ get_or-drop (row * row_words) s k 0)
+row_word s row k = refl
 
 -- the words of the routers' rows at a place
 pub place_is : (s : List ℕ) (k : ℕ)

@@ -25,8 +25,8 @@ fn row_joined(s: &[u32], row: u32, count: u32) -> u32
 {
     let from = row as usize * ROW_WORDS;
     let mut joined: u32 = 0;
-    for word in &s[from..from + count as usize] {
-        joined |= *word;
+    for k in 0..count as usize {
+        joined |= s[from + k];
     }
     joined
 }

@@ -2,7 +2,7 @@
 -- Assumes nothing.
 use Prim.Native.Nat.{ℕ, zero, suc, ◌+◌, ◌-◌, ◌*◌, ◌/◌, ◌%◌, ◌<◌, ◌≤◌}
 use mathlib.Core.Bool.{Bool, true, false}
-use mathlib.Core.List.{List, [], ◌∷◌}
+use mathlib.Core.List.{List}
 use mathlib.Core.Path.{◌≡◌, refl, sym, subst, ◌∙◌, ap}
 use native.Mathlib.Omega.{arith}
 use native.Mathlib.Numerals.{add-one}
@@ -10,15 +10,13 @@ use native.Mathlib.Decide.{ℕ_discrete, dec_le}
 use mir.Val.{bool_byte}
 use lib.Bits.{bit_or}
 use lib.ListN.{length, set, length-set}
-use lib.ListN.{get_or, take, drop}
-use lib.Seq.{get_or-take, get_or-drop, get_or-set_same, get_or-set_other}
-use Rattle.std.specs.Prelude.{fold}
+use lib.Seq.{get_or-set_same, get_or-set_other}
 use Rattle.words.specs.Tests.{any, ◌and◌, ◌or◌, ◌≤?◌, ◌=?◌}
 use Rattle.words.specs.Words.{word, pick}
 use Rattle.words.proofs.AllLaws.{any_at, any_none}
 use Rattle.words.proofs.TestLaws.{and_no, and_both, and_no_right, or_yes, or_on, is=, yes=, no=, yes≤, no≤}
 use Rattle.network.specs.Registers.{reg, head_mark, head_word, choice_row, row_words}
-use Rattle.routers.specs.Inner.Crossing.{asking, unchosen_at, Crossed, HeadsEmpty, CrossedInputs}
+use Rattle.routers.specs.Inner.Crossing.{asking, unchosen_at, Crossed, CrossedInputs}
 use Rattle.network.proofs.ChoiceLaws.{same_pick}
 use Rattle.routers.proofs.PlaceLaws.{zero_pick}
 use Rattle.links.proofs.PairLaws.{or_left, or_right}
@@ -248,27 +246,26 @@ module _ (s : List ℕ) (k : ℕ) (marks cells : List ℕ) (ml : length marks �
         subst (λ m. Crossed s k marks cells m cells' 0) (sym a)
         (subst (λ w. Crossed s k marks cells (set marks place mark) w 0) (sym b) (stored old oe free h he))
 
--- the marks of five inputs, joined by or, are 0
-or_zero : (marks : List ℕ) (start : ℕ) → fold bit_or start marks ≡ 0 → (start ≡ 0) × ((i : ℕ) → get_or marks i 0 ≡ 0)
-or_zero [] start e = (e, λ i. refl)
-or_zero (mark ∷ marks) start e = go (or_zero marks (bit_or start mark) e)
-  where
-    at : bit_or start mark ≡ 0 → ((i : ℕ) → get_or marks i 0 ≡ 0) → (i : ℕ) → get_or (mark ∷ marks) i 0 ≡ 0
-    at both rest zero = or_right start mark both
-    at both rest (suc i) = rest i
+-- the marks of the first inputs, joined by or: each is 0 where what they make is
+abbrev pub HeadsJoined : List ℕ → ℕ → ℕ → ℕ → Type 0
+HeadsJoined s k input joined = joined ≡ 0 → (i : ℕ) → i < input → reg s head_mark (k + i) ≡ 0
 
-    go : (bit_or start mark ≡ 0) × ((i : ℕ) → get_or marks i 0 ≡ 0) → (start ≡ 0) × ((i : ℕ) → get_or (mark ∷ marks) i 0 ≡ 0)
-    go (both, rest) = (or_left start mark both, at both rest)
+pub heads_none : (s : List ℕ) (k : ℕ) → HeadsJoined s k 0 0
+heads_none s k e i l = absurd (omega arith)
 
-pub heads_empty : (s : List ℕ) (k joined count : ℕ) → count ≡ 5 → joined ≡ fold bit_or 0 (take count (drop (head_mark * row_words + k) s)) → joined ≡ 0
-    → HeadsEmpty s k
+pub heads_more : (s : List ℕ) (k input joined : ℕ) → HeadsJoined s k input joined
+    → HeadsJoined s k (input + 1) (bit_or joined (word s (head_mark * row_words + k + input)))
 unfolding reg
-heads_empty s k joined count five e z input l =
-    let at : head_mark * row_words + (k + input) ≡ head_mark * row_words + k + input = omega arith in
-    ap (λ i. word s i) at
-    ∙ sym (get_or-drop (head_mark * row_words + k) s input 0)
-    ∙ sym (get_or-take count (drop (head_mark * row_words + k) s) input 0 (omega arith))
-    ∙ (or_zero (take count (drop (head_mark * row_words + k) s)) 0 (sym e ∙ z)).1 input
+heads_more s k input joined before e i l = go (ℕ_discrete i input)
+  where
+    here : ℕ
+    here = word s (head_mark * row_words + k + input)
+
+    go : Dec (i ≡ input) → reg s head_mark (k + i) ≡ 0
+    go (yes q) =
+        let at : head_mark * row_words + (k + i) ≡ head_mark * row_words + k + input = omega arith in
+        ap (λ n. word s n) at ∙ or_right joined here e
+    go (no ne) = before (or_left joined here e) i (omega arith)
 
 -- inputs without a word: the tables stay
 module _ (s : List ℕ) (marks cells : List ℕ) (ml : length marks ≡ row_words) (cl : length cells ≡ row_words) where

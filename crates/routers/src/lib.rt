@@ -84,9 +84,11 @@ fn heads_joined(s: &[u32], k: u32) -> u32
     ensures { result ≡ 0 → HeadsEmpty s.now k }
 {
     let from = HEAD_MARKS + k as usize;
-    s[from..from + 5]
-        .iter()
-        .fold(0, |joined, mark| joined | mark)
+    let mut joined: u32 = 0;
+    for input in 0..5 {
+        joined |= s[from + input];
+    }
+    joined
 }
 
 // The five inputs of a node, from input k on, one after the other; most nodes have no word there, which one test tells. Answers how many

@@ -4,5 +4,5 @@ use Rattle.words.specs.Tests.{all, ◌=?◌}
 use Rattle.network.specs.Registers.{reg}
 use Rattle.quiet.proofs.row_joined.Given as goal
 
-abbrev pub invariant-loop-word : goal.invariant-loop-word
-invariant-loop-word l = (l.joined =? 0) ≡ all l.word-index (λ i. reg l.s l.row i =? 0)
+abbrev pub invariant-loop-k : goal.invariant-loop-k
+invariant-loop-k l = (l.joined =? 0) ≡ all l.k (λ i. reg l.s l.row i =? 0)
