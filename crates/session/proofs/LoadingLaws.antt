@@ -1,12 +1,10 @@
 -- A load: the words afterwards, from the loops that cleared and copied.
 -- Assumes nothing.
-use Rattle.std.proofs.Common.{◌≡◌, ℕ, ◌+◌, ◌<◌, ◌≤◌, List, [], ◌∷◌, ◌++◌, length, take, drop, set, sym, refl, ap, ◌∙◌, append_assoc, add-one, arith, length-append, drop-cons, drop-drop, take_at, drop_at, replicate, length-take-le}
-use lib.Seq.{set_at, append_snoc, take-length, paste}
-use borrow.Rule.Slice.PartMut.{put_mid}
-use Rattle.std.proofs.lemmas.Slice.{put_mid-paste}
+use Rattle.std.proofs.Common.{◌≡◌, ℕ, ◌+◌, ◌<◌, ◌≤◌, List, [], ◌∷◌, ◌++◌, length, take, drop, set, sym, refl, ap, ◌∙◌, append_assoc, add-one, arith, length-append, length-set, drop-cons, drop-drop, take_at, drop_at, replicate, length-take-le}
+use lib.Seq.{set_at, append_snoc, take-length, paste, paste-zero, paste-suc}
 use Rattle.words.proofs.TableLaws.{tab_zeros}
 use Rattle.words.specs.Tests.{◌=?◌}
-use Rattle.words.specs.Words.{pick, tab}
+use Rattle.words.specs.Words.{word, pick, tab}
 use Rattle.words.proofs.WordLaws.{length_tab}
 use Rattle.sheet.specs.Sheet.{blank_sheet, meant}
 use Rattle.network.specs.Registers.{moving_words, state_words, sheet_words}
@@ -28,6 +26,36 @@ set_next front s n w e l =
 
 zeros_of : (n : ℕ) (s : List ℕ) → n ≤ length s → replicate (length (take n s)) 0 ≡ zeros n
 zeros_of n s l = ap (λ (k : ℕ). replicate k 0) (length-take-le n s l) ∙ tab_zeros n
+
+-- the loop that copies: so many words of the list are at their places
+pub record Copied (before now : List ℕ) (at : ℕ) (from : List ℕ) (n : ℕ) : Type 0 where
+  pub copied : now ≡ paste before at from n
+  pub inside : n ≤ length from
+  pub long : length now ≡ length before
+  pub fits : at + length from ≤ length before
+
+pub copy_start : (s : List ℕ) (at : ℕ) (from : List ℕ) → at + length from ≤ length s → Copied s s at from 0
+copy_start s at from h = record { copied = paste-zero s at from; inside = omega arith; long = refl; fits = h }
+
+pub copy_more : (s r : List ℕ) (at : ℕ) (from : List ℕ) (n : ℕ) → Copied s r at from n → n < length from
+    → Copied s (set r (at + n) (word from n)) at from (n + 1)
+copy_more s r at from n g l =
+    let h : at + n < length s = omega (arith, g.fits) in
+    record {
+      copied =
+          ap (λ (x : List ℕ). set x (at + n) (word from n)) g.copied
+          ∙ paste-suc s at from n 0 h l
+          ∙ ap (paste s at from) (sym (add-one n));
+      inside = omega arith;
+      long = length-set r (at + n) (word from n) ∙ g.long;
+      fits = g.fits;
+    }
+
+pub copy_done : (s r : List ℕ) (at : ℕ) (from : List ℕ) (n : ℕ) → Copied s r at from n → length from ≤ n
+    → r ≡ paste s at from (length from)
+copy_done s r at from n g l =
+    let e : n ≡ length from = omega (arith, g.inside) in
+    g.copied ∙ ap (paste s at from) e
 
 -- the words in front, then a word, then a list, over any number n of words in front
 module _ (front s z : List ℕ) (n w : ℕ) (e : length front ≡ n) (l : n < length s) where
@@ -54,16 +82,13 @@ module _ (front s z : List ℕ) (n w : ℕ) (e : length front ≡ n) (l : n < le
       ∙ append_assoc front (w ∷ z) (drop (n + 1 + length z) s)
 
 -- so it is for the state's words
-pub loaded_is : (z s front copied : List ℕ) (k : ℕ)
+pub loaded_is : (z s front : List ℕ)
     → state_words ≤ length s
     → front ≡ replicate (length (take moving_words s)) 0
-    → copied ≡ z
-    → length z ≡ k
-    → put_mid (moving_words + 1) k (set (front ++ drop moving_words s) moving_words (length z)) copied ≡ loaded z s
+    → paste (set (front ++ drop moving_words s) moving_words (length z)) (moving_words + 1) z (length z) ≡ loaded z s
 unfolding loaded
-loaded_is z s front copied k long f g e =
-    put_mid-paste (moving_words + 1) k (set (front ++ drop moving_words s) moving_words (length z)) copied z (length z) g e refl
-    ∙ ap (λ (x : List ℕ). paste (set (x ++ drop moving_words s) moving_words (length z)) (moving_words + 1) z (length z)) (f ∙ zeros_of moving_words s (omega arith))
+loaded_is z s front long f =
+    ap (λ (x : List ℕ). paste (set (x ++ drop moving_words s) moving_words (length z)) (moving_words + 1) z (length z)) (f ∙ zeros_of moving_words s (omega arith))
     ∙ pasted (zeros moving_words) s z moving_words (length z) (length_tab moving_words _) (omega arith)
 
 -- what a load that is not refused has room for

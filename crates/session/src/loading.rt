@@ -1,6 +1,7 @@
 // Load: a sheet that passes is put into the lent state, and every moving word becomes 0. A refusal writes nothing. No words stand for an
 // idle network, whose words the state then holds.
-ghost use Rattle.std.specs.Prelude.{◌≡◌, ◌≤◌, length};
+ghost use Rattle.std.specs.Prelude.{◌≡◌, ◌+◌, ◌≤◌, length};
+ghost use Rattle.std.proofs.Math.Seq.{paste};
 ghost use Rattle.words.specs.Tests.{◌=?◌};
 ghost use Rattle.words.specs.Words.{pick};
 ghost use Rattle.refusal.specs.Numbers.{number_of};
@@ -26,15 +27,24 @@ fn check_load(sheet: &[u32], s: &[u32], m: &[u32]) -> Result<(), Refusal>
     Ok(())
 }
 
+// Copies words to a place on, where put_sheet has seen that they fit; std's copy_from_slice would need memmove of whoever links the calls.
+fn copy_words(s: &mut [u32], at: usize, from: &[u32])
+    requires { at + length from.now ≤ length s.old }
+    ensures { s.new ≡ paste s.old at from.now (length from.now) }
+{
+    for k in 0..from.len() {
+        s[at + k] = from[k];
+    }
+}
+
 // Zeros the moving words, and puts the sheet behind its length; a load that is not refused has room for it.
 fn put_sheet(sheet: &[u32], s: &mut [u32])
     requires { (length sheet.now ≤ sheet_words) × (state_words ≤ length s.old) }
     ensures { s.new ≡ loaded sheet.now s.old }
 {
-    let at = network::MOVING_WORDS + 1;
     s[..network::MOVING_WORDS].fill(0);
     s[network::MOVING_WORDS] = sheet.len() as u32;
-    s[at..at + sheet.len()].copy_from_slice(sheet);
+    copy_words(s, network::MOVING_WORDS + 1, sheet);
 }
 
 // Loads a sheet's words as they stand; load gives them or those that no words stand for.

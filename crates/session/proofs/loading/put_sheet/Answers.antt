@@ -1,5 +1,5 @@
 -- `session::loading::put_sheet` meets its contract: zeros, the length and the sheet's words are put in turn.
-use Rattle.std.proofs.Common.{sym, rules, arith, length-take-le}
+use Rattle.std.proofs.Common.{sym, ◌∙◌, rules, arith, length-take-le}
 use Rattle.session.proofs.LoadingLaws.{loaded_is}
 use Rattle.session.proofs.loading.put_sheet.Goals as goal
 
@@ -7,4 +7,4 @@ pub slice_bounds-fill-end-2 : goal.slice_bounds-fill-end-2
 slice_bounds-fill-end-2 c = sym (length-take-le _ _ (omega arith))
 
 pub returns : goal.returns
-returns c = loaded_is _ _ _ _ _ c.requires.1 (c.fill.ensures.after (λ y e. search rules)) c.copy_from_slice.ensures.after (omega arith)
+returns c = c.copy_words.ensures ∙ loaded_is _ _ _ c.requires.1 (c.fill.ensures.after (λ y e. search rules))
