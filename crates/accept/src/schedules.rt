@@ -24,8 +24,9 @@ fn place_entries(table: &mut [u32], near: &[u32], frame: Frame, ends: &[u32], j:
     let entries = frame.entries(j);
     let stride = ((period / 32) as usize) + 2;
     let mut least: u32 = 0;
-    for i in 0..entries.len() / 4 {
-        let e = Entry::at(entries, i);
+    let mut at = 0;
+    while at < entries.len() {
+        let e = Entry::at(entries, at / 4);
         if !e.fits(circuits, period) {
             return false;
         }
@@ -41,6 +42,7 @@ fn place_entries(table: &mut [u32], near: &[u32], frame: Frame, ends: &[u32], j:
             return false;
         }
         least = key + 1;
+        at += 4;
     }
     true
 }
