@@ -15,7 +15,7 @@ use refusal::Refusal;
 
 // The tables of a cycle: the slots that begin, by circuit, the marks and words on the source wires, by node, and those on the outputs. Marks and
 // words are apart, as in the rows of the state that C lends: pairs would be put together at each reading and taken apart at each writing.
-#[derive(Drop)]
+#[derive(Clone, Copy)]
 pub struct Prepared {
     pub slots: [u32; 64],
     pub marks: [u32; 16],
