@@ -1,2 +1,3 @@
 pub mod BatchLaws
 pub mod ListsLaws
+pub mod WalkLaws

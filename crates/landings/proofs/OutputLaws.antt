@@ -6,8 +6,8 @@ use mathlib.Core.List.{List, [], ◌++◌, append_assoc, append-nil}
 use mathlib.Core.Path.{◌≡◌, refl, sym, ◌∙◌, ap}
 use native.Mathlib.Omega.{arith}
 use native.Mathlib.Nat.{add-zero, add-suc}
-use lib.ListN.{length, take, drop, replicate, length-append}
-use lib.Seq.{take-append_seam, drop_at}
+use lib.ListN.{length, take, drop, replicate, length-append, take-append-drop}
+use lib.Seq.{take-append_seam, drop_at, length-take-le}
 use Rattle.sheet.specs.Sheet.{meant, nodes}
 use Rattle.network.specs.Registers.{sheet_in, state_words}
 use Rattle.soundness.proofs.SheetLaws.{sheet_bounds}
@@ -54,6 +54,32 @@ has_whole part e p = has_front part [] (e ∙ sym (append-nil part)) p
 
 pub has_back : (before part : List ℕ) {text : List ℕ} {place : ℕ} → text ≡ before ++ part → place ≡ length before → HasAt text place part
 has_back before part e p = has_between before part [] (e ∙ ap (λ (x : List ℕ). before ++ x) (sym (append-nil part))) p
+
+-- and where it has two parts one behind the other, it has each
+module _ (a b text : List ℕ) (place : ℕ) (h : HasAt text place (a ++ b)) where
+  behind_both : List ℕ
+  behind_both = drop (length (a ++ b)) (drop place text)
+
+  split : text ≡ take place text ++ (a ++ (b ++ behind_both))
+  unfolding behind_both
+  split =
+      sym (take-append-drop place text)
+      ∙ ap (λ (x : List ℕ). take place text ++ x)
+      (sym (take-append-drop (length (a ++ b)) (drop place text))
+      ∙ ap (λ (x : List ℕ). x ++ drop (length (a ++ b)) (drop place text)) h.1
+      ∙ append_assoc a b (drop (length (a ++ b)) (drop place text)))
+
+  front_long : length (take place text) ≡ place
+  front_long = length-take-le place text (omega (arith, h.0))
+
+  pub has_first : HasAt text place a
+  has_first = has_between (take place text) a (b ++ behind_both) split (sym front_long)
+
+  pub has_second : {next : ℕ} → next ≡ place + length a → HasAt text next b
+  has_second q =
+      has_between (take place text ++ a) b behind_both
+      (split ∙ sym (append_assoc (take place text) a (b ++ behind_both)))
+      (omega (arith, q, front_long, length-append (take place text) a))
 
 -- an input that runs: its words are all there, and no call before the cycles is refused
 both_run : (a b : Message) → behind a b ≡ Runs → (a ≡ Runs) × (b ≡ Runs)

@@ -5,6 +5,7 @@ use mathlib.Core.List.{List, [], ◌++◌, append-nil}
 use mathlib.Core.Path.{◌≡◌, refl, sym, ◌∙◌, ap, subst}
 use native.Mathlib.Omega.{arith}
 use native.Mathlib.Decide.{dec_lt}
+use lib.ListN.{length}
 use Rattle.sheet.specs.Sheet.{nodes}
 use Rattle.occupancy.specs.Inner.Occupancy.{bit_at}
 use Rattle.network.specs.declared.Live.{Live}
@@ -13,7 +14,7 @@ use Rattle.network.specs.Registers.{reg, sheet_in, landing_mark}
 use Rattle.network.specs.Inner.Live.{Covered}
 use Rattle.session.specs.Calls.{state_number, memory_number, last_landing, Lent, lend, cycle, number, after}
 use Rattle.session.specs.Inner.Resting.{Rested}
-use Rattle.session.proofs.KeptLaws.{sheet_same}
+use Rattle.session.proofs.KeptLaws.{state_length_kept, sheet_same}
 use Rattle.session.proofs.ReadingLaws.{memory_state}
 use Rattle.session.proofs.ReadyLaws.{after_has, ready_after}
 use Rattle.landings.specs.Lines.{line_for, cycle_lines, cycles_lines, cycles_on}
@@ -41,6 +42,12 @@ cycles_sheet n w = cycles_have kept (λ x p. after_has kept cycle x (λ e. sheet
   where
     kept : Lent → Type 0
     kept x = sheet_in x.state ≡ sheet_in w.state
+
+pub cycles_long : (n : ℕ) (w : Lent) → length (cycles_on n w).state ≡ length w.state
+cycles_long n w = cycles_have kept (λ x p. after_has kept cycle x (λ e. state_length_kept cycle x e ∙ p) p) n w refl
+  where
+    kept : Lent → Type 0
+    kept x = length x.state ≡ length w.state
 
 cycles_ready : (n : ℕ) (w : Lent) → memory_number w.state w.memory ≡ 0 → memory_number (cycles_on n w).state (cycles_on n w).memory ≡ 0
 cycles_ready n w r = cycles_have (λ (x : Lent). memory_number x.state x.memory ≡ 0) (λ x p. ready_after cycle x refl p) n w r
