@@ -289,16 +289,19 @@ module _ (nodes first last : ℕ) (w : Lent) (start s m page : List ℕ) (at tim
       ∙ put_all_front start text (omega (arith, i.placed, i.fits))
 
   -- the page as it is handed back, with the words that are left and what ended it
-  abbrev PageMade : List ℕ → List ℕ → ℕ → Type 0
-  PageMade s' m' refusal =
+  abbrev PageOf : ℕ → List ℕ → List ℕ → ℕ → Type 0
+  PageOf count s' m' refusal =
       record {
-        cycles : Paged first last w (time - first) refusal;
-        words : lend s' m' ≡ cycles_on (time - first) w;
-        lines : take at page ≡ cycles_lines nodes first (time - first) w;
-        buffer : page ≡ put_all start 0 (cycles_lines nodes first (time - first) w);
+        cycles : Paged first last w count refusal;
+        words : lend s' m' ≡ cycles_on count w;
+        lines : take at page ≡ cycles_lines nodes first count w;
+        buffer : page ≡ put_all start 0 (cycles_lines nodes first count w);
         fits : at ≤ length page;
         ready : memory_number s' m' ≡ 0;
       }
+
+  abbrev PageMade : List ℕ → List ℕ → ℕ → Type 0
+  PageMade s' m' refusal = PageOf (time - first) s' m' refusal
 
   page_made : {s' m' : List ℕ} {refusal : ℕ} → lend s' m' ≡ lend s m → Paged first last w (time - first) refusal → PageMade s' m' refusal
   page_made f e = record {
@@ -330,17 +333,18 @@ module _ (nodes first last : ℕ) (w : Lent) (start s m page : List ℕ) (at tim
           absurd (let y : ⊥ = omega (arith, full, i.long, all, free, none) in y)
       some (no ne) = omega (arith, ne)
 
-  -- a cycle is refused, and changes nothing
-  pub fill_refused : {s' m' : List ℕ} {n : ℕ} → lend s' m' ≡ after cycle (lend s m) → n ≡ number cycle (lend s m) → (n ≡ 0 → ⊥)
-      → time < last
-      → PageMade s' m' n
-  fill_refused f e ne l =
-      page_made (f ∙ ap₂ lend (sym (state_kept cycle (lend s m) e ne)) (sym (memory_kept cycle (lend s m) e ne))) (record {
+  -- a cycle is refused, and changes nothing; the page has just those before it, however their number is written
+  pub fill_refused : {s' m' : List ℕ} {n count : ℕ} → lend s' m' ≡ after cycle (lend s m) → n ≡ number cycle (lend s m) → (n ≡ 0 → ⊥)
+      → time < last → time - first ≡ count
+      → PageOf count s' m' n
+  fill_refused {s'} {m'} {n} f e ne l q =
+      subst (λ (k : ℕ). PageOf k s' m' n) q
+      (page_made (f ∙ ap₂ lend (sym (state_kept cycle (lend s m) e ne)) (sym (memory_kept cycle (lend s m) e ne))) (record {
         in_time = omega (arith, i.begun, l);
         is_carried_out = i.carried;
         some = λ z. absurd (ne z);
         stopped = λ no. (omega (arith, i.begun, l), e ∙ ap (number cycle) i.words);
-      })
+      }))
 
   pub fill_done : last ≤ time → PageMade s m 0
   fill_done l =

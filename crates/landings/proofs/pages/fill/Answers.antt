@@ -39,8 +39,9 @@ cycle_live-requires c = ((still (goal.at.cycle_live-requires c).Else-crossed-ne0
 pub returns-in-Err : goal.returns-in-Err
 returns-in-Err c =
     let cycled = c.in-Err.ensures in
-    fill_refused _ _ _ _ _ _ _ _ _ _ (still (goal.at.returns-in-Err c).Else-crossed-ne0) (cycle_after _ _ cycled.state cycled.memory) cycled.number
-    (is_some _) c.loop-time-test.true
+    let filling = still (goal.at.returns-in-Err c).Else-crossed-ne0 in
+    fill_refused _ _ _ _ _ _ _ _ _ _ filling (cycle_after _ _ cycled.state cycled.memory) cycled.number (is_some _) c.loop-time-test.true
+    (omega (arith, filling.begun))
 
 pub put_cycle-at-requires : goal.put_cycle-at-requires
 put_cycle-at-requires c =
