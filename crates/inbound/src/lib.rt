@@ -35,9 +35,9 @@ struct Place<'a> {
 impl Place<'_> {
     // The node to whose memory a header on an output of the place's node comes, if it comes to one. The outputs of its own registers and
     // of their headers meet the requires, here and below.
-    fn bound_for(&self, output: u32, word: u32) -> Option<u32>
+    fn bound_for(self, output: u32, word: u32) -> Option<u32>
         requires { output < ports }
-        ensures { one_more result ≡ bound_for furthest self.now.z.now (self.now.k / ports) output word }
+        ensures { one_more result ≡ bound_for furthest self.entry.z.now (self.entry.k / ports) output word }
     {
         let grid = sheet::grid_of(self.z);
         let mut at = self.k / network::OUTPUTS;
@@ -58,10 +58,11 @@ impl Place<'_> {
         }
     }
 
-    // A header on an output of the place's node comes into a region; its address is tested first, since most headers are of other regions.
-    fn comes_into(&self, region: Region, output: u32, word: u32) -> bool
+    // A header on an output of the place's node comes into a region; its address is tested first, since most headers are of other regions. The
+    // place is handed over by value: lent, it would be written to memory at each place, also where there is no header.
+    fn comes_into(self, region: Region, output: u32, word: u32) -> bool
         requires { output < ports }
-        ensures { result ≡ comes_into self.now.z.now region (self.now.k / ports) output word }
+        ensures { result ≡ comes_into self.entry.z.now region (self.entry.k / ports) output word }
     {
         in_region(region, Header(word).address())
             && self.bound_for(output, word) == Some(region.node)

@@ -5,10 +5,10 @@ use Rattle.inbound.proofs.Place.comes_into.Goals as goal
 pub returns-then-in_region : goal.returns-then-in_region
 returns-then-in_region c =
     let a = c.args in
-    comes_by a.self.now.z.now a.region _ a.output a.word c.address.ensures c.in_region.ensures c.if-in_region.true
+    comes_by a.self.z.now a.region _ a.output a.word c.address.ensures c.in_region.ensures c.if-in_region.true
     (stands_at _ _ c.bound_for.ensures c.eq.ensures)
 
 pub returns-else-in_region : goal.returns-else-in_region
 returns-else-in_region c =
     let a = c.args in
-    comes_elsewhere a.self.now.z.now a.region _ a.output a.word c.address.ensures c.in_region.ensures c.if-in_region.false
+    comes_elsewhere a.self.z.now a.region _ a.output a.word c.address.ensures c.in_region.ensures c.if-in_region.false
