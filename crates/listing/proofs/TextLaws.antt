@@ -47,12 +47,18 @@ module _ (n end : ℕ) (w : n < 4294967296) (text : List ℕ) (e : text ≡ deci
   pub field_place : (at : ℕ) → at + length text + 1 ≡ at + length (field n end)
   field_place at = omega (arith, ap length field_is, length-append text (end ∷ []))
 
-  pub field_bytes : (s : List ℕ) (at : ℕ) → at + length text ≤ length s
-      → set (put_mid at (at + length text - at) s text) (at + length text) end ≡ put_all s at (field n end)
-  field_bytes s at h =
+  -- a field whose digits are the last that were written there: what was put there before them does not count
+  pub field_bytes : (s t digits : List ℕ) (at : ℕ) → at + length text ≤ length s
+      → digits ≡ text
+      → take at t ≡ take at s
+      → drop (at + length text) t ≡ drop (at + length text) s
+      → set (put_mid at (at + length text - at) t digits) (at + length text) end ≡ put_all s at (field n end)
+  field_bytes s t digits at h last before behind =
       let same : at + length text - at ≡ length text = omega arith in
-      ap (λ k. set (put_mid at k s text) (at + length text) end) same
-      ∙ ap (λ (b : List ℕ). set (take at s ++ (text ++ b)) (at + length text) end) (drop-drop (length text) at s)
+      ap (λ k. set (put_mid at k t digits) (at + length text) end) same
+      ∙ ap (λ (b : List ℕ). set (take at t ++ (digits ++ b)) (at + length text) end) (drop-drop (length text) at t ∙ behind)
+      ∙ ap (λ (b : List ℕ). set (take at t ++ (b ++ drop (at + length text) s)) (at + length text) end) last
+      ∙ ap (λ (b : List ℕ). set (b ++ (text ++ drop (at + length text) s)) (at + length text) end) before
       ∙ ap (λ (b : List ℕ). set b (at + length text) end) (sym (put_all_is s text at h))
       ∙ put_all_one s text at end (at + length text) refl
       ∙ ap (put_all s at) field_is
