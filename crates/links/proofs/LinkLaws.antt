@@ -8,7 +8,7 @@ use native.Mathlib.Omega.{arith}
 use native.Mathlib.Numerals.{add-one}
 use native.Mathlib.Decide.{ℕ_discrete, dec_lt}
 use lib.Bits.{bit_or}
-use lib.ListN.{length}
+use lib.ListN.{length, length-set}
 use Rattle.words.specs.Tests.{◌=?◌, ◌<?◌}
 use Rattle.words.specs.Words.{word, pick}
 use Rattle.words.proofs.TestLaws.{is=, yes=, no=, yes<, no<}
@@ -126,6 +126,30 @@ pushed_none s cols count node vertical g = go 4 (omega arith)
     go (suc n) l =
         push_idle s cols count node n (side_row vertical n) (sides_each s node vertical g n (omega arith))
         ∙ ap (λ (x : List ℕ). pushed_by x cols count node n (side_row vertical n)) (go n (omega arith))
+
+-- the state stays as long as it is
+pushed_long : (s : List ℕ) (cols count node side row : ℕ) → length (pushed_by s cols count node side row) ≡ length s
+unfolding pushed_by linked
+pushed_long s cols count node side row = go (bit_or (reg s row (at node side)) (reg s (row + 1) (at node side)) =? 0)
+  where
+    k : ℕ
+    k = place_by cols count node side
+
+    mark : ℕ
+    mark = reg s row (at node side)
+
+    w : ℕ
+    w = reg s (row + 1) (at node side)
+
+    go : (b : Bool) → length (pick b s (put (put s link_mark k mark) link_word k w)) ≡ length s
+    go true = refl
+    go false = length-set (put s link_mark k mark) (link_word * row_words + k) w ∙ length-set s (link_mark * row_words + k) mark
+
+pub pushed_length : (n : ℕ) (s : List ℕ) (cols count node vertical : ℕ) → length (pushed_sides n s cols count node vertical) ≡ length s
+unfolding pushed_sides
+pushed_length zero s cols count node vertical = refl
+pushed_length (suc n) s cols count node vertical =
+    pushed_long (pushed_sides n s cols count node vertical) cols count node n (side_row vertical n) ∙ pushed_length n s cols count node vertical
 
 -- one link more
 module _ (s : List ℕ) (cols count node vertical : ℕ) where

@@ -12,18 +12,20 @@ ghost use Rattle.network.specs.Inner.Stages.{stage, link_from};
 ghost use Rattle.network.specs.Inner.Live.{EmptyBeside};
 ghost use Rattle.links.specs.Inner.Linking.{linked, pushed_by, KeptBeside, sourced, SourcesBeside, SidesEmpty, side_row, pushed_sides, extended};
 
-use network::{LINK_MARKS, LINK_WORDS, MOST_NODES, ROW_WORDS, put_reg, reg};
+use network::{LINK_MARKS, LINK_WORDS, MOST_NODES, ROW_WORDS, put_reg, put_row_reg, reg, row_reg};
 use torus::Grid;
 
-// No sheet has more nodes than the largest grid, and no state has fewer words than its rows; each loop below returns at once where that
-// were not so, so that a compiler can know every place to be in its row, and every row in the state, and leave out the test at each access.
+// No sheet has more nodes than the largest grid, and no state has fewer words than its rows; the stages return at once where that were not so,
+// so that a compiler can know every place to be in its row, and every row in the state, and leave out the test at each access that is not by
+// a proved index.
 
 // Puts a mark and a word into link register k.
 fn put_link(s: &mut [u32], k: u32, mark: u32, word: u32)
+    requires { (k < row_words) × (moving_words ≤ length s.old) }
     ensures { s.new ≡ linked s.old k mark word }
 {
-    put_reg(s, network::LINK_MARK, k, mark);
-    put_reg(s, network::LINK_WORD, k, word);
+    put_row_reg(s, network::LINK_MARK, k, mark);
+    put_row_reg(s, network::LINK_WORD, k, word);
 }
 
 // The row of the marks that come out of vertical links: of the extra registers where these links are long, else of the outputs. In both
@@ -52,13 +54,13 @@ fn clear_links(s: &mut [u32], count: u32)
 // What comes out of a side's link, the mark from a row and the word from the row behind it, goes into the link register of the neighbour's
 // opposite side; where both are 0, that register is left empty. The answer is the mask of that neighbour, or of no node.
 fn push_side(s: &mut [u32], grid: Grid, node: u32, side: u32, row: u32) -> u64
-    requires { (node < grid.cols * grid.rows) × (side < 4) × (row ≤ extra_mark) }
+    requires { (node < grid.cols * grid.rows) × (side < 4) × (row ≤ extra_mark) × (moving_words ≤ length s.old) }
     ensures state { s.new ≡ pushed_by s.old grid.cols grid.rows node side row }
     ensures live { KeptBeside result s.old s.new }
 {
     let from = node * 5 + side;
-    let mark = reg(s, row, from);
-    let word = reg(s, row + 1, from);
+    let mark = row_reg(s, row, from);
+    let word = row_reg(s, row + 1, from);
     if mark | word == 0 {
         return 0;
     }

@@ -1,9 +1,9 @@
 // The clocked network over a session state that lies in lent words: the register map, and the header stage.
 #![tactic(auto)]
 
-ghost use Rattle.std.specs.Prelude.{◌≡◌, ◌%◌};
+ghost use Rattle.std.specs.Prelude.{◌≡◌, ◌%◌, ◌<◌, ◌≤◌, length};
 ghost use Rattle.network.specs.Cycle.{output_for, has_extra};
-ghost use Rattle.network.specs.Registers.{reg as reg_of, put, sheet_in, latch_row, link_mark, link_word};
+ghost use Rattle.network.specs.Registers.{reg as reg_of, put, sheet_in, moving_words, row_count, row_words, latch_row, link_mark, link_word};
 ghost use Rattle.network.specs.Inner.Machine.{next_head_word, next_latch};
 
 use packet::Header;
@@ -153,6 +153,24 @@ pub fn put_reg(s: &mut [u32], row: u32, k: u32, word: u32)
     ensures { s.new ≡ put s.old row k word }
 {
     words::put(s, (row as usize) * ROW_WORDS + (k as usize), word);
+}
+
+// Register k of a row by a proved index, so that nothing is tested on the way: for what a stage reads at each node in every cycle. Whoever has
+// a state's rows, and a place in one, meets the requires, here and below.
+pub fn row_reg(s: &[u32], row: u32, k: u32) -> u32
+    requires { (row < row_count) × (k < row_words) × (moving_words ≤ length s.now) }
+    ensures { result ≡ reg_of s.now row k }
+{
+    s[(row as usize) * ROW_WORDS + (k as usize)]
+}
+
+// Sets register k of a row by a proved index.
+pub fn put_row_reg(s: &mut [u32], row: u32, k: u32, word: u32)
+    requires { (row < row_count) × (k < row_words) × (moving_words ≤ length s.old) }
+    ensures { s.new ≡ put s.old row k word }
+{
+    let place = (row as usize) * ROW_WORDS + (k as usize);
+    s[place] = word;
 }
 
 // The sheet in a state's words: so many words as the state says, or as many as are there.

@@ -14,11 +14,11 @@ ghost use Rattle.network.specs.Inner.Live.{EmptyBeside, Stays};
 ghost use Rattle.routers.specs.Inner.Crossing.{Crossed, HeadsEmpty, CrossedInputs};
 ghost use Rattle.routers.specs.Inner.Stepping.{head_stepped, heads_stepped};
 
-use network::{HEAD_MARKS, MOST_NODES, ROW_WORDS, put_reg, reg};
+use network::{HEAD_MARKS, MOST_NODES, ROW_WORDS, put_reg, put_row_reg, reg, row_reg};
 
-// No sheet has more nodes than the largest grid, nor more places than a row has words, and no state has fewer words than its rows; loops
-// whose places are not proved indices return at once where that were not so, so that a compiler can know every place to be in its row, and
-// every row in the state, and leave out the test at each access.
+// No sheet has more nodes than the largest grid, nor more places than a row has words, and no state has fewer words than its rows; the stages
+// return at once where that were not so, so that a compiler can know every place to be in its row, and every row in the state, and leave out
+// the test at each access that is not by a proved index.
 
 // Marks from this one on are those of payload words.
 const PAYLOAD_MARK: u32 = 2;
@@ -54,14 +54,14 @@ pub fn has_unheld(s: &[u32], count: u32) -> bool
 // The word of input k goes to the output that was chosen for it, where no other word is yet; 1 where one is, or where a payload word has
 // no choice, else 0: a number to be added up, since a flag in its place made the crossbar slower (measured, docs/PROOF-NOTES.md).
 fn cross_input(s: &[u32], k: u32, marks: &mut [u32], cells: &mut [u32]) -> u32
-    requires { (k < row_words) × (length marks.old ≡ row_words) × (length cells.old ≡ row_words) }
+    requires { (k < row_words) × (moving_words ≤ length s.now) × (length marks.old ≡ row_words) × (length cells.old ≡ row_words) }
     ensures { Crossed s.now k marks.old cells.old marks.new cells.new result }
 {
-    let mark = reg(s, network::HEAD_MARK, k);
+    let mark = row_reg(s, network::HEAD_MARK, k);
     if mark == 0 {
         return 0;
     }
-    let choice = reg(s, network::CHOICE_ROW, k);
+    let choice = row_reg(s, network::CHOICE_ROW, k);
     if choice == 0 {
         return u32::from(PAYLOAD_MARK <= mark);
     }
@@ -69,11 +69,11 @@ fn cross_input(s: &[u32], k: u32, marks: &mut [u32], cells: &mut [u32]) -> u32
         return 0;
     }
     let place = ((k / 5) * 5 + choice - 1) as usize;
-    if words::get(marks, place) != 0 {
+    if marks[place] != 0 {
         return 1;
     }
-    words::put(marks, place, mark);
-    words::put(cells, place, reg(s, network::HEAD_WORD, k));
+    marks[place] = mark;
+    cells[place] = row_reg(s, network::HEAD_WORD, k);
     0
 }
 
@@ -143,48 +143,50 @@ pub fn cross(s: &[u32], nodes: u32, marks: &mut [u32], cells: &mut [u32]) -> boo
 
 // The output chosen for the word in link register k: a header's own, a payload word's by the latch; one more than it, 0 for none.
 fn next_choice(s: &[u32], k: u32) -> u32
+    requires { (k < row_words) × (moving_words ≤ length s.now) }
     ensures { result ≡ next_choice (k % 5) (reg_of s.now latch_row k) (reg_of s.now link_mark k) (reg_of s.now link_word k) }
 {
-    match reg(s, network::LINK_MARK, k) {
+    match row_reg(s, network::LINK_MARK, k) {
         0 => 0,
-        1 => network::output_for(k % 5, reg(s, network::LINK_WORD, k)) + 1,
-        _ => reg(s, network::LATCH_ROW, k),
+        1 => network::output_for(k % 5, row_reg(s, network::LINK_WORD, k)) + 1,
+        _ => row_reg(s, network::LATCH_ROW, k),
     }
 }
 
-// The header stage of input k for a word that is there, whose mark step_head has read, which so meets the requires.
+// The header stage of input k for a word that is there. step_head has read its mark, and hands on what it requires itself.
 fn step_head_word(s: &mut [u32], k: u32, mark: u32)
-    requires { mark ≡ reg_of s.old link_mark k }
+    requires { (mark ≡ reg_of s.old link_mark k) × (k < row_words) × (moving_words ≤ length s.old) }
     ensures { s.new ≡ head_stepped s.old k }
 {
-    let word = network::next_head_word(mark, reg(s, network::LINK_WORD, k));
+    let word = network::next_head_word(mark, row_reg(s, network::LINK_WORD, k));
     let choice = next_choice(s, k);
     let latch = network::next_latch(s, k);
-    put_reg(s, network::HEAD_MARK, k, mark);
-    put_reg(s, network::HEAD_WORD, k, word);
-    put_reg(s, network::CHOICE_ROW, k, choice);
-    put_reg(s, network::LATCH_ROW, k, latch);
+    put_row_reg(s, network::HEAD_MARK, k, mark);
+    put_row_reg(s, network::HEAD_WORD, k, word);
+    put_row_reg(s, network::CHOICE_ROW, k, choice);
+    put_row_reg(s, network::LATCH_ROW, k, latch);
 }
 
 // The header stage of input k: its mark, its word, its choice, and its latch, which is left alone where the link register is empty, as
 // most are.
 fn step_head(s: &mut [u32], k: u32)
+    requires { (k < row_words) × (moving_words ≤ length s.old) }
     ensures { s.new ≡ head_stepped s.old k }
 {
-    let mark = reg(s, network::LINK_MARK, k);
+    let mark = row_reg(s, network::LINK_MARK, k);
     if mark != 0 {
         step_head_word(s, k, mark);
         return;
     }
-    let word = reg(s, network::LINK_WORD, k);
-    put_reg(s, network::HEAD_MARK, k, 0);
-    put_reg(s, network::HEAD_WORD, k, word);
-    put_reg(s, network::CHOICE_ROW, k, 0);
+    let word = row_reg(s, network::LINK_WORD, k);
+    put_row_reg(s, network::HEAD_MARK, k, 0);
+    put_row_reg(s, network::HEAD_WORD, k, word);
+    put_row_reg(s, network::CHOICE_ROW, k, 0);
 }
 
 // The header stages of the five inputs from input k on.
 fn step_node_heads(s: &mut [u32], k: u32)
-    requires { k + 4 < row_words }
+    requires { (k + 4 < row_words) × (moving_words ≤ length s.old) }
     ensures { s.new ≡ heads_stepped 5 s.old k }
 {
     for input in 0..5 {

@@ -14,7 +14,7 @@ pub overflow_add-from : goal.overflow_add-from
 overflow_add-from c = let b = bounds (node_of c.args.grid c.requires.0) in omega arith
 
 pub returns-then-mark-word-eq0 : goal.returns-then-mark-word-eq0
-returns-then-mark-word-eq0 c = record { state = push_none _ _ _ _ _ _ _ _ c.reg-mark.ensures c.reg-word.ensures c.if-mark-word-eq0.true; live = beside_none _ _ }
+returns-then-mark-word-eq0 c = record { state = push_none _ _ _ _ _ _ _ _ c.row_reg-mark.ensures c.row_reg-word.ensures c.if-mark-word-eq0.true; live = beside_none _ _ }
 
 pub overflow_mul-near : goal.overflow_mul-near
 overflow_mul-near c =
@@ -28,9 +28,13 @@ pub only-requires : goal.only-requires
 only-requires c =
     omega (arith, near_few (node_of c.args.grid c.requires.0) _ c.neighbour-near.ensures)
 
+pub put_link-requires : goal.put_link-requires
+put_link-requires c =
+    (omega (arith, near_few (node_of c.args.grid c.requires.0) _ c.neighbour-near.ensures), c.requires.3)
+
 pub returns : goal.returns
 returns c = record {
-  state = push_some _ _ _ _ _ _ _ _ c.reg-mark.ensures c.reg-word.ensures c.if-mark-word-eq0.false _ _ _ c.neighbour-near.ensures refl
+  state = push_some _ _ _ _ _ _ _ _ c.row_reg-mark.ensures c.row_reg-word.ensures c.if-mark-word-eq0.false _ _ _ c.neighbour-near.ensures refl
       c.put_link.ensures;
   live = beside_one _ _ _ _ _ _ _ (near_few (node_of c.args.grid c.requires.0) _ c.neighbour-near.ensures) (omega arith) c.only.ensures
       c.put_link.ensures;

@@ -3,10 +3,11 @@
 use Prim.Native.Nat.{ℕ}
 use mathlib.Core.Path.{◌≡◌, ◌∙◌, ap}
 use native.Mathlib.Omega.{arith}
+use lib.ListN.{length}
 use Rattle.torus.proofs.GridLaws.{node_of}
 use Rattle.torus.proofs.NeighbourLaws.{bounds}
 use Rattle.links.specs.Inner.Linking.{pushed_sides}
-use Rattle.links.proofs.LinkLaws.{pushed_none, pushed_start, pushed_on, row_small}
+use Rattle.links.proofs.LinkLaws.{pushed_none, pushed_length, pushed_start, pushed_on, row_small}
 use Rattle.links.proofs.BesideLaws.{beside_none, beside_more}
 use Rattle.links.proofs.push_sides.Goals as goal
 
@@ -20,7 +21,7 @@ pub loop-side-init : goal.loop-side-init
 loop-side-init c = (pushed_start _ _ _ _ _, beside_none _ _)
 
 pub push_side-live-requires : goal.push_side-live-requires
-push_side-live-requires c = (c.requires.0, omega arith, omega (arith, c.side_row.ensures, row_small c.args.vertical c.loop-side.side c.requires.1))
+push_side-live-requires c = (c.requires.0, omega arith, omega (arith, c.side_row.ensures, row_small c.args.vertical c.loop-side.side c.requires.1), omega (arith, c.requires.2, ap length c.loop-side.invariant.0, pushed_length c.loop-side.side c.args.s.now c.args.grid.cols c.args.grid.rows c.args.node c.args.vertical))
 
 pub loop-side-preserved : goal.loop-side-preserved
 loop-side-preserved c = (

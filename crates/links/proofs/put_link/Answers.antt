@@ -3,4 +3,4 @@ use Rattle.links.proofs.LinkLaws.{link_is}
 use Rattle.links.proofs.put_link.Goals as goal
 
 pub returns : goal.returns
-returns c = link_is _ _ _ _ _ _ c.put_reg.ensures c.put_reg-2.ensures
+returns c = link_is _ _ _ _ _ _ c.put_row_reg.ensures c.put_row_reg-2.ensures

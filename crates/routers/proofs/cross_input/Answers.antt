@@ -8,26 +8,26 @@ use Rattle.routers.proofs.cross_input.Goals as goal
 
 pub returns-then-mark-eq0 : goal.returns-then-mark-eq0
 returns-then-mark-eq0 c =
-    crossed_none _ _ _ _ c.requires.1 c.requires.2 (no_payload _ _ _ c.reg-mark.ensures (omega arith))
-    (asks_empty _ _ _ c.reg-mark.ensures (omega arith))
+    crossed_none _ _ _ _ c.requires.2 c.requires.3 (no_payload _ _ _ c.row_reg-mark.ensures (omega arith))
+    (asks_empty _ _ _ c.row_reg-mark.ensures (omega arith))
 
 pub returns-then-choice-eq0 : goal.returns-then-choice-eq0
 unfolding ◌≤?◌
 returns-then-choice-eq0 c =
-    crossed_choiceless _ _ _ _ c.requires.1 c.requires.2 _ c.reg-mark.ensures _ c.reg-choice.ensures c.if-choice-eq0.true _ c.from.ensures
+    crossed_choiceless _ _ _ _ c.requires.2 c.requires.3 _ c.row_reg-mark.ensures _ c.row_reg-choice.ensures c.if-choice-eq0.true _ c.from.ensures
 
 pub returns-then-choice-gt-OUTPUTS : goal.returns-then-choice-gt-OUTPUTS
 returns-then-choice-gt-OUTPUTS c =
-    crossed_none _ _ _ _ c.requires.1 c.requires.2 (chosen _ _ _ c.reg-choice.ensures (omega arith))
-    (asks_past _ _ _ c.reg-choice.ensures (omega arith))
+    crossed_none _ _ _ _ c.requires.2 c.requires.3 (chosen _ _ _ c.row_reg-choice.ensures (omega arith))
+    (asks_past _ _ _ c.row_reg-choice.ensures (omega arith))
 
-pub returns-then-get-ne0 : goal.returns-then-get-ne0
-returns-then-get-ne0 c =
-    crossed_hit _ _ _ _ c.requires.1 c.requires.2 _ c.reg-mark.ensures c.if-mark-eq0.false _ c.reg-choice.ensures
-    (omega arith) (omega arith) c.requires.0 _ refl _ c.get.ensures c.if-get-ne0.true
+pub returns-then-marks-place-ne0 : goal.returns-then-marks-place-ne0
+returns-then-marks-place-ne0 c =
+    crossed_hit _ _ _ _ c.requires.2 c.requires.3 _ c.row_reg-mark.ensures c.if-mark-eq0.false _ c.row_reg-choice.ensures
+    (omega arith) (omega arith) c.requires.0 _ refl _ refl c.if-marks-place-ne0.true
 
 pub returns : goal.returns
 returns c =
-    crossed_first _ _ _ _ c.requires.1 c.requires.2 _ c.reg-mark.ensures c.if-mark-eq0.false _
-    c.reg-choice.ensures (omega arith) (omega arith) c.requires.0 _ refl _ c.get.ensures (omega arith) _
-    c.reg.ensures _ _ c.put.ensures c.put-2.ensures
+    crossed_first _ _ _ _ c.requires.2 c.requires.3 _ c.row_reg-mark.ensures c.if-mark-eq0.false _
+    c.row_reg-choice.ensures (omega arith) (omega arith) c.requires.0 _ refl _ refl (omega arith) _
+    c.row_reg.ensures _ _ refl refl

@@ -6,5 +6,5 @@ use Rattle.routers.proofs.step_head.Goals as goal
 
 pub returns : goal.returns
 returns c =
-    head_empty _ _ _ _ c.reg-mark.ensures (omega arith) c.reg-word.ensures _ _ _ c.put_reg.ensures
-    c.put_reg-2.ensures c.put_reg-3.ensures
+    head_empty _ _ _ _ c.row_reg-mark.ensures (omega arith) c.row_reg-word.ensures _ _ _ c.put_row_reg.ensures
+    c.put_row_reg-2.ensures c.put_row_reg-3.ensures
