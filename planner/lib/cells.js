@@ -83,6 +83,8 @@ function rowsOf(plain, separator, withComments) {
   let cell = '';
   let blank = true;
   let open = null;
+  // Empty rows are put once a row with something comes behind them: a file may end with a million of them.
+  let empty = 0;
   const add = (character) => {
     cell += character;
     if (blank) blank = character.trim() === '';
@@ -96,18 +98,23 @@ function rowsOf(plain, separator, withComments) {
     clear();
   };
   const endRow = () => {
+    if (row.length === 0 && cell === '') {
+      empty++;
+      return;
+    }
+    for (; empty > 0; empty--) rows.push(['']);
     endCell();
     rows.push(row);
     row = [];
   };
-  for (let at = 0; at < plain.length && rows.length < MOST_LINES; at++) {
+  for (let at = 0; at < plain.length && rows.length + empty < MOST_LINES; at++) {
     const character = plain[at];
     if (open) {
       if (character !== '"') add(character);
       else if (plain[at + 1] === '"') add(plain[++at]);
       else open = null;
     } else if (character === '"' && blank) {
-      open = { row: rows.length, column: row.length };
+      open = { row: rows.length + empty, column: row.length };
       clear();
     } else if (character === separator) endCell();
     else if (character === '\n' || character === '\r') {
