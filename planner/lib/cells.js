@@ -137,7 +137,8 @@ function rowsOf(plain, separator, withComments) {
 
 function commentCells(line, separator) {
   const { rows, open } = rowsOf(line, separator, false);
-  return open ? line.split(separator) : rows[0];
+  // Line ends in quotes may stand before it, so many that nothing is read of what is behind them.
+  return open ? line.split(separator) : (rows[0] ?? ['']);
 }
 
 // A spreadsheet would reckon with a text that begins so; an apostrophe in front keeps it a text, and is taken off again when it is read.

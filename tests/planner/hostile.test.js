@@ -155,6 +155,7 @@ test('hostile shapes of tables', () => {
     'names that differ in capitals': [HEAD + names + 'slot;m;NAME OF A CIRCUIT 1;0;2;E\n'.repeat(4000), null],
     'names that are there twice': [HEAD + 'mode;m;9\n'.repeat(9000), null],
     'separators alone': [';'.repeat(1000000), ['A1']],
+    'line ends in quotes before a comment': ['"' + '\n'.repeat(1048576) + '"#x', ['A1']],
     'a quote as the separator': ['sep="\nnetwork"2"2"8\n', []],
   };
   for (const [name, [text, expected]] of Object.entries(shapes)) {
