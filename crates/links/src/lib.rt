@@ -15,7 +15,7 @@ ghost use Rattle.links.specs.Inner.Linking.{linked, pushed_by, KeptBeside, sourc
 use network::{LINK_MARKS, LINK_WORDS, MOST_NODES, ROW_WORDS, put_reg, put_row_reg, reg, row_reg};
 use torus::Grid;
 
-// No sheet has more nodes than the largest grid, and no state has fewer words than its rows; the stages return at once where that were not so,
+// No sheet has more nodes than the largest grid, and no state has fewer words than its rows; the stages return at once where that is not so,
 // so that a compiler can know every place to be in its row, and every row in the state, and leave out the test at each access that is not by
 // a proved index.
 

@@ -155,8 +155,8 @@ pub fn put_reg(s: &mut [u32], row: u32, k: u32, word: u32)
     words::put(s, (row as usize) * ROW_WORDS + (k as usize), word);
 }
 
-// Register k of a row by a proved index, so that nothing is tested on the way: for what a stage reads at each node in every cycle. Whoever has
-// a state's rows, and a place in one, meets the requires, here and below.
+// Register k of a row by a proved index, so that nothing is tested on the way: for what links and routers read at each node that a busy cycle
+// goes to. Whoever has a state's rows, and a place in one, meets the requires, here and below.
 pub fn row_reg(s: &[u32], row: u32, k: u32) -> u32
     requires { (row < row_count) × (k < row_words) × (moving_words ≤ length s.now) }
     ensures { result ≡ reg_of s.now row k }

@@ -17,7 +17,7 @@ ghost use Rattle.routers.specs.Inner.Stepping.{head_stepped, heads_stepped};
 use network::{HEAD_MARKS, MOST_NODES, ROW_WORDS, put_reg, put_row_reg, reg, row_reg};
 
 // No sheet has more nodes than the largest grid, nor more places than a row has words, and no state has fewer words than its rows; the stages
-// return at once where that were not so, so that a compiler can know every place to be in its row, and every row in the state, and leave out
+// return at once where that is not so, so that a compiler can know every place to be in its row, and every row in the state, and leave out
 // the test at each access that is not by a proved index.
 
 // Marks from this one on are those of payload words.
@@ -153,7 +153,7 @@ fn next_choice(s: &[u32], k: u32) -> u32
     }
 }
 
-// The header stage of input k for a word that is there. step_head has read its mark, and hands on what it requires itself.
+// The header stage of input k for a word that is there. step_head, which has read its mark and requires the rest itself, meets the requires.
 fn step_head_word(s: &mut [u32], k: u32, mark: u32)
     requires { (mark ≡ reg_of s.old link_mark k) × (k < row_words) × (moving_words ≤ length s.old) }
     ensures { s.new ≡ head_stepped s.old k }
