@@ -127,10 +127,10 @@ pushed_none s cols count node vertical g = go 4 (omega arith)
         push_idle s cols count node n (side_row vertical n) (sides_each s node vertical g n (omega arith))
         ∙ ap (λ (x : List ℕ). pushed_by x cols count node n (side_row vertical n)) (go n (omega arith))
 
--- the state stays as long as it is
-pushed_long : (s : List ℕ) (cols count node side row : ℕ) → length (pushed_by s cols count node side row) ≡ length s
+-- a link that is pushed, or none, leaves the state as long as it is
+pushed_by_length : (s : List ℕ) (cols count node side row : ℕ) → length (pushed_by s cols count node side row) ≡ length s
 unfolding pushed_by linked
-pushed_long s cols count node side row = go (bit_or (reg s row (at node side)) (reg s (row + 1) (at node side)) =? 0)
+pushed_by_length s cols count node side row = go (bit_or (reg s row (at node side)) (reg s (row + 1) (at node side)) =? 0)
   where
     k : ℕ
     k = place_by cols count node side
@@ -149,7 +149,7 @@ pub pushed_length : (n : ℕ) (s : List ℕ) (cols count node vertical : ℕ) �
 unfolding pushed_sides
 pushed_length zero s cols count node vertical = refl
 pushed_length (suc n) s cols count node vertical =
-    pushed_long (pushed_sides n s cols count node vertical) cols count node n (side_row vertical n) ∙ pushed_length n s cols count node vertical
+    pushed_by_length (pushed_sides n s cols count node vertical) cols count node n (side_row vertical n) ∙ pushed_length n s cols count node vertical
 
 -- one link more
 module _ (s : List ℕ) (cols count node vertical : ℕ) where

@@ -21,7 +21,14 @@ pub loop-side-init : goal.loop-side-init
 loop-side-init c = (pushed_start _ _ _ _ _, beside_none _ _)
 
 pub push_side-live-requires : goal.push_side-live-requires
-push_side-live-requires c = (c.requires.0, omega arith, omega (arith, c.side_row.ensures, row_small c.args.vertical c.loop-side.side c.requires.1), omega (arith, c.requires.2, ap length c.loop-side.invariant.0, pushed_length c.loop-side.side c.args.s.now c.args.grid.cols c.args.grid.rows c.args.node c.args.vertical))
+push_side-live-requires c =
+    let a = c.args in
+    let long = pushed_length c.loop-side.side a.s.now a.grid.cols a.grid.rows a.node a.vertical in (
+      c.requires.0,
+      omega arith,
+      omega (arith, c.side_row.ensures, row_small a.vertical c.loop-side.side c.requires.1),
+      omega (arith, c.requires.2, ap length c.loop-side.invariant.0, long),
+    )
 
 pub loop-side-preserved : goal.loop-side-preserved
 loop-side-preserved c = (

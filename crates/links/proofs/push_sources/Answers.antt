@@ -8,7 +8,8 @@ use Rattle.links.proofs.push_sources.Goals as goal
 pub put_link-requires : goal.put_link-requires
 put_link-requires c =
     let g = c.loop-node.invariant in
-    (omega (arith, sources_inside _ _ _ _ _ c.requires.0 c.requires.1 c.requires.2 _ _ g c.next.new.self _ c.in-Some.ensures.steps), omega (arith, g.so_far.same_length, c.requires.1))
+    let few = sources_inside _ _ _ _ _ c.requires.0 c.requires.1 c.requires.2 _ _ g c.next.new.self _ c.in-Some.ensures.steps in
+    (omega (arith, few), omega (arith, g.so_far.same_length, c.requires.1))
 
 pub loop-node-preserved : goal.loop-node-preserved
 loop-node-preserved c =
